@@ -160,12 +160,17 @@ fn two_verbs(alloc: Global, last: (u8, u8, u8)) -> Result<GameParts, AllocError>
 #[test]
 fn entries_of_one_verb_count_unless_it_may_change(rt: HostRuntime) -> Result<(), Fail> {
     let alloc = rt.alloc();
-    let kept = line_shown(alloc, two_verbs(alloc, (RAMLOAD, 32, 0))?)?;
-    assert_eq!(rt; kept.as_str(), "BOUND levels 0 condacts 387 text 261\n");
-    let changed = line_shown(alloc, two_verbs(alloc, (RAMLOAD, 33, 0))?)?;
-    assert_eq!(rt; changed.as_str(), "BOUND levels 0 condacts 645 text 261\n");
-    let by_flag = line_shown(alloc, two_verbs(alloc, (INDIRECT + LET, 100, 0))?)?;
-    assert_eq!(rt; by_flag.as_str(), "BOUND levels 0 condacts 645 text 261\n");
+    for (last, shown) in [
+        ((RAMLOAD, 32, 0), "BOUND levels 0 condacts 387 text 261\n"),
+        ((RAMLOAD, 33, 0), "BOUND levels 0 condacts 645 text 261\n"),
+        (
+            (INDIRECT + LET, 100, 0),
+            "BOUND levels 0 condacts 645 text 261\n",
+        ),
+    ] {
+        let line = line_shown(alloc, two_verbs(alloc, last)?)?;
+        assert_eq!(rt; line.as_str(), shown);
+    }
     Ok(())
 }
 
@@ -191,57 +196,57 @@ fn loops_take_each_object(rt: HostRuntime) -> Result<(), Fail> {
     Ok(())
 }
 
-// A game of two locations, in which one may look, sing and go.
-fn of_two_locations(alloc: Global) -> Result<GameParts, AllocError> {
-    let mut parts = smallest(alloc)?;
-    parts.words = vec![in alloc;
-        Word::new(*b"LOOK ", 30, VERB_CLASS),
-        Word::new(*b"N    ", 2, NOUN_CLASS),
-        Word::new(*b"S    ", 3, NOUN_CLASS),
-        Word::new(*b"SING ", 31, VERB_CLASS),
-    ]?;
-    for text in [
-        b"".as_slice(),
-        b"",
-        b">",
-        b"",
-        b"",
-        b"",
-        b"What?",
-        b"No way.",
-        b"No.",
-    ] {
-        parts.system.push(Text::from_slice(alloc, text)?)?;
+/// The system messages of a game of two locations.
+static SYSTEM: [&[u8]; 9] = [b"", b"", b">", b"", b"", b"", b"What?", b"No way.", b"No."];
+
+// These texts.
+fn texts(alloc: Global, bytes: &[&[u8]]) -> Result<Vec<Text>, AllocError> {
+    let mut texts = Vec::new(alloc);
+    for text in bytes {
+        texts.push(Text::from_slice(alloc, text)?)?;
     }
-    parts.messages.push(Text::from_slice(alloc, b"La la.\n")?)?;
-    parts.locations = vec![in alloc;
-        Text::from_slice(alloc, b"Hall.")?,
-        Text::from_slice(alloc, b"Yard.")?,
-    ]?;
+    Ok(texts)
+}
+
+// A way from each of two locations to the other.
+fn ways(alloc: Global) -> Result<Vec<Exits>, AllocError> {
     let north = Exits::from_slice(alloc, &[Exit { verb: 2, to: 1 }])?;
     let south = Exits::from_slice(alloc, &[Exit { verb: 3, to: 0 }])?;
-    parts.exits = vec![in alloc; north, south]?;
-    let look = Entry::from_codes(alloc, 30, NO_WORD, &[(DESC, 0, 0)])?;
-    let sing = Entry::from_codes(
-        alloc,
-        31,
-        NO_WORD,
-        &[(NOTAT, 1, 0), (MES, 0, 0), (DONE, 0, 0)],
-    )?;
-    let fly = Entry::from_codes(
-        alloc,
-        31,
-        NO_WORD,
-        &[(AT, 1, 0), (GOTO, 0, 0), (DESC, 0, 0)],
-    )?;
-    parts.tables = vec![in alloc;
-        Table {
-            rows: vec![in alloc; look, sing, fly]?
-        },
-        Table::new(alloc),
-        Table::new(alloc),
-    ]?;
-    Ok(parts)
+    Ok(vec![in alloc; north, south]?)
+}
+
+/// The verbs of the entries of a table in which one may look, sing and go, and their condacts.
+static ENTRIES: [(u8, &[(u8, u8, u8)]); 3] = [
+    (30, &[(DESC, 0, 0)]),
+    (31, &[(NOTAT, 1, 0), (MES, 0, 0), (DONE, 0, 0)]),
+    (31, &[(AT, 1, 0), (GOTO, 0, 0), (DESC, 0, 0)]),
+];
+
+// That table, and two without an entry.
+fn tables(alloc: Global) -> Result<Vec<Table>, AllocError> {
+    let mut rows = Vec::new(alloc);
+    for &(verb, codes) in &ENTRIES {
+        rows.push(Entry::from_codes(alloc, verb, NO_WORD, codes)?)?;
+    }
+    Ok(vec![in alloc; Table { rows }, Table::new(alloc), Table::new(alloc)]?)
+}
+
+// A game of two locations, in which one may look, sing and go.
+fn of_two_locations(alloc: Global) -> Result<GameParts, AllocError> {
+    Ok(GameParts {
+        words: vec![in alloc;
+            Word::new(*b"LOOK ", 30, VERB_CLASS),
+            Word::new(*b"N    ", 2, NOUN_CLASS),
+            Word::new(*b"S    ", 3, NOUN_CLASS),
+            Word::new(*b"SING ", 31, VERB_CLASS),
+        ]?,
+        system: texts(alloc, &SYSTEM)?,
+        messages: texts(alloc, &[b"La la.\n"])?,
+        objects: Vec::new(alloc),
+        locations: texts(alloc, &[b"Hall.", b"Yard."])?,
+        exits: ways(alloc)?,
+        tables: tables(alloc)?,
+    })
 }
 
 #[test]

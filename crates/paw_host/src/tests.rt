@@ -96,129 +96,145 @@ fn shows(
     Ok(())
 }
 
+/// Lines of two players, and their replies; and what comes once they are there.
+static FIRST_LINES: [&[u8]; 4] = [b"ann GET LAMP", b"bob", b"bob LOOK", b"ann I"];
+
+static FIRST_REPLIES: [(&str, &str); 4] = [
+    (
+        "ann",
+        "A hall.\nI can also see:\nlamp\nsword\nbag\nWhat now?\n> I take the lamp.\nWhat now?\n> ",
+    ),
+    ("bob", FIRST),
+    ("bob", FIRST),
+    ("ann", HAS),
+];
+
+static LATER_LINES: [&[u8]; 5] = [b"ann DEEP", b"ann WAIT", b"Ann X", b"bob", b"ann"];
+
+static LATER_REPLIES: [(&str, &str); 5] = [
+    ("ann", "too deep"),
+    ("ann", "OK.\nWhat now?\n> "),
+    ("", "bad line"),
+    ("bob", FIRST),
+    ("ann", "OK.\nWhat now?\n> "),
+];
+
 #[test]
 fn each_player_plays_as_if_alone(rt: HostRuntime) -> Result<(), Fail> {
     let alloc = rt.alloc();
     let mut stage = stage_of(alloc, &[])?;
-    let mut both = String::from_str(alloc, FIRST)?;
-    both.push_str(TAKES)?;
-    shows(
-        &rt,
-        alloc,
-        &mut stage,
-        &[b"ann GET LAMP", b"bob", b"bob LOOK", b"ann I"],
-        &[
-            ("ann", both.as_str()),
-            ("bob", FIRST),
-            ("bob", FIRST),
-            ("ann", HAS),
-        ],
-    )?;
-    shows(
-        &rt,
-        alloc,
-        &mut stage,
-        &[b"ann DEEP", b"ann WAIT", b"Ann X", b"bob", b"ann"],
-        &[
-            ("ann", "too deep"),
-            ("ann", "OK.\nWhat now?\n> "),
-            ("", "bad line"),
-            ("bob", FIRST),
-            ("ann", "OK.\nWhat now?\n> "),
-        ],
-    )
+    shows(&rt, alloc, &mut stage, &FIRST_LINES, &FIRST_REPLIES)?;
+    shows(&rt, alloc, &mut stage, &LATER_LINES, &LATER_REPLIES)
 }
+
+/// The lines of a player whose session ends, and their replies.
+static LAST_LINES: [&[u8]; 6] = [
+    b"ann",
+    b"ann QUIT",
+    b"ann y",
+    b"ann no",
+    b"ann LOOK",
+    b"ann",
+];
+
+static LAST_REPLIES: [(&str, &str); 6] = [
+    ("ann", FIRST),
+    ("ann", "Are you sure? "),
+    ("ann", "Another go? "),
+    ("ann", "Goodbye.\n"),
+    ("ann", "over"),
+    ("ann", "Goodbye.\n"),
+];
 
 #[test]
 fn a_session_that_is_over_takes_no_text(rt: HostRuntime) -> Result<(), Fail> {
     let alloc = rt.alloc();
     let mut stage = stage_of(alloc, &[])?;
-    shows(
-        &rt,
-        alloc,
-        &mut stage,
-        &[
-            b"ann",
-            b"ann QUIT",
-            b"ann y",
-            b"ann no",
-            b"ann LOOK",
-            b"ann",
-        ],
-        &[
-            ("ann", FIRST),
-            ("ann", "Are you sure? "),
-            ("ann", "Another go? "),
-            ("ann", "Goodbye.\n"),
-            ("ann", "over"),
-            ("ann", "Goodbye.\n"),
-        ],
-    )
+    shows(&rt, alloc, &mut stage, &LAST_LINES, &LAST_REPLIES)
+}
+
+/// Lines of another form than a name, and a text after a space.
+static OF_ANOTHER_FORM: [&[u8]; 12] = [
+    b"",
+    b" ",
+    b" ann",
+    b"Ann",
+    b"an.n",
+    b"../ann",
+    b"ann/x LOOK",
+    b"abcdefghijklmnopq",
+    b"abcdefghijklmnopq LOOK",
+    b"ann\x00 LOOK",
+    b"\xc3\xa4nn",
+    &[b'a'; 300],
+];
+
+// Checks that a line is called bad, and attaches nothing.
+fn is_bad(rt: &impl Abort, alloc: Global, line: &[u8]) -> Result<(), Fail> {
+    let mut stage = stage_of(alloc, &[line])?;
+    assert_eq!(rt; run(rt, alloc, &mut stage)?, HostOutcome::InputEnded);
+    assert_eq!(rt; stage.shown(), b"[]\nbad line\n".as_slice());
+    // The sync before, the load, the line, the show, and the end: no store.
+    assert_eq!(rt; stage.calls(), 5);
+    Ok(())
 }
 
 #[test]
 fn lines_of_another_form_attach_nothing(rt: HostRuntime) -> Result<(), Fail> {
-    let alloc = rt.alloc();
-    let long = [b'a'; 300];
-    let lines: [&[u8]; 12] = [
-        b"",
-        b" ",
-        b" ann",
-        b"Ann",
-        b"an.n",
-        b"../ann",
-        b"ann/x LOOK",
-        b"abcdefghijklmnopq",
-        b"abcdefghijklmnopq LOOK",
-        b"ann\x00 LOOK",
-        b"\xc3\xa4nn",
-        &long,
-    ];
-    for line in lines {
-        let mut stage = stage_of(alloc, &[line])?;
-        assert_eq!(rt; run(&rt, alloc, &mut stage)?, HostOutcome::InputEnded);
-        assert_eq!(rt; stage.shown(), b"[]\nbad line\n".as_slice());
-        // The sync before, the load, the line, the show, and the end: no store.
-        assert_eq!(rt; stage.calls(), 5);
+    for &line in &OF_ANOTHER_FORM {
+        is_bad(&rt, rt.alloc(), line)?;
     }
     Ok(())
 }
+
+/// Lines of players whose names are as long and as short as may be, and their replies.
+static NAMED_LINES: [&[u8]; 3] = [b"abcdefghijklmno0 ", b"abcdefghijklmno0", b"9  LOOK"];
+
+static NAMED_REPLIES: [(&str, &str); 3] = [
+    (
+        "abcdefghijklmno0",
+        "A hall.\nI can also see:\nlamp\nsword\nbag\nWhat now?\n> What now?\n> ",
+    ),
+    ("abcdefghijklmno0", "What now?\n> "),
+    (
+        "9",
+        "A hall.\nI can also see:\nlamp\nsword\nbag\nWhat now?\n> A hall.\nI can also see:\nlamp\nsword\nbag\nWhat now?\n> ",
+    ),
+];
 
 #[test]
 fn names_and_texts_are_parted_at_the_first_space(rt: HostRuntime) -> Result<(), Fail> {
     let alloc = rt.alloc();
     let mut stage = stage_of(alloc, &[])?;
-    let mut twice = String::from_str(alloc, FIRST)?;
-    twice.push_str("What now?\n> ")?;
-    shows(
-        &rt,
-        alloc,
-        &mut stage,
-        &[b"abcdefghijklmno0 ", b"abcdefghijklmno0", b"9  LOOK"],
-        &[
-            ("abcdefghijklmno0", twice.as_str()),
-            ("abcdefghijklmno0", "What now?\n> "),
-            (
-                "9",
-                "A hall.\nI can also see:\nlamp\nsword\nbag\nWhat now?\n> A hall.\nI can also see:\nlamp\nsword\nbag\nWhat now?\n> ",
-            ),
-        ],
-    )
+    shows(&rt, alloc, &mut stage, &NAMED_LINES, &NAMED_REPLIES)
+}
+
+/// The lines of a player whose store is refused.
+static EVE: [&[u8]; 2] = [b"eve", b"eve LOOK"];
+
+// Checks that her store has these bytes, and that none was written.
+fn is_kept(
+    rt: &impl Abort,
+    alloc: Global,
+    stage: &mut MemoryStage,
+    bytes: &[u8],
+) -> Result<(), Fail> {
+    assert_eq!(rt; stage.written(), 0);
+    let left = stage.load(alloc, "eve.paw", MOST)?;
+    assert_eq!(rt; left.as_slice(), bytes);
+    Ok(())
 }
 
 // Checks that a store with these bytes is refused, and keeps them.
 fn refuses(rt: &impl Abort, alloc: Global, bytes: &[u8]) -> Result<(), Fail> {
-    let mut stage = stage_of(alloc, &[b"eve", b"eve LOOK"])?;
+    let mut stage = stage_of(alloc, &EVE)?;
     stage.add_file("eve.paw", bytes)?;
     assert_eq!(rt; run(rt, alloc, &mut stage)?, HostOutcome::InputEnded);
     assert_eq!(rt;
         stage.shown(),
         b"[eve]\nrefused\n[eve]\nrefused\n".as_slice()
     );
-    assert_eq!(rt; stage.written(), 0);
-    let left = stage.load(alloc, "eve.paw", MOST)?;
-    assert_eq!(rt; left.as_slice(), bytes);
-    Ok(())
+    is_kept(rt, alloc, &mut stage, bytes)
 }
 
 // The session of a player after these lines.
@@ -244,6 +260,20 @@ fn with_byte(alloc: Global, bytes: &[u8], place: usize, byte: u8) -> Result<Vec<
     Ok(changed)
 }
 
+/// A byte of the mark, the version, the digests of the game and of the routines, and the place of an object.
+static SPOILT: [(usize, u8); 5] = [(0, 0), (2, 3), (32, 1), (64, 1), (448, 200)];
+
+// Checks that a session with another byte at a place is refused.
+fn refuses_with(
+    rt: &impl Abort,
+    alloc: Global,
+    good: &[u8],
+    (place, byte): (usize, u8),
+) -> Result<(), Fail> {
+    let bad = with_byte(alloc, good, place, byte)?;
+    refuses(rt, alloc, bad.as_slice())
+}
+
 #[test]
 fn stores_that_give_no_session_are_refused(rt: HostRuntime) -> Result<(), Fail> {
     let alloc = rt.alloc();
@@ -251,50 +281,64 @@ fn stores_that_give_no_session_are_refused(rt: HostRuntime) -> Result<(), Fail> 
     let other = session_after(&rt, alloc, "other", &[b"ann"])?;
     refuses(&rt, alloc, other.as_slice())?;
     let good = session_after(&rt, alloc, "hall", &[b"ann"])?;
-    // The mark, the version, the digests of the game and of the routines, the place of an object.
-    for (place, byte) in [(0usize, 0u8), (2, 3), (32, 1), (64, 1), (448, 200)] {
-        let bad = with_byte(alloc, good.as_slice(), place, byte)?;
-        refuses(&rt, alloc, bad.as_slice())?;
+    for &spoilt in &SPOILT {
+        refuses_with(&rt, alloc, good.as_slice(), spoilt)?;
     }
-    // What stands in the slot that isn't in use is no fault.
+    Ok(())
+}
+
+#[test]
+fn the_slot_that_is_not_in_use_may_hold_anything(rt: HostRuntime) -> Result<(), Fail> {
+    let alloc = rt.alloc();
+    let good = session_after(&rt, alloc, "hall", &[b"ann"])?;
     let spoilt = with_byte(alloc, good.as_slice(), 86_528, 200)?;
     let body = answer_of(&rt, alloc, spoilt.as_slice())?;
     assert_eq!(rt; body.as_slice(), FIRST.as_bytes());
     Ok(())
 }
 
+/// The words of a host, its outcome, and its status.
+static FORMS: [(&[&str], HostOutcome, u8); 9] = [
+    (&[], HostOutcome::Usage, 1),
+    (&["hall"], HostOutcome::Usage, 1),
+    (&["", "7"], HostOutcome::Usage, 1),
+    (&["hall", "x"], HostOutcome::Usage, 1),
+    (&["hall", "+7"], HostOutcome::Usage, 1),
+    (&["hall", "18446744073709551616"], HostOutcome::Usage, 1),
+    (&["hall", "7", "8"], HostOutcome::Usage, 1),
+    (
+        &["none", "7"],
+        HostOutcome::Outside(StageCall::LoadAbsent),
+        7,
+    ),
+    (&["ann.paw", "7"], HostOutcome::ImageDamaged { at: 0 }, 3),
+];
+
+// Checks how hosting with these words ends, and that it shows nothing.
+fn ends_by(
+    rt: &impl Abort,
+    alloc: Global,
+    (words, wanted, status): (&[&str], HostOutcome, u8),
+) -> Result<(), Fail> {
+    let mut stage = stage_of(alloc, &[b"ann"])?;
+    stage.add_file("ann.paw", b"x")?;
+    settle(rt, &mut stage);
+    let outcome = host_words(alloc, &mut stage, words)?;
+    assert_eq!(rt; (outcome, outcome.status()), (wanted, status));
+    assert!(rt; stage.shown().is_empty());
+    Ok(())
+}
+
 #[test]
 fn words_and_images(rt: HostRuntime) -> Result<(), Fail> {
-    let alloc = rt.alloc();
-    let forms: [(&[&str], HostOutcome, u8); 9] = [
-        (&[], HostOutcome::Usage, 1),
-        (&["hall"], HostOutcome::Usage, 1),
-        (&["", "7"], HostOutcome::Usage, 1),
-        (&["hall", "x"], HostOutcome::Usage, 1),
-        (&["hall", "+7"], HostOutcome::Usage, 1),
-        (&["hall", "18446744073709551616"], HostOutcome::Usage, 1),
-        (&["hall", "7", "8"], HostOutcome::Usage, 1),
-        (
-            &["none", "7"],
-            HostOutcome::Outside(StageCall::LoadAbsent),
-            7,
-        ),
-        (&["ann.paw", "7"], HostOutcome::ImageDamaged { at: 0 }, 3),
-    ];
-    for (words, wanted, status) in forms {
-        let mut stage = stage_of(alloc, &[b"ann"])?;
-        stage.add_file("ann.paw", b"x")?;
-        settle(&rt, &mut stage);
-        let outcome = host_words(alloc, &mut stage, words)?;
-        assert_eq!(rt; outcome, wanted);
-        assert_eq!(rt; outcome.status(), status);
-        assert!(rt; stage.shown().is_empty());
+    for &form in &FORMS {
+        ends_by(&rt, rt.alloc(), form)?;
     }
     Ok(())
 }
 
 /// The lines of two players, between which calls stop; what each is answered once they are all taken.
-const LINES: [&[u8]; 4] = [b"ann GET LAMP", b"bob", b"ann I", b"bob GET LAMP"];
+static LINES: [&[u8]; 4] = [b"ann GET LAMP", b"bob", b"ann I", b"bob GET LAMP"];
 
 // What a player may be answered after this number of these lines.
 fn pieces(name: &[u8], taken: usize) -> &'static str {
@@ -329,77 +373,123 @@ fn may_be(name: &[u8], taken: usize, body: &[u8]) -> bool {
         || body == b"refused".as_slice() && before.is_empty()
 }
 
+/// A call of a run over the lines of the two players: its number, whose store is attached then, and how many lines are
+/// taken.
+#[derive(Clone, Copy)]
+struct Behind<'a> {
+    call: u64,
+    name: &'a [u8],
+    taken: usize,
+}
+
+// Checks what a crash right after a call leaves, by each pick.
+fn crash_loses_no_turn(
+    rt: &impl Abort,
+    alloc: Global,
+    stage: &MemoryStage,
+    behind: Behind<'_>,
+) -> Result<(), Fail> {
+    for pick in 0..3u8 {
+        if let Some(left) = stage.crash_after(alloc, behind.call, pick)? {
+            let body = answer_of(rt, alloc, left.as_slice())?;
+            assert!(rt;
+                may_be(behind.name, behind.taken, body.as_slice()),
+                "{} {pick}",
+                behind.call
+            );
+        }
+    }
+    Ok(())
+}
+
+// Checks the calls of a run one after the other, and gives their number.
+fn crashes_lose_no_turn(rt: &impl Abort, alloc: Global, stage: &MemoryStage) -> Result<u64, Fail> {
+    let mut name = b"".as_slice();
+    let mut taken = 0usize;
+    let mut call = 0u64;
+    for number in 0..400 {
+        let Some((kind, named)) = stage.call(number) else {
+            return Ok(call);
+        };
+        if kind == CallKind::Add {
+            continue;
+        }
+        if kind == CallKind::Attach {
+            name = named;
+        }
+        // Between a line that is taken and its attach, the store of the line before it is attached.
+        let behind = Behind { call, name, taken };
+        crash_loses_no_turn(rt, alloc, stage, behind)?;
+        taken = taken.saturating_add(usize::from(kind == CallKind::Take));
+        call = call.saturating_add(1);
+    }
+    Ok(call)
+}
+
 #[test]
 fn a_crash_behind_any_call_loses_no_turn(rt: HostRuntime) -> Result<(), Fail> {
     let alloc = rt.alloc();
     let mut stage = stage_of(alloc, &LINES)?;
     assert_eq!(rt; run(&rt, alloc, &mut stage)?, HostOutcome::InputEnded);
-    let mut name = Vec::new(alloc);
-    let mut taken = 0usize;
-    let mut call = 0u64;
-    for number in 0..400 {
-        let Some((kind, named)) = stage.call(number) else {
-            break;
-        };
-        match kind {
-            CallKind::Add => continue,
-            CallKind::Take => taken = taken.saturating_add(1),
-            CallKind::Attach => name = named.to_vec(alloc)?,
-            _ => {}
-        }
-        for pick in 0..3u8 {
-            if let Some(left) = stage.crash_after(alloc, call, pick)? {
-                let body = answer_of(&rt, alloc, left.as_slice())?;
-                // Between a line that is taken and its attach, the store of the line before it is attached.
-                let line = if kind == CallKind::Take {
-                    taken - 1
-                } else {
-                    taken
-                };
-                assert!(rt;
-                    may_be(name.as_slice(), line, body.as_slice()),
-                    "{call} {pick}"
-                );
-            }
-        }
-        call = call.saturating_add(1);
-    }
-    assert_eq!(rt; stage.calls(), call);
+    let calls = crashes_lose_no_turn(&rt, alloc, &stage)?;
+    assert_eq!(rt; stage.calls(), calls);
     Ok(())
 }
 
-// A player's line of its own, over what a run left of the store, is answered as after these lines, or as after one
-// less.
+// How many replies begin in what was shown: each begins with a name in brackets, which ends a line.
+fn replies_in(shown: &[u8]) -> usize {
+    let mut replies = 0usize;
+    for pair in shown.windows(2) {
+        replies = replies.saturating_add(usize::from(pair == b"]\n".as_slice()));
+    }
+    replies
+}
+
+// A player's line of its own, over what a run with this number of replies left of the store, is answered as after as
+// many lines, or as after one more.
 fn left_over<S: Stage>(
     rt: &impl Abort,
     alloc: Global,
     stage: &mut S,
     name: &str,
-    shown: &[u8],
+    replies: usize,
 ) -> Result<(), Fail> {
-    let taken = LINES.len().min(
-        shown
-            .windows(2)
-            .filter(|pair| *pair == b"]\n".as_slice())
-            .count(),
-    );
+    let taken = LINES.len().min(replies);
     let left = match stage.load(alloc, name, MOST) {
         Ok(left) => left,
         Err(_) => Vec::new(alloc),
     };
     let body = answer_of(rt, alloc, left.as_slice())?;
     let fresh = left.is_empty() && body.as_slice() == FIRST.as_bytes();
+    let after = (taken + 1).min(LINES.len());
     assert!(rt;
         fresh
             || may_be(name.as_bytes(), taken, body.as_slice())
-            || may_be(
-                name.as_bytes(),
-                (taken + 1).min(LINES.len()),
-                body.as_slice()
-            ),
+            || may_be(name.as_bytes(), after, body.as_slice()),
         "{name} {taken}"
     );
     Ok(())
+}
+
+// Checks that a run that stops at a call has shown a part of what the whole one shows.
+fn call_stops(rt: &impl Abort, alloc: Global, number: u64, whole: &[u8]) -> Result<(), Fail> {
+    let mut stage = StopStage::new(stage_of(alloc, &LINES)?, number);
+    let outcome = run(rt, alloc, &mut stage)?;
+    assert!(rt; matches!(outcome, HostOutcome::Outside(_)));
+    assert!(rt; whole.starts_with(stage.inner().shown()));
+    Ok(())
+}
+
+// The same of a run in which this call alone fails; and each player goes on over what it leaves.
+fn call_fails(rt: &impl Abort, alloc: Global, number: u64, whole: &[u8]) -> Result<(), Fail> {
+    let mut stage = FailStage::new(stage_of(alloc, &LINES)?, [number].to_vec(alloc)?);
+    let outcome = run(rt, alloc, &mut stage)?;
+    assert!(rt; matches!(outcome, HostOutcome::Outside(_)));
+    let shown = stage.inner().shown();
+    assert!(rt; whole.starts_with(shown));
+    let replies = replies_in(shown);
+    left_over(rt, alloc, &mut stage, "ann.paw", replies)?;
+    left_over(rt, alloc, &mut stage, "bob.paw", replies)
 }
 
 #[test]
@@ -409,19 +499,8 @@ fn each_call_stops_and_fails_alone(rt: HostRuntime) -> Result<(), Fail> {
     assert_eq!(rt; run(&rt, alloc, &mut whole)?, HostOutcome::InputEnded);
     // The first call of all is the sync before, which may not fail.
     for number in 1..whole.calls() {
-        let mut stage = StopStage::new(stage_of(alloc, &LINES)?, number);
-        let outcome = run(&rt, alloc, &mut stage)?;
-        assert!(rt; matches!(outcome, HostOutcome::Outside(_)));
-        assert!(rt; whole.shown().starts_with(stage.inner().shown()));
-        let listed = [number].to_vec(alloc)?;
-        let mut stage = FailStage::new(stage_of(alloc, &LINES)?, listed);
-        let outcome = run(&rt, alloc, &mut stage)?;
-        assert!(rt; matches!(outcome, HostOutcome::Outside(_)));
-        let shown = stage.inner().shown().to_vec(alloc)?;
-        assert!(rt; whole.shown().starts_with(shown.as_slice()));
-        for name in ["ann.paw", "bob.paw"] {
-            left_over(&rt, alloc, &mut stage, name, shown.as_slice())?;
-        }
+        call_stops(&rt, alloc, number, whole.shown())?;
+        call_fails(&rt, alloc, number, whole.shown())?;
     }
     Ok(())
 }

@@ -107,94 +107,106 @@ fn words_of(s: &Sentence) -> [u8; 7] {
     ]
 }
 
+/// Lines, and the words of their first phrase.
+static FILLED: [(&[u8], [u8; 7]); 20] = [
+    // Small letters are read as capitals, and any byte but letters, digits and separators is a blank.
+    (b"wear\xffthe-lamp'", [32, 50, N, N, N, N, N]),
+    // Five letters decide which word it is, and digits are letters.
+    (b"REMOVALS LAMP", [33, 50, N, N, N, N, N]),
+    (b"WEAR LAMPS", [32, N, N, N, N, N, N]),
+    (b"WEAR2 LAMP", [30, 50, N, N, N, N, N]),
+    // A noun below 20 stands for a verb that is left out, and otherwise the earlier verb does.
+    (b"N", [2, 2, N, N, N, N, N]),
+    (b"WAIT NORTHWARDS", [38, 2, N, N, N, N, N]),
+    (b"ALL", [30, 20, N, N, N, N, N]),
+    (b"RED", [30, N, 2, N, N, N, N]),
+    // The first verb counts, and the first two nouns.
+    (b"DROP GET LAMP SWORD BAG", [31, 50, N, N, N, 51, N]),
+    (b"DROP ALL EXCEPT SWORD", [31, 20, N, N, 2, 51, N]),
+    // An adjective belongs to the noun after it, or to the second noun once the first is there.
+    (b"TAKE THE RED LAMP QUICKLY", [30, 50, 2, 2, N, N, N]),
+    (b"PUT LAMP RED IN BAG", [34, 50, N, N, 3, 52, 2]),
+    // A pronoun overwrites an adjective; after two nouns it is ignored.
+    (b"DROP IT", [31, 52, 7, N, N, N, N]),
+    (b"DROP RED IT IN BAG", [31, 52, 7, N, 3, 52, N]),
+    (b"PUT LAMP IN IT", [34, 50, N, N, 3, 52, 7]),
+    (b"PUT LAMP IN RED IT", [34, 50, N, N, 3, 52, 7]),
+    (b"PUT IT IN IT", [34, 52, 7, N, 3, 52, 7]),
+    (b"PUT LAMP SWORD IT", [34, 50, N, N, N, 51, N]),
+    // Unknown tokens are skipped.
+    (b"PLEASE WAIT AROUND HERE", [38, N, N, N, N, N, N]),
+    (b"IN", [30, N, N, N, 3, N, N]),
+];
+
 #[test]
 fn words_fill_a_sentence(rt: HostRuntime) -> Result<(), Fail> {
     let game = game(rt.alloc())?;
-    let cases: [(&[u8], [u8; 7]); 20] = [
-        // Small letters are read as capitals, and any byte but letters, digits and separators is a blank.
-        (b"wear\xffthe-lamp'", [32, 50, N, N, N, N, N]),
-        // Five letters decide which word it is, and digits are letters.
-        (b"REMOVALS LAMP", [33, 50, N, N, N, N, N]),
-        (b"WEAR LAMPS", [32, N, N, N, N, N, N]),
-        (b"WEAR2 LAMP", [30, 50, N, N, N, N, N]),
-        // A noun below 20 stands for a verb that is left out, and otherwise the earlier verb does.
-        (b"N", [2, 2, N, N, N, N, N]),
-        (b"WAIT NORTHWARDS", [38, 2, N, N, N, N, N]),
-        (b"ALL", [30, 20, N, N, N, N, N]),
-        (b"RED", [30, N, 2, N, N, N, N]),
-        // The first verb counts, and the first two nouns.
-        (b"DROP GET LAMP SWORD BAG", [31, 50, N, N, N, 51, N]),
-        (b"DROP ALL EXCEPT SWORD", [31, 20, N, N, 2, 51, N]),
-        // An adjective belongs to the noun after it, or to the second noun once the first is there.
-        (b"TAKE THE RED LAMP QUICKLY", [30, 50, 2, 2, N, N, N]),
-        (b"PUT LAMP RED IN BAG", [34, 50, N, N, 3, 52, 2]),
-        // A pronoun overwrites an adjective; after two nouns it is ignored.
-        (b"DROP IT", [31, 52, 7, N, N, N, N]),
-        (b"DROP RED IT IN BAG", [31, 52, 7, N, 3, 52, N]),
-        (b"PUT LAMP IN IT", [34, 50, N, N, 3, 52, 7]),
-        (b"PUT LAMP IN RED IT", [34, 50, N, N, 3, 52, 7]),
-        (b"PUT IT IN IT", [34, 52, 7, N, 3, 52, 7]),
-        (b"PUT LAMP SWORD IT", [34, 50, N, N, N, 51, N]),
-        // Unknown tokens are skipped.
-        (b"PLEASE WAIT AROUND HERE", [38, N, N, N, N, N, N]),
-        (b"IN", [30, N, N, N, 3, N, N]),
-    ];
-    for (line, words) in cases {
+    for &(line, words) in &FILLED {
         let (found, sentence, pending) = phrase_of(&rt, &game, line);
-        assert_eq!(rt; found, Found::Sentence, "{line:?}");
-        assert_eq!(rt; words_of(&sentence), words, "{line:?}");
-        assert!(rt; pending.bytes().is_empty(), "{line:?}");
-        assert_eq!(rt; pending.earlier(), sentence.verb, "{line:?}");
+        assert_eq!(rt;
+            (found, words_of(&sentence)),
+            (Found::Sentence, words),
+            "{line:?}"
+        );
+        assert!(rt; pending.bytes().is_empty() && pending.earlier() == sentence.verb);
     }
     Ok(())
 }
 
+/// Lines, and the noun and the adjective that a pronoun stands for after them.
+static NAMED: [(&[u8], [u8; 2]); 7] = [
+    (b"WAIT", [52, 7]),
+    (b"N", [52, 7]),
+    (b"GET ALL", [52, 7]),
+    (b"GET LAMP", [50, N]),
+    (b"GET RED LAMP", [50, 2]),
+    (b"GET LAMP RED SWORD", [50, N]),
+    (b"DROP IT", [52, 7]),
+];
+
 #[test]
 fn pronouns_stand_for_what_was_named(rt: HostRuntime) -> Result<(), Fail> {
     let game = game(rt.alloc())?;
-    let cases: [(&[u8], [u8; 2]); 7] = [
-        (b"WAIT", [52, 7]),
-        (b"N", [52, 7]),
-        (b"GET ALL", [52, 7]),
-        (b"GET LAMP", [50, N]),
-        (b"GET RED LAMP", [50, 2]),
-        (b"GET LAMP RED SWORD", [50, N]),
-        (b"DROP IT", [52, 7]),
-    ];
-    for (line, [noun, adjective]) in cases {
+    for &(line, [noun, adjective]) in &NAMED {
         let (_, sentence, _) = phrase_of(&rt, &game, line);
-        assert_eq!(rt; sentence.pronoun_noun, noun, "{line:?}");
-        assert_eq!(rt; sentence.pronoun_adjective, adjective, "{line:?}");
+        let named = (sentence.pronoun_noun, sentence.pronoun_adjective);
+        assert_eq!(rt; named, (noun, adjective), "{line:?}");
     }
-    // Where a pronoun stands for nothing it is ignored, and is still a known word.
+    Ok(())
+}
+
+// It is still a known word.
+#[test]
+fn a_pronoun_that_stands_for_nothing_is_ignored(rt: HostRuntime) -> Result<(), Fail> {
+    let game = game(rt.alloc())?;
     let mut pending = Pending::new();
     pending.set(b"DROP IT");
     let mut sentence = Sentence {
         pronoun_noun: N,
         ..BEFORE
     };
-    assert_eq!(rt;
-        next_phrase(&game, &mut pending, &mut sentence),
-        Found::Sentence
-    );
+    let found = next_phrase(&game, &mut pending, &mut sentence);
+    assert_eq!(rt; found, Found::Sentence);
     assert_eq!(rt; words_of(&sentence), [31, N, N, N, N, N, N]);
     Ok(())
 }
 
+/// Lines, and what of them stays pending after their first phrase.
+static PARTED: [(&[u8], &[u8]); 8] = [
+    (b"GET LAMP AND SWORD THEN DROP IT", b" SWORD THEN DROP IT"),
+    (b" SWORD THEN DROP IT", b" DROP IT"),
+    (b"TURNS, WAIT", b" WAIT"),
+    (b"GET LAMP AND, SWORD", b", SWORD"),
+    (b", SWORD", b""),
+    (b"GET \"LAMP\"", b"LAMP\""),
+    (b"AND THEN .,;:!?\" WAIT!", b""),
+    (b"WAIT. ", b" "),
+];
+
 #[test]
 fn separators_and_conjunctions_part_phrases(rt: HostRuntime) -> Result<(), Fail> {
     let game = game(rt.alloc())?;
-    let cases: [(&[u8], &[u8]); 8] = [
-        (b"GET LAMP AND SWORD THEN DROP IT", b" SWORD THEN DROP IT"),
-        (b" SWORD THEN DROP IT", b" DROP IT"),
-        (b"TURNS, WAIT", b" WAIT"),
-        (b"GET LAMP AND, SWORD", b", SWORD"),
-        (b", SWORD", b""),
-        (b"GET \"LAMP\"", b"LAMP\""),
-        (b"AND THEN .,;:!?\" WAIT!", b""),
-        (b"WAIT. ", b" "),
-    ];
-    for (line, rest) in cases {
+    for &(line, rest) in &PARTED {
         let (found, _, pending) = phrase_of(&rt, &game, line);
         assert_eq!(rt; found, Found::Sentence, "{line:?}");
         assert_eq!(rt; pending.bytes(), rest, "{line:?}");
@@ -202,25 +214,28 @@ fn separators_and_conjunctions_part_phrases(rt: HostRuntime) -> Result<(), Fail>
     Ok(())
 }
 
+/// Lines without a word that is known up to a separator, and what of them stays pending.
+static UNKNOWN: [(&[u8], &[u8]); 2] = [(b"XYZZY PLUGH; LOOK", b" LOOK"), (b"LAMPS", b"")];
+
+/// Lines without a token but separators and conjunctions.
+static EMPTY: [&[u8]; 4] = [b"", b"AND THEN .,;:!?\"", b" - ", &[b' '; LINE_LIMIT]];
+
+// Checks what a line without a sentence gives, and what of it stays pending.
+fn changes_little(rt: &impl Abort, game: &Game, line: &[u8], wanted: Found, rest: &[u8]) {
+    let (found, sentence, pending) = phrase_of(rt, game, line);
+    assert!(rt; found == wanted && sentence == BEFORE, "{line:?}");
+    assert_eq!(rt; pending.bytes(), rest, "{line:?}");
+    assert_eq!(rt; pending.earlier(), EARLIER);
+}
+
 #[test]
 fn other_phrases_change_little(rt: HostRuntime) -> Result<(), Fail> {
     let game = game(rt.alloc())?;
-    let unknown: [(&[u8], &[u8]); 2] = [(b"XYZZY PLUGH; LOOK", b" LOOK"), (b"LAMPS", b"")];
-    for (line, rest) in unknown {
-        let (found, sentence, pending) = phrase_of(&rt, &game, line);
-        assert_eq!(rt; found, Found::Nothing, "{line:?}");
-        assert_eq!(rt; sentence, BEFORE, "{line:?}");
-        assert_eq!(rt; pending.bytes(), rest, "{line:?}");
-        assert_eq!(rt; pending.earlier(), EARLIER, "{line:?}");
+    for &(line, rest) in &UNKNOWN {
+        changes_little(&rt, &game, line, Found::Nothing, rest);
     }
-    let spaces = [b' '; LINE_LIMIT];
-    let none: [&[u8]; 4] = [b"", b"AND THEN .,;:!?\"", b" - ", &spaces];
-    for line in none {
-        let (found, sentence, pending) = phrase_of(&rt, &game, line);
-        assert_eq!(rt; found, Found::Empty, "{line:?}");
-        assert_eq!(rt; sentence, BEFORE, "{line:?}");
-        assert_eq!(rt; pending.bytes(), line, "{line:?}");
-        assert_eq!(rt; pending.earlier(), EARLIER, "{line:?}");
+    for line in &EMPTY {
+        changes_little(&rt, &game, line, Found::Empty, line);
     }
     Ok(())
 }
@@ -229,12 +244,13 @@ fn other_phrases_change_little(rt: HostRuntime) -> Result<(), Fail> {
 fn lines_are_set_and_dropped(rt: HostRuntime) -> Result<(), Fail> {
     let mut pending = Pending::of(b"GET LAMP", 30);
     pending.drop_line();
-    assert!(rt; pending.bytes().is_empty());
-    assert_eq!(rt; pending.earlier(), 30);
+    assert!(rt; pending.bytes().is_empty() && pending.earlier() == 30);
     pending.set(b"WAIT");
-    assert_eq!(rt; pending.bytes(), b"WAIT".as_slice());
-    assert_eq!(rt; pending.earlier(), N);
-    assert!(rt; Pending::new().bytes().is_empty());
-    assert_eq!(rt; Pending::new().earlier(), N);
+    assert_eq!(rt;
+        (pending.bytes(), pending.earlier()),
+        (b"WAIT".as_slice(), N)
+    );
+    let new = Pending::new();
+    assert!(rt; new.bytes().is_empty() && new.earlier() == N);
     Ok(())
 }

@@ -11,6 +11,7 @@ use paw_game::game::Game;
 use paw_game::parts::{Entry, Exits, GameParts, ObjectRow, Table, Text};
 use paw_phrase::Pending;
 use paw_process::Machine;
+use paw_world::world::World;
 use std::alloc::{AllocError, Global};
 use std::process::Abort;
 use std::test::Fail;
@@ -206,7 +207,7 @@ const NAMED_WAITING: [(usize, u8, u64); 25] = [
 ];
 
 /// The same for the state at the start with the second position kept, whose bytes are 0 but for the first.
-const NAMED_KEPT: [(usize, u8, Option<u64>); 9] = [
+static NAMED_KEPT: [(usize, u8, Option<u64>); 9] = [
     (1883, 2, Some(1883)),
     (1884, 255, None),
     (2140, 1, None),
@@ -263,18 +264,26 @@ fn draws_and_lines_at_their_limits(rt: HostRuntime) -> Result<(), Fail> {
     Ok(())
 }
 
+// Checks which offset is named where a byte of a state is changed.
+fn names(
+    rt: &impl Abort,
+    game: &Game,
+    bytes: &[u8; STATE_ROOM],
+    (at, byte, named): (usize, u8, Option<u64>),
+) {
+    let changed = with_byte(rt, bytes, at, byte);
+    assert_eq!(rt; fault(game, &changed), named, "{at} {byte}");
+}
+
 #[test]
 fn the_first_broken_rule_is_named(rt: HostRuntime) -> Result<(), Fail> {
     let game = small_game(rt.alloc())?;
     let bytes = opening_state(&game);
-    assert_eq!(rt; fault(&game, &bytes), None);
     for (at, byte, named) in &NAMED {
-        let changed = with_byte(&rt, &bytes, *at, *byte);
-        assert_eq!(rt; fault(&game, &changed), Some(*named), "{at}");
+        names(&rt, &game, &bytes, (*at, *byte, Some(*named)));
     }
     for (at, byte) in &FREE {
-        let changed = with_byte(&rt, &bytes, *at, *byte);
-        assert_eq!(rt; fault(&game, &changed), None, "{at}");
+        names(&rt, &game, &bytes, (*at, *byte, None));
     }
     Ok(())
 }
@@ -283,14 +292,12 @@ fn the_first_broken_rule_is_named(rt: HostRuntime) -> Result<(), Fail> {
 fn a_kept_position_names_its_bytes_after_all_others(rt: HostRuntime) -> Result<(), Fail> {
     let game = small_game(rt.alloc())?;
     let bytes = with_byte(&rt, &opening_state(&game), 1883, 1);
-    assert_eq!(rt; fault(&game, &bytes), None);
-    for (at, byte, named) in &NAMED_KEPT {
-        let changed = with_byte(&rt, &bytes, *at, *byte);
-        assert_eq!(rt; fault(&game, &changed), *named, "{at} {byte}");
+    for &row in &NAMED_KEPT {
+        names(&rt, &game, &bytes, row);
     }
     let late = with_byte(&rt, &bytes, 2142, 1);
-    assert_eq!(rt; fault(&game, &with_byte(&rt, &late, 1372, 1)), Some(1372));
-    assert_eq!(rt; fault(&game, &with_byte(&rt, &late, 1114, 65)), Some(1114));
+    names(&rt, &game, &late, (1372, 1, Some(1372)));
+    names(&rt, &game, &late, (1114, 65, Some(1114)));
     Ok(())
 }
 
@@ -300,8 +307,7 @@ fn a_state_that_waits_names_its_frames_and_loop(rt: HostRuntime) -> Result<(), F
     let bytes = waiting(&rt, &game);
     assert_eq!(rt; fault(&game, &bytes), None);
     for (at, byte, named) in &NAMED_WAITING {
-        let changed = with_byte(&rt, &bytes, *at, *byte);
-        assert_eq!(rt; fault(&game, &changed), Some(*named), "{at}");
+        names(&rt, &game, &bytes, (*at, *byte, Some(*named)));
     }
     Ok(())
 }
@@ -316,101 +322,144 @@ fn what_is_read_is_written_again(rt: HostRuntime) -> Result<(), Fail> {
     Ok(())
 }
 
+// Compares the machine of the state that waits: a table that calls another.
+fn compare_machine(rt: &impl Abort, machine: &Machine) {
+    let frames = machine.frames();
+    let [first, second, ..] = &frames.rows;
+    assert_eq!(rt; frames.count, 2);
+    assert_eq!(rt; (first.entry, first.acted), (1, true));
+    assert_eq!(rt; (second.table, second.acted), (3, false));
+}
+
 #[test]
 fn the_parts_of_a_state_that_waits(rt: HostRuntime) -> Result<(), Fail> {
     let game = small_game(rt.alloc())?;
     let read = read_state(&game, &waiting(&rt, &game))?;
-    assert_eq!(rt; read.prompt, Prompt::Quit);
-    assert_eq!(rt; read.events, 2);
-    assert_eq!(rt; read.piece, 0);
-    assert_eq!(rt; read.world.seed(), 7);
-    assert_eq!(rt; read.world.places(), [0, CARRIED_PLACE].as_slice());
-    assert_eq!(rt; read.world.flags()[1], 1);
-    assert!(rt; !read.world.saved());
+    assert_eq!(rt;
+        (read.prompt, read.events, read.piece),
+        (Prompt::Quit, 2, 0)
+    );
     assert_eq!(rt; read.pending.bytes(), b"N".as_slice());
     assert_eq!(rt; read.pending.earlier(), 42);
-    let frames = read.machine.frames();
-    assert_eq!(rt; frames.count, 2);
-    assert_eq!(rt; frames.rows[0].entry, 1);
-    assert!(rt; frames.rows[0].acted && !frames.rows[1].acted);
-    assert_eq!(rt; frames.rows[1].table, 3);
+    compare_machine(&rt, &read.machine);
     Ok(())
 }
 
 #[test]
-fn a_saved_position_and_draws_come_back(rt: HostRuntime) -> Result<(), Fail> {
+fn the_world_of_a_state_that_waits(rt: HostRuntime) -> Result<(), Fail> {
     let game = small_game(rt.alloc())?;
-    let mut world = opening_world(&game, 7);
+    let world = read_state(&game, &waiting(&rt, &game))?.world;
+    assert_eq!(rt; world.seed(), 7);
+    assert_eq!(rt; world.places(), [0, CARRIED_PLACE].as_slice());
+    assert_eq!(rt; world.flags()[1], 1);
+    assert!(rt; !world.saved());
+    Ok(())
+}
+
+// The bytes of a state of this world, where no table is open and no line waits.
+fn bytes_with(world: &World, prompt: Prompt, events: u64) -> [u8; STATE_ROOM] {
+    let mut bytes = [0; STATE_ROOM];
+    write_state(
+        world,
+        &Machine::new(),
+        &Pending::new(),
+        prompt,
+        events,
+        9,
+        &mut bytes,
+    );
+    bytes
+}
+
+// A world with a saved position, and 400,000 draws.
+fn saved_world(rt: &impl Abort, game: &Game) -> World {
+    let mut world = opening_world(game, 7);
     let flags = *world.flags();
-    assert_eq!(rt; world.objects(), 2);
+    assert!(rt; world.objects() == 2);
     world.set_flag(100, 9);
     world.move_to(0, 1);
     world.ramsave();
     world.set_position(&flags, &[252, 253]);
-    assert_eq!(rt; world.draws(), 0);
+    assert!(rt; world.draws() == 0);
     world.skip(400_000);
-    let mut bytes = [0; STATE_ROOM];
-    write_state(
-        &world,
-        &Machine::new(),
-        &Pending::new(),
-        Prompt::Over,
-        1,
-        9,
-        &mut bytes,
-    );
-    let mut read = read_state(&game, &bytes)?;
-    assert_eq!(rt; bytes_of(&read), bytes);
-    assert_eq!(rt; read.prompt, Prompt::Over);
-    assert_eq!(rt; read.world.places(), [252, 253].as_slice());
-    assert_eq!(rt; read.world.draws(), 400_000);
-    assert!(rt; world.draws() < 1_000_000);
-    assert_eq!(rt; read.world.draw(), world.draw());
-    let (saved_flags, saved_places) = read.world.saved_position().expect(&rt, "a saved position");
+    world
+}
+
+// Compares what came back of that world.
+fn compare_saved(rt: &impl Abort, read: &World) {
+    assert_eq!(rt; read.places(), [252, 253].as_slice());
+    assert_eq!(rt; read.draws(), 400_000);
+    let (saved_flags, saved_places) = read.saved_position().expect(rt, "a saved position");
     assert_eq!(rt; saved_flags[100], 9);
     assert_eq!(rt; saved_places, [1, CARRIED_PLACE].as_slice());
+}
+
+#[test]
+fn a_saved_position_comes_back(rt: HostRuntime) -> Result<(), Fail> {
+    let game = small_game(rt.alloc())?;
+    let bytes = bytes_with(&saved_world(&rt, &game), Prompt::Over, 1);
+    let read = read_state(&game, &bytes)?;
+    assert!(rt; bytes_of(&read) == bytes);
+    assert_eq!(rt; read.prompt, Prompt::Over);
+    compare_saved(&rt, &read.world);
     Ok(())
+}
+
+#[test]
+fn draws_come_back(rt: HostRuntime) -> Result<(), Fail> {
+    let game = small_game(rt.alloc())?;
+    let mut world = saved_world(&rt, &game);
+    let bytes = bytes_with(&world, Prompt::Over, 1);
+    let mut read = read_state(&game, &bytes)?.world;
+    assert!(rt; world.draws() < 1_000_000 && read.draws() < 1_000_000);
+    assert_eq!(rt; read.draw(), world.draw());
+    Ok(())
+}
+
+// A world with a second and a fourth position that are kept, and no other.
+fn kept_world(rt: &impl Abort, game: &Game) -> World {
+    let mut world = opening_world(game, 7);
+    let flags = *world.flags();
+    world.set_flag(58, 3);
+    world.keep(3);
+    assert!(rt; world.objects() == 2);
+    world.set_position(&flags, &[252, 253]);
+    world.set_flag(200, 5);
+    world.keep(1);
+    world.restart();
+    world
+}
+
+/// Bytes of its state.
+const KEPT: [(usize, u8); 9] = [
+    (1371, 0),
+    (1883, 1),
+    (2395, 0),
+    (2907, 1),
+    (1883 + 1 + 200, 5),
+    (1883 + 257, 252),
+    (1883 + 258, 253),
+    (2907 + 1 + 58, 3),
+    (2907 + 257 + 1, CARRIED_PLACE),
+];
+
+// Compares what came back of that world.
+fn compare_kept(rt: &impl Abort, read: &World) {
+    assert!(rt; !read.has_kept(0) && !read.has_kept(2));
+    let (kept_flags, kept_places) = read.kept_position(1).expect(rt, "a kept position");
+    assert_eq!(rt; kept_flags[200], 5);
+    assert_eq!(rt; kept_places, [252, 253].as_slice());
 }
 
 #[test]
 fn kept_positions_come_back(rt: HostRuntime) -> Result<(), Fail> {
     let game = small_game(rt.alloc())?;
-    let mut world = opening_world(&game, 7);
-    let flags = *world.flags();
-    world.set_flag(58, 3);
-    world.keep(3);
-    assert_eq!(rt; world.objects(), 2);
-    world.set_position(&flags, &[252, 253]);
-    world.set_flag(200, 5);
-    world.keep(1);
-    world.restart();
-    let mut bytes = [0; STATE_ROOM];
-    write_state(
-        &world,
-        &Machine::new(),
-        &Pending::new(),
-        Prompt::Main,
-        4,
-        9,
-        &mut bytes,
-    );
-    assert_eq!(rt;
-        [bytes[1371], bytes[1883], bytes[2395], bytes[2907]],
-        [0, 1, 0, 1]
-    );
-    assert_eq!(rt;
-        [bytes[1883 + 1 + 200], bytes[1883 + 257], bytes[1883 + 258]],
-        [5, 252, 253]
-    );
-    assert_eq!(rt;
-        [bytes[2907 + 1 + 58], bytes[2907 + 257 + 1]],
-        [3, CARRIED_PLACE]
-    );
+    let bytes = bytes_with(&kept_world(&rt, &game), Prompt::Main, 4);
+    for (at, byte) in &KEPT {
+        assert_eq!(rt; bytes.get(*at), Some(byte), "{at}");
+    }
     let read = read_state(&game, &bytes)?;
-    assert_eq!(rt; bytes_of(&read), bytes);
-    assert!(rt; !read.world.has_kept(0) && !read.world.has_kept(2));
-    let (kept_flags, kept_places) = read.world.kept_position(1).expect(&rt, "a kept position");
-    assert_eq!(rt; kept_flags[200], 5);
-    assert_eq!(rt; kept_places, [252, 253].as_slice());
+    assert!(rt; bytes_of(&read) == bytes);
+    compare_kept(&rt, &read.world);
     Ok(())
 }

@@ -1,7 +1,7 @@
 // Sources that are compiled and played, over a stage in memory.
 
-use crate::tests::running::settle_and_run;
-use crate::tests::sources::{LANTERN, SMALLEST};
+use crate::tests::running::{compare, settle_and_run};
+use crate::tests::sources::{LANTERN, LANTERN_CANONICAL, SMALLEST};
 use paw_base::fault::{NoRoom, SpentKind};
 use paw_stage::{LoadRefusal, MemoryStage, Stage};
 use paw_top::outcome::Outcome;
@@ -84,8 +84,8 @@ fn comes_so(
     pieces: &str,
 ) -> Result<(), Fail> {
     let (outcome, shown) = compile_and_walk(rt, alloc, source, lines)?;
-    assert_eq!(rt; outcome, wanted, "{lines:?}");
-    assert_eq!(rt; shown.as_slice(), pieces.as_bytes(), "{lines:?}");
+    let came = (outcome, shown.as_slice());
+    compare(rt, came, (wanted, pieces.as_bytes()), lines);
     Ok(())
 }
 
@@ -100,89 +100,95 @@ fn shows(
     comes_so(rt, alloc, source, lines, Outcome::InputEnded, pieces)
 }
 
+/// Lines for the tables that ask, and what is shown.
+static ASKED: [(&str, &str); 9] = [
+    (
+        "SHAKE ALL\nN\nY",
+        "A hall.\nWhat now?\n> Are you sure? Are you sure? You shake the sword.\nWhat now?\n> ",
+    ),
+    (
+        "TWIST ALL\n\nWAIT",
+        "A hall.\nWhat now?\n> Press a key. You shake the coat.\nDone.\nWhat now?\n> OK.\nWhat now?\n> ",
+    ),
+    (
+        "NO\nWAIT",
+        "A hall.\nWhat now?\n> Here the  is.\nDone.\nWhat now?\n> OK.\nWhat now?\n> ",
+    ),
+    (
+        "AWAY\nLOOK",
+        "A hall.\nWhat now?\n> A garden.\nA wind blows.\nWhat now?\n> A garden.\nA wind blows.\nWhat now?\n> ",
+    ),
+    (
+        "WHERE ALL\nWHERE",
+        "A hall.\nWhat now?\n> What now?\n> Done.\nWhat now?\n> ",
+    ),
+    (
+        "SHAKE ALL EXCEPT RED LAMP\nY",
+        "A hall.\nWhat now?\n> Are you sure? You shake the sword.\nWhat now?\n> ",
+    ),
+    (
+        "SHAKE ALL EXCEPT LAMP\ny",
+        "A hall.\nWhat now?\n> Are you sure? You shake the sword.\nWhat now?\n> ",
+    ),
+    (
+        "TURN ALL AND WAIT\nTURN ALL",
+        "A hall.\nWhat now?\n> What now?\n> Here the lamp is.\nHere the sword is.\nWhat now?\n> ",
+    ),
+    (
+        "QUIT\n~\nn\nTIME\n~\nQUIT\n~\nTWIST ALL\n~",
+        "A hall.\nWhat now?\n> Are you sure? What now?\n> What now?\n> Time passes.\nWhat now?\n\
+        > Are you sure? What now?\n> Press a key. You shake the coat.\nDone.\nWhat now?\n> ",
+    ),
+];
+
 #[test]
 fn tables_ask_call_and_repeat(rt: HostRuntime) -> Result<(), Fail> {
     let alloc = rt.alloc();
-    for (lines, pieces) in [
-        (
-            "SHAKE ALL\nN\nY",
-            "A hall.\nWhat now?\n> Are you sure? Are you sure? You shake the sword.\nWhat now?\n> ",
-        ),
-        (
-            "TWIST ALL\n\nWAIT",
-            "A hall.\nWhat now?\n> Press a key. You shake the coat.\nDone.\nWhat now?\n> OK.\nWhat now?\n> ",
-        ),
-        (
-            "NO\nWAIT",
-            "A hall.\nWhat now?\n> Here the  is.\nDone.\nWhat now?\n> OK.\nWhat now?\n> ",
-        ),
-        (
-            "AWAY\nLOOK",
-            "A hall.\nWhat now?\n> A garden.\nA wind blows.\nWhat now?\n> A garden.\nA wind blows.\nWhat now?\n> ",
-        ),
-        (
-            "WHERE ALL\nWHERE",
-            "A hall.\nWhat now?\n> What now?\n> Done.\nWhat now?\n> ",
-        ),
-        (
-            "SHAKE ALL EXCEPT RED LAMP\nY",
-            "A hall.\nWhat now?\n> Are you sure? You shake the sword.\nWhat now?\n> ",
-        ),
-        (
-            "SHAKE ALL EXCEPT LAMP\ny",
-            "A hall.\nWhat now?\n> Are you sure? You shake the sword.\nWhat now?\n> ",
-        ),
-        (
-            "TURN ALL AND WAIT\nTURN ALL",
-            "A hall.\nWhat now?\n> What now?\n> Here the lamp is.\nHere the sword is.\nWhat now?\n> ",
-        ),
-        (
-            "QUIT\n~\nn\nTIME\n~\nQUIT\n~\nTWIST ALL\n~",
-            "A hall.\nWhat now?\n> Are you sure? What now?\n> What now?\n> Time passes.\nWhat now?\n\
-            > Are you sure? What now?\n> Press a key. You shake the coat.\nDone.\nWhat now?\n> ",
-        ),
-    ] {
+    for &(lines, pieces) in &ASKED {
         shows(&rt, alloc, &[QUESTIONS], lines, pieces)?;
     }
     Ok(())
 }
 
+/// A source, lines, how the walk ends, and what it shows.
+static ENDINGS: [([&str; 2], &str, Outcome, &str); 5] = [
+    (
+        [QUESTIONS, ""],
+        "NEST\nDEEP",
+        Outcome::TooDeep { table: 5 },
+        "A hall.\nWhat now?\n> OK.\nWhat now?\n> ",
+    ),
+    (
+        [QUESTIONS, ""],
+        "QUIT\ny\n  no\nLOOK",
+        Outcome::Ended,
+        "A hall.\nWhat now?\n> Are you sure? Another go? Goodbye.\n",
+    ),
+    (
+        [QUESTIONS, ""],
+        "AWAY\nQUIT\nn\nQUIT\n y\n\nQUIT\ny\n  no\nLOOK",
+        Outcome::Ended,
+        "A hall.\nWhat now?\n> A garden.\nA wind blows.\nWhat now?\n> Are you sure? What now?\n\
+        > Are you sure? Another go? A hall.\nWhat now?\n> Are you sure? Another go? Goodbye.\n",
+    ),
+    (
+        [BEFORE_TABLE_1, "_ _\n DESC\n/PRO 2\n"],
+        "",
+        Outcome::Spent(SpentKind::Condacts),
+        "",
+    ),
+    (
+        [BEFORE_TABLE_1, "_ _\n MES 0 DESC\n/PRO 2\n"],
+        "",
+        Outcome::Spent(SpentKind::Text),
+        "",
+    ),
+];
+
 #[test]
 fn outcomes_of_tables(rt: HostRuntime) -> Result<(), Fail> {
     let alloc = rt.alloc();
-    for (source, lines, wanted, pieces) in [
-        (
-            [QUESTIONS, ""],
-            "NEST\nDEEP",
-            Outcome::TooDeep { table: 5 },
-            "A hall.\nWhat now?\n> OK.\nWhat now?\n> ",
-        ),
-        (
-            [QUESTIONS, ""],
-            "QUIT\ny\n  no\nLOOK",
-            Outcome::Ended,
-            "A hall.\nWhat now?\n> Are you sure? Another go? Goodbye.\n",
-        ),
-        (
-            [QUESTIONS, ""],
-            "AWAY\nQUIT\nn\nQUIT\n y\n\nQUIT\ny\n  no\nLOOK",
-            Outcome::Ended,
-            "A hall.\nWhat now?\n> A garden.\nA wind blows.\nWhat now?\n> Are you sure? What now?\n\
-            > Are you sure? Another go? A hall.\nWhat now?\n> Are you sure? Another go? Goodbye.\n",
-        ),
-        (
-            [BEFORE_TABLE_1, "_ _\n DESC\n/PRO 2\n"],
-            "",
-            Outcome::Spent(SpentKind::Condacts),
-            "",
-        ),
-        (
-            [BEFORE_TABLE_1, "_ _\n MES 0 DESC\n/PRO 2\n"],
-            "",
-            Outcome::Spent(SpentKind::Text),
-            "",
-        ),
-    ] {
+    for &(source, lines, wanted, pieces) in &ENDINGS {
         comes_so(&rt, alloc, source.as_slice(), lines, wanted, pieces)?;
     }
     Ok(())
@@ -206,93 +212,99 @@ fn shows_undone(rt: &impl Abort, alloc: Global, lines: &str, pieces: &str) -> Re
     shows(rt, alloc, &[UNDONE], lines, shown.as_str())
 }
 
+/// Lines in these two rooms, and what they show.
+static UNDONE_LINES: [(&str, &str); 13] = [
+    // Nothing answers the verb.
+    ("SWIM", "I can't do that.\nWhat now?\n> "),
+    ("NORTH", "A garden.\nWhat now?\n> "),
+    // It is left as not done, here and in a called table.
+    ("SING", "Hm.\nI can't do that.\nWhat now?\n> "),
+    ("HUM", "Hm.\nI can't do that.\nWhat now?\n> "),
+    ("EAST", "Hm.\nI can't go that way.\nWhat now?\n> "),
+    ("DOWN", "Hm.\nI can't go that way.\nWhat now?\n> "),
+    // The rest of the line is dropped.
+    ("SING. NORTH", "Hm.\nI can't do that.\nWhat now?\n> "),
+    // There is a way.
+    ("UP", "Hm.\nA garden.\nWhat now?\n> "),
+    ("IN", "Hm.\nA garden.\nWhat now?\n> "),
+    (
+        "DANCE\nDANCE",
+        "Hm.\nA garden.\nWhat now?\n> Hm.\nI can't do that.\nWhat now?\n> ",
+    ),
+    (
+        "UP. IN",
+        "Hm.\nA garden.\nHm.\nI can't go that way.\nWhat now?\n> ",
+    ),
+    // The caller has done something, after the call or before it.
+    ("CLAP", "Hm.\nHm.\nWhat now?\n> "),
+    ("HOP", "Hm.\nHm.\nWhat now?\n> "),
+];
+
 #[test]
 fn not_done_leads_on_to_the_exits(rt: HostRuntime) -> Result<(), Fail> {
     let alloc = rt.alloc();
-    for (lines, pieces) in [
-        // Nothing answers the verb.
-        ("SWIM", "I can't do that.\nWhat now?\n> "),
-        ("NORTH", "A garden.\nWhat now?\n> "),
-        // It is left as not done, here and in a called table.
-        ("SING", "Hm.\nI can't do that.\nWhat now?\n> "),
-        ("HUM", "Hm.\nI can't do that.\nWhat now?\n> "),
-        ("EAST", "Hm.\nI can't go that way.\nWhat now?\n> "),
-        ("DOWN", "Hm.\nI can't go that way.\nWhat now?\n> "),
-        // The rest of the line is dropped.
-        ("SING. NORTH", "Hm.\nI can't do that.\nWhat now?\n> "),
-        // There is a way.
-        ("UP", "Hm.\nA garden.\nWhat now?\n> "),
-        ("IN", "Hm.\nA garden.\nWhat now?\n> "),
-        (
-            "DANCE\nDANCE",
-            "Hm.\nA garden.\nWhat now?\n> Hm.\nI can't do that.\nWhat now?\n> ",
-        ),
-        (
-            "UP. IN",
-            "Hm.\nA garden.\nHm.\nI can't go that way.\nWhat now?\n> ",
-        ),
-        // The caller has done something, after the call or before it.
-        ("CLAP", "Hm.\nHm.\nWhat now?\n> "),
-        ("HOP", "Hm.\nHm.\nWhat now?\n> "),
-    ] {
+    for &(lines, pieces) in &UNDONE_LINES {
         shows_undone(&rt, alloc, lines, pieces)?;
     }
     Ok(())
 }
 
+/// Entries of table 1, and what they show.
+static CONDITIONS: [(&str, &str); 20] = [
+    (
+        "_ _ LET 100 250 PLUS 100 10 EQ 100 255 MES 0\n_ _ MINUS 100 255 MINUS 100 1 ZERO 100 MES 1\n",
+        "ab",
+    ),
+    (
+        "_ _ LET 29 5 LET 31 5 RAMSAVE LET 29 6 LET 31 6 RAMLOAD 30 EQ 29 5 EQ 31 6 MES 0\n",
+        "a",
+    ),
+    ("_ _ LET 29 6 RAMLOAD 255 EQ 29 6 MES 0\n", "a"),
+    ("_ _ CHANCE 100 MES 0\n_ _ CHANCE 0 MES 1\n", "a"),
+    ("_ _ LET 38 255 AT 0 MES 0\n_ _ ATGT 254 MES 1\n", "b"),
+    ("_ _ NOTAT 0 MES 0\n_ _ AT 0 MES 1\n", "b"),
+    ("_ _ ATLT 1 MES 0\n_ _ ATGT 0 MES 1\n", "a"),
+    (
+        "_ _ SET 100 EQ 100 255 CLEAR 100 ZERO 100 MES 0\n_ _ NOTZERO 100 MES 1\n",
+        "a",
+    ),
+    (
+        "_ _ LET 100 7 GT 100 6 LT 100 8 NOTEQ 100 6 MES 0\n_ _ GT 100 7 MES 1\n_ _ LT 100 7 MES 1\n",
+        "a",
+    ),
+    (
+        "_ _ LET 100 7 COPYFF 100 101 SAME 100 101 MES 0\n_ _ NOTSAME 100 101 MES 1\n",
+        "a",
+    ),
+    (
+        "_ _ LET 100 200 LET 101 100 ADD 100 101 EQ 101 255 EQ 100 200 MES 0\n",
+        "a",
+    ),
+    (
+        "_ _ LET 100 5 LET 101 7 SUB 100 101 EQ 101 2 SUB 100 101 ZERO 101 MES 0\n",
+        "a",
+    ),
+    ("_ _ RANDOM 100 GT 100 0 LT 100 101 MES 0\n", "a"),
+    (
+        "_ _ ADJECT1 _ ADVERB _ PREP _ NOUN2 _ ADJECT2 _ MES 0\n_ _ TIMEOUT MES 1\n",
+        "a",
+    ),
+    ("_ _ MESSAGE 1 NOTDONE MES 0\n_ _ MES 0\n", "b\n"),
+    ("_ _ MES 1 DONE MES 0\n_ _ MES 0\n", "b"),
+    ("_ _ MOVE 38 MES 0\n_ _ MES 1\n", "b"),
+    // There is no routine 3, the complement of 9 has six one bits, and the half of 9 is 4.
+    ("_ _ LET 100 9 EXTERN 3 100 EQ 100 9 MES 0\n", "a"),
+    (
+        "_ _ LET 100 9 EXTERN 0 100 EQ 100 246 EXTERN 2 100 EQ 100 6 MES 0\n",
+        "a",
+    ),
+    ("_ _ LET 100 9 EXTERN 1 100 EQ 100 4 MES 0\n", "a"),
+];
+
 #[test]
 fn conditions_and_flags(rt: HostRuntime) -> Result<(), Fail> {
     let alloc = rt.alloc();
-    for (rows, shown) in [
-        (
-            "_ _ LET 100 250 PLUS 100 10 EQ 100 255 MES 0\n_ _ MINUS 100 255 MINUS 100 1 ZERO 100 MES 1\n",
-            "ab",
-        ),
-        (
-            "_ _ LET 29 5 LET 31 5 RAMSAVE LET 29 6 LET 31 6 RAMLOAD 30 EQ 29 5 EQ 31 6 MES 0\n",
-            "a",
-        ),
-        ("_ _ LET 29 6 RAMLOAD 255 EQ 29 6 MES 0\n", "a"),
-        ("_ _ CHANCE 100 MES 0\n_ _ CHANCE 0 MES 1\n", "a"),
-        ("_ _ LET 38 255 AT 0 MES 0\n_ _ ATGT 254 MES 1\n", "b"),
-        ("_ _ NOTAT 0 MES 0\n_ _ AT 0 MES 1\n", "b"),
-        ("_ _ ATLT 1 MES 0\n_ _ ATGT 0 MES 1\n", "a"),
-        (
-            "_ _ SET 100 EQ 100 255 CLEAR 100 ZERO 100 MES 0\n_ _ NOTZERO 100 MES 1\n",
-            "a",
-        ),
-        (
-            "_ _ LET 100 7 GT 100 6 LT 100 8 NOTEQ 100 6 MES 0\n_ _ GT 100 7 MES 1\n_ _ LT 100 7 MES 1\n",
-            "a",
-        ),
-        (
-            "_ _ LET 100 7 COPYFF 100 101 SAME 100 101 MES 0\n_ _ NOTSAME 100 101 MES 1\n",
-            "a",
-        ),
-        (
-            "_ _ LET 100 200 LET 101 100 ADD 100 101 EQ 101 255 EQ 100 200 MES 0\n",
-            "a",
-        ),
-        (
-            "_ _ LET 100 5 LET 101 7 SUB 100 101 EQ 101 2 SUB 100 101 ZERO 101 MES 0\n",
-            "a",
-        ),
-        ("_ _ RANDOM 100 GT 100 0 LT 100 101 MES 0\n", "a"),
-        (
-            "_ _ ADJECT1 _ ADVERB _ PREP _ NOUN2 _ ADJECT2 _ MES 0\n_ _ TIMEOUT MES 1\n",
-            "a",
-        ),
-        ("_ _ MESSAGE 1 NOTDONE MES 0\n_ _ MES 0\n", "b\n"),
-        ("_ _ MES 1 DONE MES 0\n_ _ MES 0\n", "b"),
-        ("_ _ MOVE 38 MES 0\n_ _ MES 1\n", "b"),
-        // There is no routine 3, the complement of 9 has six one bits, and the half of 9 is 4.
-        ("_ _ LET 100 9 EXTERN 3 100 EQ 100 9 MES 0\n", "a"),
-        (
-            "_ _ LET 100 9 EXTERN 0 100 EQ 100 246 EXTERN 2 100 EQ 100 6 MES 0\n",
-            "a",
-        ),
-        ("_ _ LET 100 9 EXTERN 1 100 EQ 100 4 MES 0\n", "a"),
-    ] {
+    for &(rows, shown) in &CONDITIONS {
         shows(&rt, alloc, &[BEFORE_TABLE_1, rows, "/PRO 2\n"], "", shown)?;
     }
     Ok(())
@@ -311,20 +323,23 @@ DARK _ SET 0 DESC\nLOOK _ DESC\nOUT _ GOTO 1 DESC\n\
 TELL _ EQ 2 7 EQ 3 7 EQ 4 7 EQ 5 6 EQ 6 6 EQ 7 6 EQ 8 6 EQ 9 7 EQ 10 7 MES 0\n\
 TELL _ EQ 2 7 EQ 3 7 EQ 4 9 EQ 5 6 EQ 6 6 EQ 7 6 EQ 8 6 EQ 9 7 EQ 10 9 MES 1\n/PRO 1\n/PRO 2\n";
 
+/// Where the lamp is, and what is shown.
+static LAMP_PLACES: [(&str, &str); 5] = [
+    ("CARRIED", "Hall.\nHall.\nHall.\nlitYard.\n"),
+    ("WORN", "Hall.\nHall.\nHall.\nlitYard.\n"),
+    ("0", "Hall.\nHall.\nHall.\nlitIt is dark.\n"),
+    ("1", "Hall.\nIt is dark.\nIt is dark.\nfarYard.\n"),
+    (
+        "NOTCREATED",
+        "Hall.\nIt is dark.\nIt is dark.\nfarIt is dark.\n",
+    ),
+];
+
 #[test]
 fn it_is_dark_without_a_light(rt: HostRuntime) -> Result<(), Fail> {
     let alloc = rt.alloc();
     let lines = "COUNT\nDARK\nLOOK\nTELL\nOUT";
-    for (place, shown) in [
-        ("CARRIED", "Hall.\nHall.\nHall.\nlitYard.\n"),
-        ("WORN", "Hall.\nHall.\nHall.\nlitYard.\n"),
-        ("0", "Hall.\nHall.\nHall.\nlitIt is dark.\n"),
-        ("1", "Hall.\nIt is dark.\nIt is dark.\nfarYard.\n"),
-        (
-            "NOTCREATED",
-            "Hall.\nIt is dark.\nIt is dark.\nfarIt is dark.\n",
-        ),
-    ] {
+    for &(place, shown) in &LAMP_PLACES {
         shows(&rt, alloc, &[BEFORE_LAMP, place, AFTER_LAMP], lines, shown)?;
     }
     Ok(())
@@ -338,27 +353,30 @@ What now?\n/3\nWell?\n/4\n/5\n/6\n/7\n/8\n/9\n/10\n/11\n/12\n/13\n/14\n/15\n/16\
 /MTX\n/0\nt\n/OTX\n/LTX\n/0\n/CON\n/OBJ\n/PRO 0\nON _ LET 48 1 DONE\nOFF _ CLEAR 48 DONE\n\
 ASK _ LET 42 3 DONE\nNONE _ LET 42 200 DONE\nWAIT _ DONE\n/PRO 1\n/PRO 2\n_ _ TIMEOUT MES 0\n";
 
+/// Lines, and what they show where time may pass.
+static TIMES: [(&str, &str); 7] = [
+    ("~", "What now?\n> "),
+    ("~\nWAIT", "What now?\n> What now?\n> "),
+    (
+        "ON\n~\nWAIT",
+        "What now?\n> What now?\n> Time passes.\ntWhat now?\n> What now?\n> ",
+    ),
+    (
+        "ON\n~\n~",
+        "What now?\n> What now?\n> Time passes.\ntWhat now?\n> Time passes.\ntWhat now?\n> ",
+    ),
+    (
+        "ON\n ~\n~ ",
+        "What now?\n> What now?\n> What now?\n> What now?\n> ",
+    ),
+    ("ON\nOFF\n~", "What now?\n> What now?\n> What now?\n> "),
+    ("ASK\nNONE\nWAIT", "What now?\n> Well?\n> > > "),
+];
+
 #[test]
 fn time_passes_where_it_may(rt: HostRuntime) -> Result<(), Fail> {
     let alloc = rt.alloc();
-    for (lines, shown) in [
-        ("~", "What now?\n> "),
-        ("~\nWAIT", "What now?\n> What now?\n> "),
-        (
-            "ON\n~\nWAIT",
-            "What now?\n> What now?\n> Time passes.\ntWhat now?\n> What now?\n> ",
-        ),
-        (
-            "ON\n~\n~",
-            "What now?\n> What now?\n> Time passes.\ntWhat now?\n> Time passes.\ntWhat now?\n> ",
-        ),
-        (
-            "ON\n ~\n~ ",
-            "What now?\n> What now?\n> What now?\n> What now?\n> ",
-        ),
-        ("ON\nOFF\n~", "What now?\n> What now?\n> What now?\n> "),
-        ("ASK\nNONE\nWAIT", "What now?\n> Well?\n> > > "),
-    ] {
+    for &(lines, shown) in &TIMES {
         shows(&rt, alloc, &[PROMPTS], lines, shown)?;
     }
     Ok(())
@@ -444,6 +462,25 @@ fn games_go_there_and_back(rt: HostRuntime) -> Result<(), Fail> {
     let alloc = rt.alloc();
     for row in [(SMALLEST, 26), (LANTERN, 87), (ROOMS, 134), (HALL, 1_311)] {
         goes_there_and_back(&rt, alloc, row)?;
+    }
+    Ok(())
+}
+
+/// Two rooms, in the form that images are shown in: a text that ends with a line end keeps an empty last line, and
+/// flags stand after `@`.
+const ROOMS_CANONICAL: &str =
+    "/VOC\nN 2 noun\nS 3 noun\nSING 31 verb\n/STX\n/MTX\n/0\nLa la.\n\n/OTX\n\
+/LTX\n/0\nHall.\n/1\nYard.\n/CON\n/0\nN 1\n/1\nS 0\n/OBJ\n\
+/PRO 0\nSING _\n NOTAT 1\n MES 0\n EQ @7 3\n MES @100\n DONE\n* N\n/PRO 1\n/PRO 2\n";
+
+/// Sources in the form that images are shown in.
+static CANONICAL: [&str; 3] = [SMALLEST, LANTERN_CANONICAL, ROOMS_CANONICAL];
+
+#[test]
+fn canonical_sources_come_back(rt: HostRuntime) -> Result<(), Fail> {
+    for source in &CANONICAL {
+        let (_, text) = decompile_again(&rt, rt.alloc(), source.as_bytes())?;
+        assert_eq!(rt; text.as_slice(), source.as_bytes());
     }
     Ok(())
 }

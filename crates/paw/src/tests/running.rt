@@ -69,3 +69,9 @@ pub fn settle_and_run_with_none<S: Stage>(
     settle(rt, stage);
     run_with(alloc, stage, &Routines::new(0, give), words)
 }
+
+/// Compares how a command ended, and what it showed, with what is expected.
+pub fn compare(rt: &impl Abort, came: (Outcome, &[u8]), wanted: (Outcome, &[u8]), command: &str) {
+    assert_eq!(rt; came.0, wanted.0, "{command:?}");
+    assert_eq!(rt; came.1, wanted.1, "{command:?}");
+}

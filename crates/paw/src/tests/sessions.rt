@@ -1,6 +1,6 @@
 // Sessions over stages in memory: rounds of one session, stores that give none, and calls that fail.
 
-use crate::tests::running::{run, settle, settle_and_run, settle_and_run_with_none};
+use crate::tests::running::{compare, run, settle, settle_and_run, settle_and_run_with_none};
 use paw_base::fault::NoRoom;
 use paw_journal::{SessionPart, digest};
 use paw_stage::{FailStage, MemoryStage, Stage, StageCall};
@@ -44,14 +44,9 @@ const FIRST_PLACES: [usize; 2] = [128 + 64 + 256, 86_208 + 64 + 256];
 /// More bytes than any file here has.
 const MOST: usize = 200_000;
 
-/// One command, over the store that the one before it left.
+/// One command, over the store that the one before it left: its words, its lines, how it ends, and what it shows.
 #[derive(Clone, Copy)]
-struct Round<'a> {
-    words: &'a str,
-    lines: &'a str,
-    outcome: Outcome,
-    shown: &'a str,
-}
+struct Round<'a>(&'a str, &'a str, Outcome, &'a str);
 
 // A stage with the sources of the two games, and a store with these bytes.
 fn with_files(alloc: Global, store: &[u8]) -> Result<MemoryStage, NoRoom> {
@@ -84,17 +79,13 @@ fn comes_so(
     rt: &impl Abort,
     alloc: Global,
     stage: &mut MemoryStage,
-    round: &Round<'_>,
+    round: Round<'_>,
 ) -> Result<(), Fail> {
+    let Round(words, lines, wanted, shown) = round;
     let before = stage.shown().len();
-    let outcome = settle_and_run(rt, alloc, stage, round.words)?;
-    assert_eq!(rt; outcome, round.outcome, "{} {:?}", round.words, round.lines);
-    assert_eq!(rt;
-        stage.shown().get(before..).unwrap_or(b""),
-        round.shown.as_bytes(),
-        "{:?}",
-        round.lines
-    );
+    let outcome = settle_and_run(rt, alloc, stage, words)?;
+    let after = stage.shown().get(before..).unwrap_or(b"");
+    compare(rt, (outcome, after), (wanted, shown.as_bytes()), lines);
     Ok(())
 }
 
@@ -103,9 +94,9 @@ fn plays_round(
     rt: &impl Abort,
     alloc: Global,
     store: &[u8],
-    round: &Round<'_>,
+    round: Round<'_>,
 ) -> Result<Vec<u8>, Fail> {
-    let mut stage = stage_of(rt, alloc, store, round.lines)?;
+    let mut stage = stage_of(rt, alloc, store, round.1)?;
     comes_so(rt, alloc, &mut stage, round)?;
     Ok(stage.load(alloc, "store", MOST)?)
 }
@@ -114,56 +105,53 @@ fn plays_round(
 fn plays_rounds(rt: &impl Abort, alloc: Global, rounds: &[Round<'_>]) -> Result<Vec<u8>, Fail> {
     let mut store = Vec::new(alloc);
     for round in rounds {
-        store = plays_round(rt, alloc, store.as_slice(), round)?;
+        store = plays_round(rt, alloc, store.as_slice(), *round)?;
     }
     Ok(store)
 }
 
-// A round that goes on to the end of its lines.
-fn round_to_end<'a>(words: &'a str, lines: &'a str, shown: &'a str) -> Round<'a> {
-    Round {
-        words,
-        lines,
-        outcome: Outcome::InputEnded,
-        shown,
-    }
-}
+/// A game that calls too many tables, and one that is over.
+const DEEP: Outcome = Outcome::TooDeep { table: 4 };
+
+const OVER: Outcome = Outcome::Ended;
+
+/// The end of a round that goes on to the end of its lines.
+const TO_END: Outcome = Outcome::InputEnded;
+
+/// The rounds of some sessions.
+static SESSIONS: [[Round<'static>; 3]; 4] = [
+    // A question in a called table, inside a loop.
+    [
+        Round(PLAY, "SHAKE ALL", TO_END, "Hall.\n>\nSure? "),
+        Round(RESUME, "N", TO_END, "Sure? Sure? "),
+        Round(RESUME, "Y", TO_END, "Sure? Done.\n>\n"),
+    ],
+    [
+        Round(PLAY, "TWIST ALL", TO_END, "Hall.\n>\nKey. "),
+        Round(RESUME, "", TO_END, "Key. "),
+        Round(RESUME, "x\ny", TO_END, "Key. Done.\nKey. Done.\n>\n"),
+    ],
+    [
+        Round(PLAY, "WAIT\nDEEP", DEEP, "Hall.\n>\nOK.\n>\n"),
+        Round(RESUME, "", TO_END, "OK.\n>\n"),
+        Round(RESUME, "WAIT", TO_END, "OK.\n>\nOK.\n>\n"),
+    ],
+    [
+        Round(
+            PLAY,
+            "QUIT\nY\nn\nWAIT",
+            OVER,
+            "Hall.\n>\nSure? Again? Bye.\n",
+        ),
+        Round(RESUME, "WAIT", OVER, "Bye.\n"),
+        Round(RESUME, "WAIT", OVER, "Bye.\n"),
+    ],
+];
 
 #[test]
 fn sessions_are_taken_up_where_they_stood(rt: HostRuntime) -> Result<(), Fail> {
-    let alloc = rt.alloc();
-    let deep = Round {
-        outcome: Outcome::TooDeep { table: 4 },
-        ..round_to_end(PLAY, "WAIT\nDEEP", "Hall.\n>\nOK.\n>\n")
-    };
-    let over = Round {
-        outcome: Outcome::Ended,
-        ..round_to_end(PLAY, "QUIT\nY\nn\nWAIT", "Hall.\n>\nSure? Again? Bye.\n")
-    };
-    let still_over = Round {
-        outcome: Outcome::Ended,
-        ..round_to_end(RESUME, "WAIT", "Bye.\n")
-    };
-    for rounds in [
-        // A question in a called table, inside a loop.
-        [
-            round_to_end(PLAY, "SHAKE ALL", "Hall.\n>\nSure? "),
-            round_to_end(RESUME, "N", "Sure? Sure? "),
-            round_to_end(RESUME, "Y", "Sure? Done.\n>\n"),
-        ],
-        [
-            round_to_end(PLAY, "TWIST ALL", "Hall.\n>\nKey. "),
-            round_to_end(RESUME, "", "Key. "),
-            round_to_end(RESUME, "x\ny", "Key. Done.\nKey. Done.\n>\n"),
-        ],
-        [
-            deep,
-            round_to_end(RESUME, "", "OK.\n>\n"),
-            round_to_end(RESUME, "WAIT", "OK.\n>\nOK.\n>\n"),
-        ],
-        [over, still_over, still_over],
-    ] {
-        plays_rounds(&rt, alloc, &rounds)?;
+    for rounds in &SESSIONS {
+        plays_rounds(&rt, rt.alloc(), rounds)?;
     }
     Ok(())
 }
@@ -221,97 +209,99 @@ fn is_refused(
     words: &str,
     outcome: Outcome,
 ) -> Result<(), Fail> {
-    let refused = Round {
-        words,
-        lines: "WAIT",
-        outcome,
-        shown: "",
-    };
-    let left = plays_round(rt, alloc, store, &refused)?;
+    let left = plays_round(rt, alloc, store, Round(words, "WAIT", outcome, ""))?;
     assert_eq!(rt; left.as_slice(), store, "{outcome:?}");
     Ok(())
 }
 
+// The bytes of a session that has taken a line.
+fn session_after_a_line(rt: &impl Abort, alloc: Global) -> Result<Vec<u8>, Fail> {
+    play_case(rt, alloc, b"", (PLAY, "WAIT"))
+}
+
+// Checks that another game than that of a session is asked for, before its routines are.
+fn another_game_is_refused(rt: &impl Abort, alloc: Global, store: &[u8]) -> Result<(), Fail> {
+    let other = Outcome::WrongGame {
+        kept: digest_of(rt, alloc, "hall")?,
+        found: digest_of(rt, alloc, "cave")?,
+    };
+    is_refused(rt, alloc, store, "resume\ncave\nstore", other)?;
+    let changed = with_bytes(alloc, store, &ROUTINES_PLACES, 200)?;
+    is_refused(rt, alloc, changed.as_slice(), "resume\ncave\nstore", other)
+}
+
+/// A command over a session of which some bytes are changed to one, the places of those, that byte, and how it ends.
+static REFUSALS: [(&str, &[usize], u8, Outcome); 5] = [
+    (
+        PLAY,
+        &[],
+        0,
+        Outcome::Occupied {
+            length: SESSION_LEN,
+        },
+    ),
+    (
+        RESUME,
+        &[0],
+        0,
+        Outcome::Unmade {
+            length: SESSION_LEN,
+            mark: 0,
+        },
+    ),
+    (
+        RESUME,
+        &[VERSION_AT],
+        3,
+        Outcome::SessionDamaged {
+            part: SessionPart::Header,
+            at: 2,
+        },
+    ),
+    (
+        RESUME,
+        &ROUTINES_PLACES,
+        200,
+        Outcome::WrongRoutines {
+            kept: [200; 32],
+            found: THESE_ROUTINES,
+        },
+    ),
+    (
+        RESUME,
+        &FIRST_PLACES,
+        200,
+        Outcome::SessionDamaged {
+            part: SessionPart::State,
+            at: 256,
+        },
+    ),
+];
+
 #[test]
 fn stores_that_give_no_session_are_refused(rt: HostRuntime) -> Result<(), Fail> {
     let alloc = rt.alloc();
-    let store = plays_rounds(
-        &rt,
-        alloc,
-        &[round_to_end(PLAY, "WAIT", "Hall.\n>\nOK.\n>\n")],
-    )?;
-    let other = Outcome::WrongGame {
-        kept: digest_of(&rt, alloc, "hall")?,
-        found: digest_of(&rt, alloc, "cave")?,
-    };
-    for (words, places, byte, outcome) in [
-        (
-            PLAY,
-            [].as_slice(),
-            0,
-            Outcome::Occupied {
-                length: SESSION_LEN,
-            },
-        ),
-        (
-            RESUME,
-            [0].as_slice(),
-            0,
-            Outcome::Unmade {
-                length: SESSION_LEN,
-                mark: 0,
-            },
-        ),
-        (
-            RESUME,
-            [VERSION_AT].as_slice(),
-            3,
-            Outcome::SessionDamaged {
-                part: SessionPart::Header,
-                at: 2,
-            },
-        ),
-        ("resume\ncave\nstore", [].as_slice(), 0, other),
-        // The game is asked for before the routines.
-        (
-            "resume\ncave\nstore",
-            ROUTINES_PLACES.as_slice(),
-            200,
-            other,
-        ),
-        (
-            RESUME,
-            ROUTINES_PLACES.as_slice(),
-            200,
-            Outcome::WrongRoutines {
-                kept: [200; 32],
-                found: THESE_ROUTINES,
-            },
-        ),
-        (
-            RESUME,
-            FIRST_PLACES.as_slice(),
-            200,
-            Outcome::SessionDamaged {
-                part: SessionPart::State,
-                at: 256,
-            },
-        ),
-    ] {
+    let store = session_after_a_line(&rt, alloc)?;
+    another_game_is_refused(&rt, alloc, store.as_slice())?;
+    for &(words, places, byte, outcome) in &REFUSALS {
         let changed = with_bytes(alloc, store.as_slice(), places, byte)?;
         is_refused(&rt, alloc, changed.as_slice(), words, outcome)?;
     }
-    // A store that is missing has no session, nor has an empty one; that may be played in.
-    let unmade = Outcome::Unmade { length: 0, mark: 0 };
-    let missing = Round {
-        outcome: unmade,
-        ..round_to_end("resume\nhall\nnone", "WAIT", "")
-    };
-    let empty = Round {
-        outcome: unmade,
-        ..round_to_end(RESUME, "WAIT", "")
-    };
-    plays_rounds(&rt, alloc, &[missing, empty, round_to_end(PLAY, "", FIRST)])?;
+    Ok(())
+}
+
+/// A store that is missing has no session, nor has an empty one; that may be played in.
+static UNMADE: [Round<'static>; 3] = [
+    Round("resume\nhall\nnone", "WAIT", NO_SESSION, ""),
+    Round(RESUME, "WAIT", NO_SESSION, ""),
+    Round(PLAY, "", TO_END, FIRST),
+];
+
+const NO_SESSION: Outcome = Outcome::Unmade { length: 0, mark: 0 };
+
+#[test]
+fn stores_without_a_byte_may_be_played_in(rt: HostRuntime) -> Result<(), Fail> {
+    plays_rounds(&rt, rt.alloc(), &UNMADE)?;
     Ok(())
 }
 
@@ -345,24 +335,27 @@ fn resume_unmeasured(rt: &impl Abort, alloc: Global, store: &[u8]) -> Result<Vec
     Ok(after)
 }
 
+/// The answer to a session of the program's routines that is resumed with none.
+const OTHER_ROUTINES: Outcome = Outcome::WrongRoutines {
+    kept: THESE_ROUTINES,
+    found: NO_ROUTINES,
+};
+
+// Checks that a program without routines refuses a session, with both digests, and leaves its file as it is.
+fn is_refused_with_none(rt: &impl Abort, alloc: Global, store: &[u8]) -> Result<(), Fail> {
+    let mut stage = stage_of(rt, alloc, store, "")?;
+    let refused = settle_and_run_with_none(rt, alloc, &mut stage, RESUME)?;
+    assert_eq!(rt; refused, OTHER_ROUTINES);
+    let after = stage.load(alloc, "store", MOST)?;
+    assert_eq!(rt; after.as_slice(), store);
+    Ok(())
+}
+
 #[test]
 fn a_session_knows_its_routines(rt: HostRuntime) -> Result<(), Fail> {
     let alloc = rt.alloc();
-    let before = play_case(&rt, alloc, b"", (PLAY, "WAIT"))?;
-    // Resumed by a program with none it is refused, with both digests, and its file stays as it is.
-    let mut stage = stage_of(&rt, alloc, before.as_slice(), "")?;
-    let refused = settle_and_run_with_none(&rt, alloc, &mut stage, RESUME)?;
-    assert_eq!(rt;
-        refused,
-        Outcome::WrongRoutines {
-            kept: THESE_ROUTINES,
-            found: NO_ROUTINES
-        }
-    );
-    assert_eq!(rt;
-        stage.load(alloc, "store", MOST)?.as_slice(),
-        before.as_slice()
-    );
+    let before = session_after_a_line(&rt, alloc)?;
+    is_refused_with_none(&rt, alloc, before.as_slice())?;
     let unmeasured = with_bytes(alloc, before.as_slice(), &ROUTINES_PLACES, 0)?;
     let after = resume_unmeasured(&rt, alloc, unmeasured.as_slice())?;
     assert_eq!(rt; after.get(64..96), Some([0u8; 32].as_slice()));
@@ -377,8 +370,13 @@ const EARLIER_ENDS: [usize; 2] = [128 + 64 + 1371, 86_208 + 64 + 1371];
 
 /// A session of the earlier form, which isn't measured and waits for the answer to the first of two questions.
 pub(crate) fn earlier_form(rt: &impl Abort, alloc: Global) -> Result<Vec<u8>, Fail> {
-    let first = round_to_end(PLAY, "WAIT\nSHAKE ALL", "Hall.\n>\nOK.\n>\nSure? ");
-    let store = plays_rounds(rt, alloc, &[first])?;
+    let shown = "Hall.\n>\nOK.\n>\nSure? ";
+    let store = plays_round(
+        rt,
+        alloc,
+        b"",
+        Round(PLAY, "WAIT\nSHAKE ALL", TO_END, shown),
+    )?;
     let earlier = with_bytes(alloc, store.as_slice(), &VERSIONS, 1)?;
     let unmeasured = with_bytes(alloc, earlier.as_slice(), &ROUTINES_PLACES, 0)?;
     with_bytes(alloc, unmeasured.as_slice(), &EARLIER_ENDS, 7)
@@ -388,10 +386,10 @@ pub(crate) fn earlier_form(rt: &impl Abort, alloc: Global) -> Result<Vec<u8>, Fa
 fn a_session_of_the_earlier_form_goes_on(rt: HostRuntime) -> Result<(), Fail> {
     let alloc = rt.alloc();
     let earlier = earlier_form(&rt, alloc)?;
-    let on = round_to_end(RESUME, "N\nY", "Sure? Sure? Done.\n>\n");
-    let left = plays_round(&rt, alloc, earlier.as_slice(), &on)?;
-    let later = round_to_end(RESUME, "WAIT", "Done.\n>\nOK.\n>\n");
-    plays_round(&rt, alloc, left.as_slice(), &later)?;
+    let on = Round(RESUME, "N\nY", TO_END, "Sure? Sure? Done.\n>\n");
+    let left = plays_round(&rt, alloc, earlier.as_slice(), on)?;
+    let later = Round(RESUME, "WAIT", TO_END, "Done.\n>\nOK.\n>\n");
+    plays_round(&rt, alloc, left.as_slice(), later)?;
     Ok(())
 }
 
@@ -417,12 +415,8 @@ fn a_piece_that_was_not_shown_is_shown_again(rt: HostRuntime) -> Result<(), Fail
         };
         seen = seen.saturating_add(1);
         let shown = if seen == 1 { FIRST } else { "OK.\n>\n" };
-        plays_round(
-            &rt,
-            alloc,
-            store.as_slice(),
-            &round_to_end(RESUME, "", shown),
-        )?;
+        let again = Round(RESUME, "", TO_END, shown);
+        plays_round(&rt, alloc, store.as_slice(), again)?;
     }
     assert_eq!(rt; seen, 2);
     Ok(())

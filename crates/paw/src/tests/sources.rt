@@ -1,7 +1,7 @@
 // Sources that are compiled and images that are decompiled, over stages in memory, and each way in which one is
 // refused.
 
-use crate::tests::running::{run, settle, settle_and_run};
+use crate::tests::running::{compare, run, settle, settle_and_run};
 use paw_base::fault::{SourceFault, SourceKind};
 use paw_stage::{Asked, FailStage, MemoryStage, Stage, StageCall};
 use paw_top::outcome::Outcome;
@@ -25,7 +25,7 @@ pub(crate) const LANTERN: &str =
 /PRO 1\n/PRO 2\n";
 
 /// The canonical source of the same game.
-const LANTERN_CANONICAL: &str =
+pub(crate) const LANTERN_CANONICAL: &str =
     "/VOC\nGET 30 verb\nLAMP 50 noun\nLANTE 50 noun\nTAKE 30 verb\n/STX\n/MTX\n/0\nTaken.\n/OTX\n\
 /0\na lamp\n/LTX\n/0\nA cave.\n/CON\n/OBJ\n0 0 1 - LAMP _\n/PRO 0\nGET LAMP\n MESSAGE 0\n DONE\n\
 /PRO 1\n/PRO 2\n";
@@ -78,6 +78,19 @@ fn stage_of(alloc: Global, case: &Case<'_>) -> Result<MemoryStage, Fail> {
     Ok(stage)
 }
 
+// Checks that a file has these bytes.
+fn file_is<S: Stage>(
+    rt: &impl Abort,
+    alloc: Global,
+    stage: &mut S,
+    file: &str,
+    bytes: &[u8],
+) -> Result<(), Fail> {
+    let found = stage.load(alloc, file, 999)?;
+    assert_eq!(rt; found.as_slice(), bytes, "{file}");
+    Ok(())
+}
+
 // Checks that the files are as the case says, no line was asked for, and no file was made.
 fn is_left_so<S: Stage>(
     rt: &impl Abort,
@@ -85,15 +98,10 @@ fn is_left_so<S: Stage>(
     stage: &mut S,
     case: &Case<'_>,
 ) -> Result<(), Fail> {
-    for (file, bytes) in [
-        ("source", case.source),
-        ("image", case.after),
-        ("other", b"as it was".as_slice()),
-    ] {
-        let found = stage.load(alloc, file, 999)?;
-        assert_eq!(rt; found.as_slice(), bytes, "{}: {file}", case.name);
-    }
-    assert!(rt; stage.load(alloc, "missing", 999).is_err(), "{}", case.name);
+    file_is(rt, alloc, stage, "source", case.source)?;
+    file_is(rt, alloc, stage, "image", case.after)?;
+    file_is(rt, alloc, stage, "other", b"as it was")?;
+    assert!(rt; stage.load(alloc, "missing", 999).is_err());
     let mut line = [0u8; 255];
     assert_eq!(rt; stage.ask(&mut line), Asked::Line(1), "{}", case.name);
     Ok(())
@@ -103,8 +111,8 @@ fn is_left_so<S: Stage>(
 fn comes_so(rt: &impl Abort, alloc: Global, case: &Case<'_>) -> Result<(), Fail> {
     let mut stage = stage_of(alloc, case)?;
     let outcome = settle_and_run(rt, alloc, &mut stage, case.words)?;
-    assert_eq!(rt; outcome, case.outcome, "{}", case.name);
-    assert_eq!(rt; stage.shown(), case.shown, "{}", case.name);
+    let wanted = (case.outcome, case.shown);
+    compare(rt, (outcome, stage.shown()), wanted, case.name);
     is_left_so(rt, alloc, &mut stage, case)
 }
 
@@ -144,52 +152,63 @@ fn refused_case<'a>(case: Case<'a>, outcome: Outcome) -> Case<'a> {
     }
 }
 
+/// Sources: a name, the text, what a compile of it shows, and its image.
+static COMPILED: [(&str, &str, &[u8], &[u8]); 4] = [
+    (
+        "the smallest",
+        SMALLEST,
+        b"IMAGE 26 BYTES\n",
+        &SMALLEST_IMAGE,
+    ),
+    ("a lantern", LANTERN, b"IMAGE 87 BYTES\n", &LANTERN_IMAGE),
+    (
+        "written otherwise",
+        LANTERN_OTHERWISE,
+        b"IMAGE 87 BYTES\n",
+        &LANTERN_IMAGE,
+    ),
+    (
+        "as it is shown",
+        LANTERN_CANONICAL,
+        b"IMAGE 87 BYTES\n",
+        &LANTERN_IMAGE,
+    ),
+];
+
 #[test]
 fn sources_are_compiled(rt: HostRuntime) -> Result<(), Fail> {
     let alloc = rt.alloc();
-    let smallest = b"IMAGE 26 BYTES\n";
-    let lantern = b"IMAGE 87 BYTES\n";
-    for case in [
-        compile_case(
-            "the smallest",
-            SMALLEST.as_bytes(),
-            smallest,
-            &SMALLEST_IMAGE,
-        ),
-        compile_case("a lantern", LANTERN.as_bytes(), lantern, &LANTERN_IMAGE),
-        compile_case(
-            "written otherwise",
-            LANTERN_OTHERWISE.as_bytes(),
-            lantern,
-            &LANTERN_IMAGE,
-        ),
-        compile_case(
-            "as it is shown",
-            LANTERN_CANONICAL.as_bytes(),
-            lantern,
-            &LANTERN_IMAGE,
-        ),
-    ] {
+    for &(name, source, shown, image) in &COMPILED {
+        let case = compile_case(name, source.as_bytes(), shown, image);
         comes_so(&rt, alloc, &case)?;
     }
     Ok(())
 }
 
+/// Images: a name, the bytes, and the text that they are shown as.
+static DECOMPILED: [(&str, &[u8], &str); 2] = [
+    ("the smallest", &SMALLEST_IMAGE, SMALLEST),
+    ("a lantern", &LANTERN_IMAGE, LANTERN_CANONICAL),
+];
+
 #[test]
 fn images_are_decompiled(rt: HostRuntime) -> Result<(), Fail> {
     let alloc = rt.alloc();
-    let damaged = Outcome::ImageDamaged { at: 0 };
-    for case in [
-        decompile_case("the smallest", &SMALLEST_IMAGE, SMALLEST.as_bytes()),
-        decompile_case("a lantern", &LANTERN_IMAGE, LANTERN_CANONICAL.as_bytes()),
-        refused_case(decompile_case("no byte", b"", b""), damaged),
-        refused_case(
-            decompile_case("without its last byte", &LANTERN_IMAGE[..86], b""),
-            Outcome::ImageDamaged { at: 85 },
-        ),
-        refused_case(decompile_case("a source", LANTERN.as_bytes(), b""), damaged),
-    ] {
+    for &(name, image, text) in &DECOMPILED {
+        let case = decompile_case(name, image, text.as_bytes());
         comes_so(&rt, alloc, &case)?;
+    }
+    for (name, image, at) in [
+        ("no byte", b"".as_slice(), 0),
+        ("without its last byte", &LANTERN_IMAGE[..86], 85),
+        ("a source", LANTERN.as_bytes(), 0),
+    ] {
+        let case = decompile_case(name, image, b"");
+        comes_so(
+            &rt,
+            alloc,
+            &refused_case(case, Outcome::ImageDamaged { at }),
+        )?;
     }
     Ok(())
 }
@@ -231,20 +250,23 @@ fn is_refused(
     )
 }
 
+/// The number of a line, what stands there instead, and the kind of the fault.
+static REFUSALS: [(u32, Option<&str>, SourceKind); 9] = [
+    (14, Some("_ _ MES 3"), SourceKind::Range),
+    (14, Some("_ _ MES"), SourceKind::Missing),
+    (14, Some("_ _ MES x"), SourceKind::Number),
+    (14, Some("_ _ MUS 2"), SourceKind::Condact),
+    (14, Some("_ _ DONE 2"), SourceKind::Condact),
+    (14, Some("FOO _ MES 2"), SourceKind::Word),
+    (2, Some("/MTX"), SourceKind::Section),
+    (4, Some("/1"), SourceKind::Range),
+    (16, None, SourceKind::Missing),
+];
+
 #[test]
 fn sources_are_refused_by_line_and_kind(rt: HostRuntime) -> Result<(), Fail> {
     let alloc = rt.alloc();
-    for row in [
-        (14, Some("_ _ MES 3"), SourceKind::Range),
-        (14, Some("_ _ MES"), SourceKind::Missing),
-        (14, Some("_ _ MES x"), SourceKind::Number),
-        (14, Some("_ _ MUS 2"), SourceKind::Condact),
-        (14, Some("_ _ DONE 2"), SourceKind::Condact),
-        (14, Some("FOO _ MES 2"), SourceKind::Word),
-        (2, Some("/MTX"), SourceKind::Section),
-        (4, Some("/1"), SourceKind::Range),
-        (16, None, SourceKind::Missing),
-    ] {
+    for &row in &REFUSALS {
         is_refused(&rt, alloc, row)?;
     }
     Ok(())
@@ -274,18 +296,8 @@ fn ends_in(
     settle(rt, &mut settled);
     let mut stage = FailStage::new(settled, [call].to_vec(alloc)?);
     let came = run(alloc, &mut stage, case.words)?;
-    assert_eq!(rt;
-        came,
-        Outcome::Outside(failed),
-        "{}, call {call}",
-        case.name
-    );
-    assert_eq!(rt;
-        stage.inner().shown(),
-        b"".as_slice(),
-        "{}, call {call}",
-        case.name
-    );
+    let wanted = (Outcome::Outside(failed), b"".as_slice());
+    compare(rt, (came, stage.inner().shown()), wanted, case.name);
     is_left_so(rt, alloc, &mut stage, case)
 }
 

@@ -47,7 +47,7 @@ _ _ QUIT MESSAGE 0\n/PRO 4\n_ _ DOALL CARRIED\n_ _ ANYKEY MESSAGE 0\n/PRO 5\n\
 _ _ GT 60 0 MINUS 60 1 PROCESS 5\n";
 
 /// The lines that are played, and how many of them were taken when a session is resumed.
-const LINES: [&str; 3] = ["GET LAMP", "N", "I"];
+static LINES: [&str; 3] = ["GET LAMP", "N", "I"];
 
 const TAKEN: usize = 1;
 

@@ -1,6 +1,6 @@
 // Walks over stages in memory, and each way in which a walk is refused.
 
-use crate::tests::running::{run, settle, settle_and_run};
+use crate::tests::running::{compare, run, settle, settle_and_run};
 use paw_base::fault::SpentKind;
 use paw_stage::{Asked, FailStage, MemoryStage, Stage, StageCall};
 use paw_top::outcome::Outcome;
@@ -62,8 +62,8 @@ fn shows(
 ) -> Result<(), Fail> {
     let mut stage = stage_of(alloc, image, lines)?;
     let outcome = settle_and_run(rt, alloc, &mut stage, WALK)?;
-    assert_eq!(rt; outcome, Outcome::InputEnded, "{lines:?}");
-    assert_eq!(rt; stage.shown(), shown.as_bytes(), "{lines:?}");
+    let wanted = (Outcome::InputEnded, shown.as_bytes());
+    compare(rt, (outcome, stage.shown()), wanted, lines);
     Ok(())
 }
 
@@ -76,21 +76,24 @@ fn two_rooms_with(place: usize, byte: u8) -> [u8; 134] {
     image
 }
 
+/// The lines of a walk, one after the other, and the piece of each.
+static WALKED: [(&str, &str); 7] = [
+    ("N", "Yard.\n>\n"),
+    ("SING", "Hall.\n>\n"),
+    ("SING", "La la.\n>\n"),
+    ("N. N", "Yard.\nNo way.\n>\n"),
+    ("XY", "What?\n>\n"),
+    ("~", ""),
+    ("", ">\n"),
+];
+
 #[test]
 fn two_rooms_are_walked_piece_by_piece(rt: HostRuntime) -> Result<(), Fail> {
     let alloc = rt.alloc();
     let mut lines = String::new(alloc);
     let mut shown = String::from_str(alloc, FIRST)?;
     shows(&rt, alloc, &TWO_ROOMS, "", FIRST)?;
-    for (line, piece) in [
-        ("N", "Yard.\n>\n"),
-        ("SING", "Hall.\n>\n"),
-        ("SING", "La la.\n>\n"),
-        ("N. N", "Yard.\nNo way.\n>\n"),
-        ("XY", "What?\n>\n"),
-        ("~", ""),
-        ("", ">\n"),
-    ] {
+    for &(line, piece) in &WALKED {
         lines.push_str(line)?;
         lines.push_str("\n")?;
         shown.push_str(piece)?;
@@ -105,42 +108,45 @@ fn brings(rt: &impl Abort, alloc: Global, lines: &str, pieces: &str) -> Result<(
     shows(rt, alloc, &TWO_ROOMS, lines, shown.as_str())
 }
 
+/// Lines, and the pieces that they bring.
+static BROUGHT: [(&str, &str); 25] = [
+    // Small letters are capitals, five letters make out a word, unknown words are passed over.
+    ("look", "Hall.\n>\n"),
+    ("Please look at me", "Hall.\n>\n"),
+    ("LOOKS", "What?\n>\n"),
+    ("NORTH", "What?\n>\n"),
+    ("N1", "What?\n>\n"),
+    ("12", "What?\n>\n"),
+    // The first verb counts, and a noun stands for a verb only where there is none.
+    ("SING LOOK", "La la.\n>\n"),
+    ("LOOK SING", "Hall.\n>\n"),
+    ("N SING", "La la.\n>\n"),
+    ("N S", "Yard.\n>\n"),
+    ("S N", "No way.\n>\n"),
+    // Phrases of one line bring one piece.
+    ("N. S", "Yard.\nHall.\n>\n"),
+    ("SING: SING! S", "La la.\nLa la.\nNo way.\n>\n"),
+    ("SING? N\" SING", "La la.\nYard.\nHall.\n>\n"),
+    ("N.SING,LOOK", "Yard.\nHall.\nHall.\n>\n"),
+    (",, N ;", "Yard.\n>\n"),
+    // What is not understood, or leads nowhere, drops the rest of the line.
+    ("N, N, S", "Yard.\nNo way.\n>\n"),
+    ("N; XY; S", "Yard.\nWhat?\n>\n"),
+    // With no phrase the prompt alone is put; a mark of time that is not allowed brings nothing.
+    (".,;:!?\"", ">\n"),
+    ("  - ", ">\n"),
+    (" ~", ">\n"),
+    ("~~", ">\n"),
+    ("~ N", "Yard.\n>\n"),
+    // One line after another.
+    ("N\nN\nS\nS", "Yard.\n>\nNo way.\n>\nHall.\n>\nNo way.\n>\n"),
+    ("N\n~\nLOOK\n~", "Yard.\n>\nYard.\n>\n"),
+];
+
 #[test]
 fn lines_bring_their_pieces(rt: HostRuntime) -> Result<(), Fail> {
     let alloc = rt.alloc();
-    for (lines, pieces) in [
-        // Small letters are capitals, five letters make out a word, unknown words are passed over.
-        ("look", "Hall.\n>\n"),
-        ("Please look at me", "Hall.\n>\n"),
-        ("LOOKS", "What?\n>\n"),
-        ("NORTH", "What?\n>\n"),
-        ("N1", "What?\n>\n"),
-        ("12", "What?\n>\n"),
-        // The first verb counts, and a noun stands for a verb only where there is none.
-        ("SING LOOK", "La la.\n>\n"),
-        ("LOOK SING", "Hall.\n>\n"),
-        ("N SING", "La la.\n>\n"),
-        ("N S", "Yard.\n>\n"),
-        ("S N", "No way.\n>\n"),
-        // Phrases of one line bring one piece.
-        ("N. S", "Yard.\nHall.\n>\n"),
-        ("SING: SING! S", "La la.\nLa la.\nNo way.\n>\n"),
-        ("SING? N\" SING", "La la.\nYard.\nHall.\n>\n"),
-        ("N.SING,LOOK", "Yard.\nHall.\nHall.\n>\n"),
-        (",, N ;", "Yard.\n>\n"),
-        // What is not understood, or leads nowhere, drops the rest of the line.
-        ("N, N, S", "Yard.\nNo way.\n>\n"),
-        ("N; XY; S", "Yard.\nWhat?\n>\n"),
-        // With no phrase the prompt alone is put; a mark of time that is not allowed brings nothing.
-        (".,;:!?\"", ">\n"),
-        ("  - ", ">\n"),
-        (" ~", ">\n"),
-        ("~~", ">\n"),
-        ("~ N", "Yard.\n>\n"),
-        // One line after another.
-        ("N\nN\nS\nS", "Yard.\n>\nNo way.\n>\nHall.\n>\nNo way.\n>\n"),
-        ("N\n~\nLOOK\n~", "Yard.\n>\nYard.\n>\n"),
-    ] {
+    for &(lines, pieces) in &BROUGHT {
         brings(&rt, alloc, lines, pieces)?;
     }
     Ok(())
@@ -156,43 +162,49 @@ fn brings_after(
     brings(rt, alloc, line.as_str(), piece)
 }
 
+/// How many spaces come first, what follows them, and the piece that this brings.
+static AFTER_SPACES: [(usize, &str, &str); 10] = [
+    (251, "LOOK", "Hall.\n>\n"),
+    (252, "LOOK", "What?\n>\n"),
+    (255, "LOOK", ">\n"),
+    (254, "N", "Yard.\n>\n"),
+    (254, "NORTH", "Yard.\n>\n"),
+    (255, "N", ">\n"),
+    (251, "N. N", "Yard.\nNo way.\n>\n"),
+    (252, "N. N", "Yard.\n>\n"),
+    (254, "~", ">\n"),
+    (255, "~", ">\n"),
+];
+
 #[test]
 fn a_line_counts_to_its_255th_byte(rt: HostRuntime) -> Result<(), Fail> {
     let alloc = rt.alloc();
-    for row in [
-        (251, "LOOK", "Hall.\n>\n"),
-        (252, "LOOK", "What?\n>\n"),
-        (255, "LOOK", ">\n"),
-        (254, "N", "Yard.\n>\n"),
-        (254, "NORTH", "Yard.\n>\n"),
-        (255, "N", ">\n"),
-        (251, "N. N", "Yard.\nNo way.\n>\n"),
-        (252, "N. N", "Yard.\n>\n"),
-        (254, "~", ">\n"),
-        (255, "~", ">\n"),
-    ] {
+    for &row in &AFTER_SPACES {
         brings_after(&rt, alloc, row)?;
     }
     Ok(())
 }
 
+/// The place of a byte, what it is there, lines, and what is shown.
+static CHANGED: [(usize, u8, &str, &str); 6] = [
+    // An underline stands for the object last named: for none.
+    (90, b'_', "", "all.\n>\n"),
+    // SING in the yard is for the hall now: nothing is done, and it is no way either.
+    (126, 0, "N\nSING", "Hall.\n>\nYard.\n>\nNo.\n>\n"),
+    // The first entry is for N: it comes before the way to the yard.
+    (110, 2, "N", "Hall.\n>\nHall.\n>\n"),
+    // The way leads from the hall to the hall.
+    (104, 0, "N", "Hall.\n>\nHall.\n>\n"),
+    // LOOK only ends the response.
+    (113, 32, "LOOK. N", "Hall.\n>\nYard.\n>\n"),
+    // SING in the hall describes it again.
+    (121, 30, "SING", "Hall.\n>\nLa la.\nHall.\n>\n"),
+];
+
 #[test]
 fn games_with_one_byte_changed(rt: HostRuntime) -> Result<(), Fail> {
     let alloc = rt.alloc();
-    for (place, byte, lines, shown) in [
-        // An underline stands for the object last named: for none.
-        (90, b'_', "", "all.\n>\n"),
-        // SING in the yard is for the hall now: nothing is done, and it is no way either.
-        (126, 0, "N\nSING", "Hall.\n>\nYard.\n>\nNo.\n>\n"),
-        // The first entry is for N: it comes before the way to the yard.
-        (110, 2, "N", "Hall.\n>\nHall.\n>\n"),
-        // The way leads from the hall to the hall.
-        (104, 0, "N", "Hall.\n>\nHall.\n>\n"),
-        // LOOK only ends the response.
-        (113, 32, "LOOK. N", "Hall.\n>\nYard.\n>\n"),
-        // SING in the hall describes it again.
-        (121, 30, "SING", "Hall.\n>\nLa la.\nHall.\n>\n"),
-    ] {
+    for &(place, byte, lines, shown) in &CHANGED {
         let image = two_rooms_with(place, byte);
         shows(&rt, alloc, &image, lines, shown)?;
     }
@@ -210,20 +222,35 @@ struct Case<'a> {
     next: Asked,
 }
 
+// Checks what is asked for next.
+fn asks_for<S: Stage>(rt: &impl Abort, stage: &mut S, next: Asked) {
+    let mut line = [0u8; 255];
+    assert_eq!(rt; stage.ask(&mut line), next);
+}
+
+// Checks that the game has this image still, the other file is as it was, and none was made.
+fn is_left(
+    rt: &impl Abort,
+    alloc: Global,
+    stage: &mut MemoryStage,
+    image: &[u8],
+) -> Result<(), Fail> {
+    let game = stage.load(alloc, "game", 999)?;
+    assert!(rt; game.as_slice() == image);
+    let other = stage.load(alloc, "other", 999)?;
+    assert_eq!(rt; other.as_slice(), b"as it was".as_slice());
+    assert!(rt; stage.load(alloc, "missing", 999).is_err());
+    Ok(())
+}
+
 // Checks that the command ends as the case says, and the files are as they were.
 fn comes_so(rt: &impl Abort, alloc: Global, case: &Case<'_>) -> Result<(), Fail> {
     let mut stage = stage_of(alloc, case.image, "N")?;
     let outcome = settle_and_run(rt, alloc, &mut stage, case.words)?;
-    assert_eq!(rt; outcome, case.outcome, "{}", case.name);
-    assert_eq!(rt; stage.shown(), case.shown.as_bytes(), "{}", case.name);
-    let mut line = [0u8; 255];
-    assert_eq!(rt; stage.ask(&mut line), case.next, "{}", case.name);
-    let game = stage.load(alloc, "game", 999)?;
-    assert_eq!(rt; game.as_slice(), case.image, "{}", case.name);
-    let other = stage.load(alloc, "other", 999)?;
-    assert_eq!(rt; other.as_slice(), b"as it was".as_slice(), "{}", case.name);
-    assert!(rt; stage.load(alloc, "missing", 999).is_err(), "{}", case.name);
-    Ok(())
+    let wanted = (case.outcome, case.shown.as_bytes());
+    compare(rt, (outcome, stage.shown()), wanted, case.name);
+    asks_for(rt, &mut stage, case.next);
+    is_left(rt, alloc, &mut stage, case.image)
 }
 
 /// The line of the first trial.
@@ -265,29 +292,40 @@ fn refusal<'a>(name: &'a str, image: &'a [u8], outcome: Outcome) -> Case<'a> {
     }
 }
 
+// Checks that this image is damaged at a place.
+fn is_damaged(
+    rt: &impl Abort,
+    alloc: Global,
+    (name, image, at): (&str, &[u8], u64),
+) -> Result<(), Fail> {
+    let case = refusal(name, image, Outcome::ImageDamaged { at });
+    comes_so(rt, alloc, &case)
+}
+
+/// The image of the two rooms with one byte changed: a name, the place, the byte, and where it is damaged.
+static DAMAGED: [(&str, usize, u8, u64); 5] = [
+    ("another mark", 0, b'p', 0),
+    ("another version", 4, 2, 4),
+    ("words out of order", 17, b'Z', 24),
+    ("a way to nowhere", 104, 2, 104),
+    ("no such condact", 113, 108, 113),
+];
+
 #[test]
 fn images_are_refused(rt: HostRuntime) -> Result<(), Fail> {
     let alloc = rt.alloc();
+    for &(name, place, byte, at) in &DAMAGED {
+        is_damaged(&rt, alloc, (name, &two_rooms_with(place, byte), at))?;
+    }
+    is_damaged(&rt, alloc, ("no byte", b"", 0))?;
+    is_damaged(
+        &rt,
+        alloc,
+        ("without its last byte", &TWO_ROOMS[..133], 132),
+    )?;
     let mut longer = TWO_ROOMS.to_vec(alloc)?;
     longer.push(0)?;
-    for (name, image, at) in [
-        ("no byte", [].as_slice(), 0),
-        ("without its last byte", &TWO_ROOMS[..133], 132),
-        ("with a byte more", longer.as_slice(), 134),
-        ("another mark", two_rooms_with(0, b'p').as_slice(), 0),
-        ("another version", two_rooms_with(4, 2).as_slice(), 4),
-        (
-            "words out of order",
-            two_rooms_with(17, b'Z').as_slice(),
-            24,
-        ),
-        ("a way to nowhere", two_rooms_with(104, 2).as_slice(), 104),
-        ("no such condact", two_rooms_with(113, 108).as_slice(), 113),
-    ] {
-        let case = refusal(name, image, Outcome::ImageDamaged { at });
-        comes_so(&rt, alloc, &case)?;
-    }
-    Ok(())
+    is_damaged(&rt, alloc, ("with a byte more", longer.as_slice(), 134))
 }
 
 #[test]
@@ -309,7 +347,7 @@ fn a_turn_that_never_ends_is_spent(rt: HostRuntime) -> Result<(), Fail> {
 }
 
 /// What a trace of the two rooms shows, line by line; the piece follows the steps.
-const TRACED: [(&str, &str); 6] = [
+static TRACED: [(&str, &str); 6] = [
     ("N", "Yard.\n>\n"),
     (
         "SING",
@@ -329,20 +367,25 @@ fn a_trace_shows_the_steps_of_each_piece(rt: HostRuntime) -> Result<(), Fail> {
     let alloc = rt.alloc();
     let mut lines = String::new(alloc);
     let mut shown = String::from_str(alloc, FIRST)?;
-    for (line, piece) in TRACED {
+    for &(line, piece) in &TRACED {
         lines.push_str(line)?;
         lines.push_str("\n")?;
         shown.push_str(piece)?;
     }
     let mut stage = stage_of(alloc, &TWO_ROOMS, lines.as_str())?;
     let outcome = settle_and_run(&rt, alloc, &mut stage, TRACE)?;
-    assert_eq!(rt; outcome, Outcome::InputEnded);
-    assert_eq!(rt; stage.shown(), shown.as_bytes());
+    let wanted = (Outcome::InputEnded, shown.as_bytes());
+    compare(&rt, (outcome, stage.shown()), wanted, TRACE);
+    Ok(())
+}
+
+#[test]
+fn a_trace_of_a_piece_that_never_ends_is_spent(rt: HostRuntime) -> Result<(), Fail> {
     let spent = Case {
         words: TRACE,
         ..refusal("no text", &SILENT, Outcome::Spent(SpentKind::Condacts))
     };
-    comes_so(&rt, alloc, &spent)
+    comes_so(&rt, rt.alloc(), &spent)
 }
 
 #[test]
@@ -386,42 +429,39 @@ fn fails_so(rt: &impl Abort, alloc: Global, row: Failing<'_>) -> Result<(), Fail
     settle(rt, &mut settled);
     let mut stage = FailStage::new(settled, [call].to_vec(alloc)?);
     let came = run(alloc, &mut stage, WALK)?;
-    assert_eq!(rt; came, outcome, "{lines:?}, call {call}");
-    assert_eq!(rt;
-        stage.inner().shown(),
-        shown.as_bytes(),
-        "{lines:?}, call {call}"
-    );
-    let mut line = [0u8; 255];
-    assert_eq!(rt; stage.ask(&mut line), next, "{lines:?}, call {call}");
+    let wanted = (outcome, shown.as_bytes());
+    compare(rt, (came, stage.inner().shown()), wanted, lines);
+    asks_for(rt, &mut stage, next);
     Ok(())
 }
 
+/// The calls that fail while the first room is shown, and then the second.
+static FAILURES: [Failing<'static>; 9] = [
+    Failing("N\nLOOK", 0, LOAD, "", Asked::Line(1)),
+    Failing("N\nLOOK", 1, SHOW, "", Asked::Line(1)),
+    Failing("N\nLOOK", 2, ASK, FIRST, Asked::Line(1)),
+    Failing("N\nLOOK", 3, SHOW, FIRST, Asked::Line(4)),
+    Failing("N\nLOOK", 4, ASK, BOTH, Asked::Line(4)),
+    Failing("N\nLOOK", 5, SHOW, BOTH, Asked::End),
+    Failing("N", 4, ASK, BOTH, Asked::End),
+    Failing("N", 5, Outcome::InputEnded, BOTH, Asked::Failed),
+    // An empty piece makes no call.
+    Failing("~\nN", 3, ASK, FIRST, Asked::Line(1)),
+];
+
+const LOAD: Outcome = Outcome::Outside(StageCall::Load);
+
+const ASK: Outcome = Outcome::Outside(StageCall::Ask);
+
+const SHOW: Outcome = Outcome::Outside(StageCall::Show);
+
+/// What is shown of both rooms.
+const BOTH: &str = "Hall.\n>\nYard.\n>\n";
+
 #[test]
 fn a_call_that_fails_ends_the_walk(rt: HostRuntime) -> Result<(), Fail> {
-    let alloc = rt.alloc();
-    let load = Outcome::Outside(StageCall::Load);
-    let ask = Outcome::Outside(StageCall::Ask);
-    let show = Outcome::Outside(StageCall::Show);
-    for row in [
-        Failing("N\nLOOK", 0, load, "", Asked::Line(1)),
-        Failing("N\nLOOK", 1, show, "", Asked::Line(1)),
-        Failing("N\nLOOK", 2, ask, FIRST, Asked::Line(1)),
-        Failing("N\nLOOK", 3, show, FIRST, Asked::Line(4)),
-        Failing("N\nLOOK", 4, ask, "Hall.\n>\nYard.\n>\n", Asked::Line(4)),
-        Failing("N\nLOOK", 5, show, "Hall.\n>\nYard.\n>\n", Asked::End),
-        Failing("N", 4, ask, "Hall.\n>\nYard.\n>\n", Asked::End),
-        Failing(
-            "N",
-            5,
-            Outcome::InputEnded,
-            "Hall.\n>\nYard.\n>\n",
-            Asked::Failed,
-        ),
-        // An empty piece makes no call.
-        Failing("~\nN", 3, ask, FIRST, Asked::Line(1)),
-    ] {
-        fails_so(&rt, alloc, row)?;
+    for &row in &FAILURES {
+        fails_so(&rt, rt.alloc(), row)?;
     }
     Ok(())
 }

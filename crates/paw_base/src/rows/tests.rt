@@ -1,5 +1,7 @@
 use super::*;
 use crate::codes;
+use std::alloc::{AllocError, Global};
+use std::process::Abort;
 use std::test::Fail;
 
 /// A run of codes whose parameters are of the same kinds: the least code, the names, and a letter for each parameter.
@@ -88,42 +90,64 @@ fn kind(letters: &[u8], at: usize) -> ParamKind {
     }
 }
 
+// Checks that a condact has this name, in small letters too.
+fn has_name(rt: &impl Abort, alloc: Global, code: u8, name: &str) -> Result<(), AllocError> {
+    assert_eq!(rt; condact_named(name.as_bytes()), Some(code), "{name}");
+    let mut small = name.as_bytes().to_vec(alloc)?;
+    small.make_ascii_lowercase();
+    assert_eq!(rt; condact_named(small.as_slice()), Some(code), "{name}");
+    Ok(())
+}
+
+// Checks that a condact has a row of this name, and parameters of these kinds.
+fn has_row(rt: &impl Abort, code: u8, name: &str, letters: &[u8]) -> Result<(), Fail> {
+    let row = condact_row(code).ok_or("no row")?;
+    assert_eq!(rt; row.trimmed_name(), name.as_bytes());
+    assert_eq!(rt; row.first, kind(letters, 0), "{name}");
+    assert_eq!(rt; row.second, kind(letters, 1), "{name}");
+    assert_eq!(rt;
+        (row.params(), row.acts),
+        (letters.len(), code > 28),
+        "{name}"
+    );
+    Ok(())
+}
+
 #[test]
 fn each_condact_has_its_row_and_its_name(rt: HostRuntime) -> Result<(), Fail> {
     let mut next = 0;
-    for (least, names, letters) in RUNS {
+    for &(least, names, letters) in &RUNS {
         assert_eq!(rt; least, next);
         for name in names.split(' ') {
-            let row = condact_row(next).ok_or("no row")?;
-            assert_eq!(rt; row.trimmed_name(), name.as_bytes());
-            assert_eq!(rt; row.first, kind(letters, 0), "{name}");
-            assert_eq!(rt; row.second, kind(letters, 1), "{name}");
-            assert_eq!(rt; row.params(), letters.len(), "{name}");
-            assert_eq!(rt; row.acts, next > 28, "{name}");
-            assert_eq!(rt; condact_named(name.as_bytes()), Some(next));
-            let mut small = name.as_bytes().to_vec(rt.alloc())?;
-            small.make_ascii_lowercase();
-            assert_eq!(rt; condact_named(small.as_slice()), Some(next));
+            has_row(&rt, next, name, letters)?;
+            has_name(&rt, rt.alloc(), next, name)?;
             next = next.wrapping_add(1);
         }
     }
     assert_eq!(rt; next, 108);
+    Ok(())
+}
+
+/// Names of no condact.
+static OTHERS: [&str; 9] = [
+    "",
+    "A",
+    "AT ",
+    " AT",
+    "ATG",
+    "NOTCARRI",
+    "NOTCARRIED",
+    "XYZZY",
+    "@T",
+];
+
+#[test]
+fn other_codes_and_names_have_no_row(rt: HostRuntime) {
     assert_eq!(rt; condact_row(108), None);
     assert_eq!(rt; condact_row(255), None);
-    for name in [
-        "",
-        "A",
-        "AT ",
-        " AT",
-        "ATG",
-        "NOTCARRI",
-        "NOTCARRIED",
-        "XYZZY",
-        "@T",
-    ] {
+    for name in &OTHERS {
         assert_eq!(rt; condact_named(name.as_bytes()), None, "{name}");
     }
-    Ok(())
 }
 
 /// The named codes.

@@ -20,14 +20,12 @@ fn note(rt: &impl Abort, steps: &mut Steps, entry: u16) {
 #[test]
 fn the_first_thousand_steps_are_kept_and_all_are_counted(rt: HostRuntime) -> Result<(), Fail> {
     let mut steps = Steps::new();
-    assert!(rt; steps.rows().is_empty());
-    assert_eq!(rt; steps.count(), 0);
+    assert!(rt; steps.rows().is_empty() && steps.count() == 0);
     for entry in 0..1001 {
         note(&rt, &mut steps, entry);
     }
-    assert_eq!(rt; steps.rows().len(), 1000);
     assert_eq!(rt; steps.rows().last(), Some(&step(999)));
-    assert_eq!(rt; steps.count(), 1001);
+    assert_eq!(rt; (steps.rows().len(), steps.count()), (1000, 1001));
     steps.clear();
     note(&rt, &mut steps, 7);
     assert_eq!(rt; steps.rows(), [step(7)].as_slice());

@@ -174,24 +174,50 @@ fn answers(
     Ok(())
 }
 
+/// Calls over three files, and what they answer.
+static OF_FILES: [(Call<'static>, &[u8]); 8] = [
+    (Call::Write(2, b"XYZ"), b"DONE"),
+    (Call::Attach("second"), &[0]),
+    (Call::Write(0, b"12"), b"DONE"),
+    (Call::Attach("first"), &[5]),
+    (Call::Read(1, 3), b"bXY"),
+    (Call::Load("first"), b"abXYZ"),
+    (Call::Load("second"), b"12"),
+    (Call::Load("third"), b"ABSENT"),
+];
+
 #[test]
 fn a_store_is_a_file(rt: HostRuntime) -> Result<(), Fail> {
     let mut stage = with_file(rt.alloc(), 99, 99, "first", b"abc")?;
     attach(&rt, &mut stage, "first", 3);
-    let calls: [(Call<'_>, &[u8]); 8] = [
-        (Call::Write(2, b"XYZ"), b"DONE"),
-        (Call::Attach("second"), &[0]),
-        (Call::Write(0, b"12"), b"DONE"),
-        (Call::Attach("first"), &[5]),
-        (Call::Read(1, 3), b"bXY"),
-        (Call::Load("first"), b"abXYZ"),
-        (Call::Load("second"), b"12"),
-        (Call::Load("third"), b"ABSENT"),
-    ];
-    answers(&rt, rt.alloc(), &mut stage, &calls)?;
+    answers(&rt, rt.alloc(), &mut stage, &OF_FILES)?;
     assert_eq!(rt; stage.written(), 5);
     Ok(())
 }
+
+/// Calls between crashes, and what they answer.
+static WITH_CRASHES: [(Call<'static>, &[u8]); 11] = [
+    (Call::Crash, b"abcdef\nabcdef\nabcdef\nabcdef\n"),
+    (Call::Write(1, b"XY"), b"DONE"),
+    (Call::Write(6, b"gh"), b"DONE"),
+    (
+        Call::Crash,
+        b"abcdef\naXYdefgh\na\xFF\xFFdef\xFF\xFF\na\xFF\xFFdef\xFF\xFF\n",
+    ),
+    (Call::Sync, b"DONE"),
+    (Call::Write(0, b"1"), b"DONE"),
+    (
+        Call::Crash,
+        b"aXYdefgh\n1XYdefgh\n\xFFXYdefgh\n\xFFXYdefgh\n",
+    ),
+    (Call::Save("other", b"x"), b"DONE"),
+    (
+        Call::Crash,
+        b"aXYdefgh\n1XYdefgh\n\xFFXYdefgh\n\xFFXYdefgh\n",
+    ),
+    (Call::Save("store", b"new"), b"DONE"),
+    (Call::Crash, b"new\nnew\nnew\nnew\n"),
+];
 
 #[test]
 fn a_crash_leaves_by_its_pick(rt: HostRuntime) -> Result<(), Fail> {
@@ -199,48 +225,28 @@ fn a_crash_leaves_by_its_pick(rt: HostRuntime) -> Result<(), Fail> {
     let none = crashes(&stage, rt.alloc())?;
     assert_eq!(rt; none.as_slice(), b"\n\n\n\n".as_slice());
     attach(&rt, &mut stage, "store", 6);
-    let calls: [(Call<'_>, &[u8]); 11] = [
-        (Call::Crash, b"abcdef\nabcdef\nabcdef\nabcdef\n"),
-        (Call::Write(1, b"XY"), b"DONE"),
-        (Call::Write(6, b"gh"), b"DONE"),
-        (
-            Call::Crash,
-            b"abcdef\naXYdefgh\na\xFF\xFFdef\xFF\xFF\na\xFF\xFFdef\xFF\xFF\n",
-        ),
-        (Call::Sync, b"DONE"),
-        (Call::Write(0, b"1"), b"DONE"),
-        (
-            Call::Crash,
-            b"aXYdefgh\n1XYdefgh\n\xFFXYdefgh\n\xFFXYdefgh\n",
-        ),
-        (Call::Save("other", b"x"), b"DONE"),
-        (
-            Call::Crash,
-            b"aXYdefgh\n1XYdefgh\n\xFFXYdefgh\n\xFFXYdefgh\n",
-        ),
-        (Call::Save("store", b"new"), b"DONE"),
-        (Call::Crash, b"new\nnew\nnew\nnew\n"),
-    ];
-    answers(&rt, rt.alloc(), &mut stage, &calls)
+    answers(&rt, rt.alloc(), &mut stage, &WITH_CRASHES)
 }
+
+/// Calls up to the last that there is room for, and others, and what they answer.
+static OF_TOO_MANY: [(Call<'static>, &[u8]); 9] = [
+    (Call::Write(0, b"XYZ"), b"FAILED"),
+    (Call::Write(1, b"XY"), b"DONE"),
+    (Call::Write(0, b"X"), b"FAILED"),
+    (Call::Attach("s"), b"FAILED"),
+    (Call::Read(0, 3), b"aXY"),
+    (Call::Read(0, 3), b"FAILED"),
+    (Call::Write(0, b""), b"FAILED"),
+    (Call::Sync, b"FAILED"),
+    (Call::Crash, b"aXY\naXY\naXY\naXY\n"),
+];
 
 // The second store isn't attached where there is no room, once the first is synced.
 #[test]
 fn the_store_fails_where_the_room_is_used_up(rt: HostRuntime) -> Result<(), Fail> {
     let mut stage = with_file(rt.alloc(), 4, 7, "store", b"abc")?;
     attach(&rt, &mut stage, "store", 3);
-    let calls: [(Call<'_>, &[u8]); 9] = [
-        (Call::Write(0, b"XYZ"), b"FAILED"),
-        (Call::Write(1, b"XY"), b"DONE"),
-        (Call::Write(0, b"X"), b"FAILED"),
-        (Call::Attach("s"), b"FAILED"),
-        (Call::Read(0, 3), b"aXY"),
-        (Call::Read(0, 3), b"FAILED"),
-        (Call::Write(0, b""), b"FAILED"),
-        (Call::Sync, b"FAILED"),
-        (Call::Crash, b"aXY\naXY\naXY\naXY\n"),
-    ];
-    answers(&rt, rt.alloc(), &mut stage, &calls)?;
+    answers(&rt, rt.alloc(), &mut stage, &OF_TOO_MANY)?;
     assert_eq!(rt; stage.written(), 2);
     Ok(())
 }
@@ -259,47 +265,38 @@ fn crashes_after(stage: &MemoryStage, alloc: Global, last: u64, pick: u8) -> Res
     Ok(left)
 }
 
-#[test]
-fn a_crash_comes_right_after_a_call(rt: HostRuntime) -> Result<(), Fail> {
-    let mut stage = with_file(rt.alloc(), 99, 99, "store", b"abcdef")?;
-    assert_eq!(rt; stage.calls(), 0);
-    assert!(rt; stage.load(rt.alloc(), "store", 9).is_ok());
-    assert!(rt; stage.load(rt.alloc(), "absent", 9).is_err());
-    assert_eq!(rt; stage.calls(), 2);
-    attach(&rt, &mut stage, "store", 6);
-    let calls: [(Call<'_>, &[u8]); 3] = [
-        (Call::Write(1, b"XY"), b"DONE"),
-        (Call::Sync, b"DONE"),
-        (Call::Write(0, b"1"), b"DONE"),
-    ];
-    answers(&rt, rt.alloc(), &mut stage, &calls)?;
-    show_and_save(&rt, &mut stage)?;
-    for (pick, want) in [
-        (
-            0,
-            b"NONE\nNONE\nabcdef\nabcdef\naXYdef\naXYdef\naXYdef\nnew\nNONE\n".as_slice(),
-        ),
-        (
-            1,
-            b"NONE\nNONE\nabcdef\naXYdef\naXYdef\n1XYdef\n1XYdef\nnew\nNONE\n",
-        ),
-        (
-            2,
-            b"NONE\nNONE\nabcdef\na\xFF\xFFdef\naXYdef\n\xFFXYdef\n\xFFXYdef\nnew\nNONE\n",
-        ),
-    ] {
-        let left = crashes_after(&stage, rt.alloc(), 8, pick)?;
-        assert_eq!(rt; left.as_slice(), want, "{pick}");
-    }
-    assert!(rt; stage.crash_after(rt.alloc(), u64::MAX, 0)?.is_none());
+// Checks what crashes right after calls up to this one leave by a pick.
+fn crashes_leave(
+    rt: &impl Abort,
+    alloc: Global,
+    stage: &MemoryStage,
+    (last, pick, want): (u64, u8, &[u8]),
+) -> Result<(), Fail> {
+    let left = crashes_after(stage, alloc, last, pick)?;
+    assert_eq!(rt; left.as_slice(), want, "{pick}");
     Ok(())
 }
 
+// The calls 0 and 1, before a store is attached.
+fn load_twice(rt: &impl Abort, alloc: Global, stage: &mut MemoryStage)
+    requires stable { IsStable (standing_of stage.old).disk }
+    ensures stable { IsStable (standing_of stage.new).disk }
+{
+    assert!(rt; stage.load(alloc, "store", 9).is_ok());
+    assert!(rt; stage.load(alloc, "absent", 9).is_err());
+    assert_eq!(rt; stage.calls(), 2);
+}
+
+/// The calls 3 to 5.
+static WRITES: [(Call<'static>, &[u8]); 3] = [
+    (Call::Write(1, b"XY"), b"DONE"),
+    (Call::Sync, b"DONE"),
+    (Call::Write(0, b"1"), b"DONE"),
+];
+
 // The calls 6 and 7, with files that are added before them, and a call that is Failed, which has no number.
 fn show_and_save(rt: &impl Abort, stage: &mut MemoryStage) -> Result<(), Fail> {
-    assert_eq!(rt; stage.calls(), 6);
     stage.add_file("other", b"x")?;
-    assert_eq!(rt; stage.calls(), 6);
     assert!(rt; stage.show(&[b'.'; 99]).is_err());
     assert_eq!(rt; stage.calls(), 6);
     assert!(rt; stage.show(b"Hall.").is_ok());
@@ -309,17 +306,52 @@ fn show_and_save(rt: &impl Abort, stage: &mut MemoryStage) -> Result<(), Fail> {
     Ok(())
 }
 
+/// The last of the calls after which there is a crash, its pick, and what is left of the store after each.
+static LEFT: [(u64, u8, &[u8]); 3] = [
+    (
+        8,
+        0,
+        b"NONE\nNONE\nabcdef\nabcdef\naXYdef\naXYdef\naXYdef\nnew\nNONE\n",
+    ),
+    (
+        8,
+        1,
+        b"NONE\nNONE\nabcdef\naXYdef\naXYdef\n1XYdef\n1XYdef\nnew\nNONE\n",
+    ),
+    (
+        8,
+        2,
+        b"NONE\nNONE\nabcdef\na\xFF\xFFdef\naXYdef\n\xFFXYdef\n\xFFXYdef\nnew\nNONE\n",
+    ),
+];
+
+#[test]
+fn a_crash_comes_right_after_a_call(rt: HostRuntime) -> Result<(), Fail> {
+    let mut stage = with_file(rt.alloc(), 99, 99, "store", b"abcdef")?;
+    load_twice(&rt, rt.alloc(), &mut stage);
+    attach(&rt, &mut stage, "store", 6);
+    answers(&rt, rt.alloc(), &mut stage, &WRITES)?;
+    show_and_save(&rt, &mut stage)?;
+    for &row in &LEFT {
+        crashes_leave(&rt, rt.alloc(), &stage, row)?;
+    }
+    Ok(())
+}
+
+// Where there are two calls at most: the attach, and a write.
+fn attach_and_write(rt: &impl Abort, alloc: Global, stage: &mut MemoryStage) -> Result<(), Fail>
+    requires stable { IsStable (standing_of stage.old).disk }
+{
+    attach(rt, stage, "store", 0);
+    crashes_leave(rt, alloc, stage, (1, 1, b"\nNONE\n"))?;
+    let calls: [(Call<'_>, &[u8]); 2] = [(Call::Write(0, b"a"), b"DONE"), (Call::Sync, b"FAILED")];
+    answers(rt, alloc, stage, &calls)?;
+    crashes_leave(rt, alloc, stage, (2, 1, b"\na\nNONE\n"))
+}
+
 #[test]
 fn the_first_call_of_a_stage_has_number_0(rt: HostRuntime) -> Result<(), Fail> {
     let mut stage = MemoryStage::new(rt.alloc(), 2, 9)?;
-    assert!(rt; stage.crash_after(rt.alloc(), 0, 1)?.is_none());
-    attach(&rt, &mut stage, "store", 0);
-    let left = crashes_after(&stage, rt.alloc(), 1, 1)?;
-    assert_eq!(rt; left.as_slice(), b"\nNONE\n".as_slice());
-    let calls: [(Call<'_>, &[u8]); 2] = [(Call::Write(0, b"a"), b"DONE"), (Call::Sync, b"FAILED")];
-    answers(&rt, rt.alloc(), &mut stage, &calls)?;
-    assert_eq!(rt; stage.calls(), 2);
-    let left = crashes_after(&stage, rt.alloc(), 2, 1)?;
-    assert_eq!(rt; left.as_slice(), b"\na\nNONE\n".as_slice());
-    Ok(())
+    crashes_leave(&rt, rt.alloc(), &stage, (1, 1, b"NONE\nNONE\n"))?;
+    attach_and_write(&rt, rt.alloc(), &mut stage)
 }

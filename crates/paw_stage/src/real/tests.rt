@@ -81,45 +81,47 @@ fn word(alloc: Global, fine: bool) -> Result<Vec<u8>, AllocError> {
     Vec::from_slice(alloc, if fine { b"DONE" } else { b"FAILED" })
 }
 
+/// Calls over two files, and what they answer.
+static OF_FILES: [(Call<'static>, &[u8]); 33] = [
+    (Call::Read(0, 0), b"FAILED"),
+    (Call::Write(0, b"x"), b"FAILED"),
+    (Call::Sync, b"FAILED"),
+    (Call::Attach("./paw_stage_store"), &[0]),
+    (Call::Read(0, 0), b""),
+    (Call::Read(0, 1), b"FAILED"),
+    (Call::Write(0, b"abcdef"), b"DONE"),
+    (Call::Read(2, 3), b"cde"),
+    (Call::Write(4, b"XYZ"), b"DONE"),
+    (Call::Sync, b"DONE"),
+    (Call::Read(0, 7), b"abcdXYZ"),
+    (Call::Read(0, 8), b"FAILED"),
+    (Call::Read(u64::MAX, 1), b"FAILED"),
+    (Call::Write(u64::MAX, b"x"), b"FAILED"),
+    (Call::Attach("paw_stage_other"), &[0]),
+    (Call::Write(0, b"other"), b"DONE"),
+    (Call::Sync, b"DONE"),
+    (Call::Attach("paw_stage_store"), &[7]),
+    (Call::Read(3, 2), b"dX"),
+    (Call::Attach("paw_stage_store/game"), b"FAILED"),
+    (Call::Attach("paw_stage_no_folder/game"), b"FAILED"),
+    (Call::Attach("."), b"FAILED"),
+    (Call::Attach("/dev/null"), b"FAILED"),
+    (Call::Read(0, 1), b"FAILED"),
+    (Call::Attach("paw_stage_store"), &[7]),
+    (Call::Read(0, 1), b"a"),
+    (Call::Load("paw_stage_store"), b"abcdXYZ"),
+    (Call::Save("paw_stage_store", b"new"), b"DONE"),
+    (Call::Read(0, 3), b"new"),
+    (Call::Write(3, b"er"), b"DONE"),
+    (Call::Load("paw_stage_store"), b"newer"),
+    (Call::Read(0, 6), b"FAILED"),
+    (Call::Load("paw_stage_other"), b"other"),
+];
+
 #[test]
 fn a_real_file_is_a_store(rt: HostRuntime) -> Result<(), Fail> {
     let mut stage = RealStage::new(&rt);
-    let calls: [(Call<'_>, &[u8]); 33] = [
-        (Call::Read(0, 0), b"FAILED"),
-        (Call::Write(0, b"x"), b"FAILED"),
-        (Call::Sync, b"FAILED"),
-        (Call::Attach("./paw_stage_store"), &[0]),
-        (Call::Read(0, 0), b""),
-        (Call::Read(0, 1), b"FAILED"),
-        (Call::Write(0, b"abcdef"), b"DONE"),
-        (Call::Read(2, 3), b"cde"),
-        (Call::Write(4, b"XYZ"), b"DONE"),
-        (Call::Sync, b"DONE"),
-        (Call::Read(0, 7), b"abcdXYZ"),
-        (Call::Read(0, 8), b"FAILED"),
-        (Call::Read(u64::MAX, 1), b"FAILED"),
-        (Call::Write(u64::MAX, b"x"), b"FAILED"),
-        (Call::Attach("paw_stage_other"), &[0]),
-        (Call::Write(0, b"other"), b"DONE"),
-        (Call::Sync, b"DONE"),
-        (Call::Attach("paw_stage_store"), &[7]),
-        (Call::Read(3, 2), b"dX"),
-        (Call::Attach("paw_stage_store/game"), b"FAILED"),
-        (Call::Attach("paw_stage_no_folder/game"), b"FAILED"),
-        (Call::Attach("."), b"FAILED"),
-        (Call::Attach("/dev/null"), b"FAILED"),
-        (Call::Read(0, 1), b"FAILED"),
-        (Call::Attach("paw_stage_store"), &[7]),
-        (Call::Read(0, 1), b"a"),
-        (Call::Load("paw_stage_store"), b"abcdXYZ"),
-        (Call::Save("paw_stage_store", b"new"), b"DONE"),
-        (Call::Read(0, 3), b"new"),
-        (Call::Write(3, b"er"), b"DONE"),
-        (Call::Load("paw_stage_store"), b"newer"),
-        (Call::Read(0, 6), b"FAILED"),
-        (Call::Load("paw_stage_other"), b"other"),
-    ];
-    answers(&rt, rt.alloc(), &mut stage, &calls)?;
+    answers(&rt, rt.alloc(), &mut stage, &OF_FILES)?;
     remove(&rt, &["paw_stage_store", "paw_stage_other"])?;
     Ok(())
 }
@@ -137,32 +139,42 @@ fn has_alone<R: Files<File = File> + Input + Print + Alloc + Drop>(
     }
 }
 
+/// The stores of the first stage, and two that it has at the same time.
+static LOCKED: [&str; 5] = [
+    "paw_stage_locked",
+    "./paw_stage_locked",
+    "paw_stage_locked_link",
+    "paw_stage_unlocked",
+    "paw_stage_locked",
+];
+
+/// The files that are left of them.
+static LEFT_OF_LOCKED: [&str; 3] = [
+    "paw_stage_locked_link",
+    "paw_stage_locked",
+    "paw_stage_unlocked",
+];
+
+// The first stage has each of its stores alone, until it is dropped.
+fn first_has_alone<R: Files<File = File> + Input + Print + Alloc + Drop>(
+    rt: &impl Abort,
+    mut first: RealStage<R>,
+    other: &mut RealStage<R>,
+) {
+    has_alone(rt, &mut first, other, &LOCKED);
+    assert!(rt; other.attach("paw_stage_unlocked").is_ok());
+    assert!(rt; other.attach("paw_stage_locked").is_err());
+    assert!(rt; first.write_at(0, b"bytes").is_ok());
+}
+
 // The other stage stands for another program: an open of a file of its own is what a lock is held by.
 #[test]
 fn one_program_at_a_time_has_a_store(rt: HostRuntime) -> Result<(), Fail> {
     symlink(&rt, "paw_stage_locked", "paw_stage_locked_link")?;
     let mut other = RealStage::new(&rt);
-    {
-        let mut first = RealStage::new(&rt);
-        let names = [
-            "paw_stage_locked",
-            "./paw_stage_locked",
-            "paw_stage_locked_link",
-            "paw_stage_unlocked",
-            "paw_stage_locked",
-        ];
-        has_alone(&rt, &mut first, &mut other, &names);
-        assert!(rt; other.attach("paw_stage_unlocked").is_ok());
-        assert!(rt; other.attach("paw_stage_locked").is_err());
-        assert!(rt; first.write_at(0, b"bytes").is_ok());
-    }
+    first_has_alone(&rt, RealStage::new(&rt), &mut other);
     assert_eq!(rt; other.attach("paw_stage_locked").ok(), Some(5));
-    let names = [
-        "paw_stage_locked_link",
-        "paw_stage_locked",
-        "paw_stage_unlocked",
-    ];
-    remove(&rt, &names)?;
+    remove(&rt, &LEFT_OF_LOCKED)?;
     Ok(())
 }
 
@@ -182,41 +194,54 @@ fn remove_links(files: &impl Files) -> io::Result<()> {
     fs::remove_dir(files, "paw_stage_folder")
 }
 
+/// Calls over links and what they lead to, and what they answer.
+static OF_LINKS: [(Call<'static>, &[u8]); 9] = [
+    (Call::Attach("paw_stage_link"), &[0]),
+    (Call::Write(0, b"abc"), b"DONE"),
+    (Call::Sync, b"DONE"),
+    (Call::Attach("paw_stage_folder/store"), &[3]),
+    (Call::Attach("paw_stage_link"), &[3]),
+    (Call::Save("paw_stage_link", b"longer"), b"DONE"),
+    (Call::Load("paw_stage_folder/store"), b"longer"),
+    (Call::Attach("paw_stage_dead"), b"FAILED"),
+    (Call::Save("paw_stage_dead", b"x"), b"FAILED"),
+];
+
 // A link that leads nowhere makes the file that it names, in the folder of that name.
 #[test]
 fn a_link_is_the_file_that_it_leads_to(rt: HostRuntime) -> Result<(), Fail> {
     make_links(&rt)?;
     let mut stage = RealStage::new(&rt);
-    let calls: [(Call<'_>, &[u8]); 9] = [
-        (Call::Attach("paw_stage_link"), &[0]),
-        (Call::Write(0, b"abc"), b"DONE"),
-        (Call::Sync, b"DONE"),
-        (Call::Attach("paw_stage_folder/store"), &[3]),
-        (Call::Attach("paw_stage_link"), &[3]),
-        (Call::Save("paw_stage_link", b"longer"), b"DONE"),
-        (Call::Load("paw_stage_folder/store"), b"longer"),
-        (Call::Attach("paw_stage_dead"), b"FAILED"),
-        (Call::Save("paw_stage_dead", b"x"), b"FAILED"),
-    ];
-    answers(&rt, rt.alloc(), &mut stage, &calls)?;
+    answers(&rt, rt.alloc(), &mut stage, &OF_LINKS)?;
     remove_links(&rt)?;
     Ok(())
 }
 
-// Over a shorter file, one of the same length, a longer one and an empty one.
+// Saves a text, and loads it.
+fn save_and_load<R: Files<File = File> + Input + Print + Alloc + Drop>(
+    rt: &impl Abort,
+    alloc: Global,
+    stage: &mut RealStage<R>,
+    text: &[u8],
+) -> Result<(), Fail> {
+    let calls = [
+        (Call::Save("paw_stage_saved", text), b"DONE".as_slice()),
+        (Call::Load("paw_stage_saved"), text),
+    ];
+    answers(rt, alloc, stage, &calls)
+}
+
+/// Texts over a shorter file, one of the same length, a longer one and an empty one.
+static SAVED: [&[u8]; 7] = [b"ab", b"abcdef", b"ABCDEF", b"xyz", b"", b"", b"end"];
+
 #[test]
 fn a_file_holds_what_was_saved_last(rt: HostRuntime) -> Result<(), Fail> {
     let mut stage = RealStage::new(&rt);
-    let texts: [&[u8]; 7] = [b"ab", b"abcdef", b"ABCDEF", b"xyz", b"", b"", b"end"];
-    for text in texts {
-        let calls = [
-            (Call::Save("paw_stage_saved", text), b"DONE".as_slice()),
-            (Call::Load("paw_stage_saved"), text),
-        ];
-        answers(&rt, rt.alloc(), &mut stage, &calls)?;
+    for &text in &SAVED {
+        save_and_load(&rt, rt.alloc(), &mut stage, text)?;
     }
-    let answer = answer_of_call(&mut stage, rt.alloc(), Call::Save("/dev/full", b"x"))?;
-    assert_eq!(rt; answer.as_slice(), b"FAILED".as_slice());
+    let full: [(Call<'_>, &[u8]); 1] = [(Call::Save("/dev/full", b"x"), b"FAILED")];
+    answers(&rt, rt.alloc(), &mut stage, &full)?;
     fs::remove_file(&rt, "paw_stage_saved")?;
     Ok(())
 }

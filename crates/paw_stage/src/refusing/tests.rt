@@ -7,6 +7,7 @@ ghost use Rattle.paw_stage.specs.inner.Memory.{standing_of};
 use crate::{Asked, FailStage, MemoryStage, Stage, StopStage};
 use paw_base::fault::NoRoom;
 use std::alloc::Global;
+use std::process::Abort;
 use std::test::Fail;
 
 // How many of these calls in a row are answered well: attach a store, write three bytes to it, sync it, and read them.
@@ -47,34 +48,64 @@ fn with_line(alloc: Global) -> Result<MemoryStage, NoRoom>
     Ok(stage)
 }
 
+/// After how many calls a stage stops, how many bytes are written then, and how many of the other calls are answered
+/// well.
+static STOPS: [(u64, u64, u64); 8] = [
+    (0, 0, 0),
+    (1, 0, 0),
+    (2, 3, 0),
+    (3, 3, 0),
+    (4, 3, 0),
+    (6, 3, 2),
+    (8, 3, 4),
+    (u64::MAX, 3, 4),
+];
+
+// Checks what is done of a stage that stops after this number of calls.
+fn stops_after(
+    rt: &impl Abort,
+    alloc: Global,
+    stage: &mut StopStage,
+    (passes, written, others): (u64, u64, u64),
+) {
+    assert_eq!(rt; others_done(stage, alloc), others, "{passes}");
+    assert_eq!(rt; stage.inner().written(), written, "{passes}");
+}
+
 #[test]
 fn a_stage_stops_after_so_many_calls(rt: HostRuntime) -> Result<(), Fail> {
-    for (passes, written, others) in [
-        (0, 0, 0),
-        (1, 0, 0),
-        (2, 3, 0),
-        (3, 3, 0),
-        (4, 3, 0),
-        (6, 3, 2),
-        (8, 3, 4),
-        (u64::MAX, 3, 4),
-    ] {
-        let mut stage = StopStage::new(with_line(rt.alloc())?, passes);
-        assert_eq!(rt; calls_done(&mut stage), passes.min(4), "{passes}");
-        assert_eq!(rt; stage.inner().written(), written, "{passes}");
-        assert_eq!(rt; others_done(&mut stage, rt.alloc()), others, "{passes}");
-        assert_eq!(rt; stage.inner().written(), written, "{passes}");
+    for &row in &STOPS {
+        let mut stage = StopStage::new(with_line(rt.alloc())?, row.0);
+        let done = calls_done(&mut stage);
+        assert_eq!(rt; done, row.0.min(4));
+        stops_after(&rt, rt.alloc(), &mut stage, row);
     }
     Ok(())
 }
 
+/// The number of the call that fails, and how many of the other calls are answered well.
+static LISTED: [(u64, u64); 6] = [(0, 4), (1, 4), (2, 4), (3, 4), (5, 3), (9, 4)];
+
 #[test]
 fn one_listed_call_fails_and_later_ones_pass(rt: HostRuntime) -> Result<(), Fail> {
-    for (listed, others) in [(0, 4), (1, 4), (2, 4), (3, 4), (5, 3), (9, 4)] {
+    for &(listed, others) in &LISTED {
         let mut stage = FailStage::new(with_line(rt.alloc())?, [listed].to_vec(rt.alloc())?);
-        assert_eq!(rt; calls_done(&mut stage), listed.min(4), "{listed}");
-        assert_eq!(rt; others_done(&mut stage, rt.alloc()), others, "{listed}");
+        let done = calls_done(&mut stage);
+        let others_too = others_done(&mut stage, rt.alloc());
+        assert_eq!(rt; (done, others_too), (listed.min(4), others), "{listed}");
     }
+    Ok(())
+}
+
+// Checks what a crash right after a call leaves, where the stage above stopped.
+fn crash_leaves(
+    rt: &impl Abort,
+    alloc: Global,
+    stage: &MemoryStage,
+    (call, want): (u64, Option<&[u8]>),
+) -> Result<(), Fail> {
+    let left = stage.crash_after(alloc, call, 1)?;
+    assert_eq!(rt; left.as_ref().map(|bytes| bytes.as_slice()), want, "{call}");
     Ok(())
 }
 
@@ -83,13 +114,7 @@ fn a_call_that_is_made_to_fail_is_no_call_below(rt: HostRuntime) -> Result<(), F
     let mut stage = StopStage::new(with_line(rt.alloc())?, 2);
     assert_eq!(rt; calls_done(&mut stage), 2);
     assert_eq!(rt; stage.inner().calls(), 2);
-    for (call, want) in [
-        (0, Some(b"".as_slice())),
-        (1, Some(b"abc".as_slice())),
-        (2, None),
-    ] {
-        let left = stage.inner().crash_after(rt.alloc(), call, 1)?;
-        assert_eq!(rt; left.as_ref().map(|bytes| bytes.as_slice()), want, "{call}");
-    }
-    Ok(())
+    crash_leaves(&rt, rt.alloc(), stage.inner(), (0, Some(b"")))?;
+    crash_leaves(&rt, rt.alloc(), stage.inner(), (1, Some(b"abc")))?;
+    crash_leaves(&rt, rt.alloc(), stage.inner(), (2, None))
 }

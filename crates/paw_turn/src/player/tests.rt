@@ -17,9 +17,10 @@ use paw_base::steps::StepRow;
 use paw_effects::act::Prompt;
 use paw_game::game::Game;
 use paw_phrase::Pending;
-use paw_process::{Machine, Surroundings};
+use paw_process::{Frames, Machine, Surroundings};
 use paw_routines::routines::Routines;
 use paw_world::world::World;
+use std::alloc::{AllocError, Global};
 use std::process::Abort;
 use std::test::Fail;
 
@@ -64,6 +65,8 @@ const GOODBYE: Brought = (Step::Ended, "Goodbye.\n");
 
 const OVER: Brought = (Step::Ended, "");
 
+const UNKNOWN: Brought = (MAIN, "I don't understand.\nWhat now?\n> ");
+
 const TOO_DEEP: Brought = (Step::TooDeep { table: 5 }, "");
 
 const READS_TOO_MUCH: Brought = (Step::Spent(SpentKind::Condacts), "");
@@ -80,7 +83,7 @@ const IGNORED_AT_AGAIN: Taken = ("~", (Step::Waits(Prompt::Again), ""));
 const IGNORED_AT_KEY: Taken = ("~", (Step::Waits(Prompt::Key), ""));
 
 /// Lines that lead to each prompt, and from each on.
-const CASES: [&[Taken]; 14] = [
+static CASES: [&[Taken]; 14] = [
     // The loop of the outer table goes on after the question in the called one.
     &[
         ("SHAKE ALL", SURE),
@@ -174,11 +177,19 @@ const CASES: [&[Taken]; 14] = [
     ],
 ];
 
-/// Lines after which a player is finished, and what it answers then.
-const FINISHING: [Taken; 3] = [
-    ("DEEP", TOO_DEEP),
-    ("SPIN", READS_TOO_MUCH),
-    ("FALL", TELLS_TOO_MUCH),
+/// Lines after which a player is finished, and what it answers from then on.
+static FINISHING: [&[Taken]; 3] = [
+    &[("DEEP", TOO_DEEP), ("LOOK", TOO_DEEP), ("~", TOO_DEEP)],
+    &[
+        ("SPIN", READS_TOO_MUCH),
+        ("LOOK", READS_TOO_MUCH),
+        ("~", READS_TOO_MUCH),
+    ],
+    &[
+        ("FALL", TELLS_TOO_MUCH),
+        ("LOOK", TELLS_TOO_MUCH),
+        ("~", TELLS_TOO_MUCH),
+    ],
 ];
 
 // Whether a player with this end is neither spent nor too deep.
@@ -336,71 +347,102 @@ fn begin_again<F: Fn(u8, u8) -> u8>(
     compare(rt, player, first, "the start", Between::Nothing);
 }
 
+// A player takes these lines after a start that brings this; what each brings is compared.
+fn play_lines<R: Abort + AllocGlobal>(
+    rt: &R,
+    game: &Game,
+    first: Brought,
+    between: Between,
+    lines: &[Taken],
+) -> Result<(), Fail> {
+    let routines = Routines::new(0, |_, x| x);
+    let player = player_after_start(rt, game, &routines, first)?;
+    take_all(rt, player, between, lines)?;
+    Ok(())
+}
+
 #[test]
 fn players_go_on_from_what_was_kept(rt: HostRuntime) -> Result<(), Fail> {
     let game = asking_game(rt.alloc())?;
-    let routines = Routines::new(0, |_, x| x);
-    for between in [Between::Nothing, Between::Adopting, Between::Seating] {
-        for case in CASES {
-            let player = player_after_start(&rt, &game, &routines, HALL)?;
-            take_all(&rt, player, between, case)?;
-        }
+    for &case in &CASES {
+        play_lines(&rt, &game, HALL, Between::Nothing, case)?;
+        play_lines(&rt, &game, HALL, Between::Adopting, case)?;
+        play_lines(&rt, &game, HALL, Between::Seating, case)?;
     }
+    Ok(())
+}
+
+// A player takes these lines, begins again, and takes others.
+fn play_again<R: Abort + AllocGlobal>(
+    rt: &R,
+    game: &Game,
+    before: &[Taken],
+    lines: &[Taken],
+) -> Result<(), Fail> {
+    let routines = Routines::new(0, |_, x| x);
+    let player = player_after_start(rt, game, &routines, HALL)?;
+    let mut player = take_all(rt, player, Between::Nothing, before)?;
+    begin_again(rt, &mut player, HALL);
+    take_all(rt, player, Between::Nothing, lines)?;
     Ok(())
 }
 
 #[test]
 fn renewed_players_begin_again(rt: HostRuntime) -> Result<(), Fail> {
     let game = asking_game(rt.alloc())?;
-    let routines = Routines::new(0, |_, x| x);
-    for case in CASES {
-        for before in CASES {
-            let player = player_after_start(&rt, &game, &routines, HALL)?;
-            let mut player = take_all(&rt, player, Between::Nothing, before)?;
-            begin_again(&rt, &mut player, HALL);
-            take_all(&rt, player, Between::Nothing, case)?;
+    for &case in &CASES {
+        for &before in &CASES {
+            play_again(&rt, &game, before, case)?;
         }
     }
+    Ok(())
+}
+
+// A player is over after these lines.
+fn is_over_after<R: Abort + AllocGlobal>(rt: &R, game: &Game, lines: &[Taken]) -> Result<(), Fail> {
+    let routines = Routines::new(0, |_, x| x);
+    let player = player_after_start(rt, game, &routines, HALL)?;
+    let player = take_all(rt, player, Between::Nothing, lines)?;
+    assert_eq!(rt; player.parts().prompt, Prompt::Over);
     Ok(())
 }
 
 #[test]
 fn finished_players_answer_the_same(rt: HostRuntime) -> Result<(), Fail> {
     let game = asking_game(rt.alloc())?;
-    let routines = Routines::new(0, |_, x| x);
-    for (line, brought) in FINISHING {
-        let lines = [(line, brought), ("LOOK", brought), ("~", brought)];
-        let player = player_after_start(&rt, &game, &routines, HALL)?;
-        let player = take_all(&rt, player, Between::Nothing, &lines)?;
-        assert_eq!(rt; player.parts().prompt, Prompt::Over);
+    for &lines in &FINISHING {
+        is_over_after(&rt, &game, lines)?;
     }
     Ok(())
+}
+
+// What is kept of the machine of a player that waits for a key.
+fn frames_at_key<R: Abort + AllocGlobal>(rt: &R, game: &Game) -> Result<Frames, Fail> {
+    let routines = Routines::new(0, |_, x| x);
+    let player = player_after_start(rt, game, &routines, HALL)?;
+    let player = take_all(rt, player, Between::Nothing, &[("TWIST ALL", KEY)])?;
+    Ok(player.parts().machine.frames())
 }
 
 #[test]
 fn a_player_waits_where_its_tables_stand(rt: HostRuntime) -> Result<(), Fail> {
     let game = asking_game(rt.alloc())?;
-    let routines = Routines::new(0, |_, x| x);
-    let player = player_after_start(&rt, &game, &routines, HALL)?;
-    let player = take_all(&rt, player, Between::Nothing, &[("TWIST ALL", KEY)])?;
-    assert_eq!(rt; player.parts().machine.frames(), kept::waiting());
+    let frames = frames_at_key(&rt, &game)?;
+    assert!(rt; frames == kept::waiting());
     Ok(())
+}
+
+// A player of a game whose first room has this text is spent from its start on.
+fn is_spent<R: Abort + AllocGlobal>(rt: &R, location: &str, spent: Brought) -> Result<(), Fail> {
+    let game = endless_game(rt.alloc(), location)?;
+    let lines = [("LOOK", spent), ("~", spent)];
+    play_lines(rt, &game, spent, Between::Nothing, &lines)
 }
 
 #[test]
 fn players_that_never_come_to_a_prompt_are_spent(rt: HostRuntime) -> Result<(), Fail> {
-    for (location, spent) in [("", READS_TOO_MUCH), ("A cave.", TELLS_TOO_MUCH)] {
-        let game = endless_game(rt.alloc(), location)?;
-        let routines = Routines::new(0, |_, x| x);
-        let player = player_after_start(&rt, &game, &routines, spent)?;
-        take_all(
-            &rt,
-            player,
-            Between::Nothing,
-            &[("LOOK", spent), ("~", spent)],
-        )?;
-    }
-    Ok(())
+    is_spent(&rt, "", READS_TOO_MUCH)?;
+    is_spent(&rt, "A cave.", TELLS_TOO_MUCH)
 }
 
 // The step of a condact, and whether it has a yes.
@@ -430,47 +472,58 @@ fn nested_steps() -> [StepRow; 31] {
 }
 
 // Compares the steps of the last of these lines.
-fn compare_steps<R: Abort + AllocGlobal, F: Fn(u8, u8) -> u8>(
+fn compare_steps<R: Abort + AllocGlobal>(
     rt: &R,
     game: &Game,
-    routines: &Routines<F>,
     lines: &[Taken],
     steps: &[StepRow],
-) -> Result<(), Fail>
-    requires answers { HaveAnswers F.Fn routines.now }
-{
-    let player = player_after_start(rt, game, routines, HALL)?;
+) -> Result<(), Fail> {
+    let routines = Routines::new(0, |_, x| x);
+    let player = player_after_start(rt, game, &routines, HALL)?;
     let player = take_all(rt, player, Between::Nothing, lines)?;
-    assert_eq!(rt; player.steps().rows(), steps, "{lines:?}");
-    assert_eq!(rt; player.steps().count() as usize, steps.len(), "{lines:?}");
+    assert_eq!(rt; player.steps().rows(), steps);
+    assert_eq!(rt; player.steps().count() as usize, steps.len());
     Ok(())
+}
+
+/// A step as a row: its table, its entry, its place, its condact, and whether it has a yes.
+type Told = (u8, u16, u8, u8, bool);
+
+/// Lines, and the steps of the last of them.
+static STEPS: [(&[Taken], &[Told]); 6] = [
+    (
+        &[("TWIST ALL", KEY)],
+        &[
+            (0, 2, 0, DOALL, true),
+            (0, 3, 0, PROCESS, true),
+            (4, 0, 0, DOALL, true),
+            (4, 1, 0, ANYKEY, true),
+        ],
+    ),
+    // A late line that is ignored leaves no steps.
+    (&[("TWIST ALL", KEY), IGNORED_AT_KEY], &[]),
+    (&[("QUIT", SURE)], &[(0, 6, 0, QUIT, true)]),
+    (&[("QUIT", SURE), ("Y", AGAIN)], &[(0, 6, 1, END, true)]),
+    (&[("QUIT", SURE), ("N", PROMPT)], &[]),
+    (&[("XYZZY", UNKNOWN)], &[]),
+];
+
+// The steps of these rows.
+fn steps_of(alloc: Global, rows: &[Told]) -> Result<Vec<StepRow>, AllocError> {
+    let mut steps = Vec::new(alloc);
+    for &(table, entry, at, code, yes) in rows {
+        steps.push(step(table, entry, at, code, yes))?;
+    }
+    Ok(steps)
 }
 
 #[test]
 fn a_player_keeps_the_steps_of_the_last_piece(rt: HostRuntime) -> Result<(), Fail> {
     let game = asking_game(rt.alloc())?;
-    let routines = Routines::new(0, |_, x| x);
-    let loops = [
-        step(0, 2, 0, DOALL, true),
-        step(0, 3, 0, PROCESS, true),
-        step(4, 0, 0, DOALL, true),
-        step(4, 1, 0, ANYKEY, true),
-    ];
-    let nests = nested_steps();
-    let asks = [step(0, 6, 0, QUIT, true)];
-    let ends = [step(0, 6, 1, END, true)];
-    let unknown = (MAIN, "I don't understand.\nWhat now?\n> ");
-    compare_steps(&rt, &game, &routines, &[("TWIST ALL", KEY)], &loops)?;
+    for &(lines, rows) in &STEPS {
+        let steps = steps_of(rt.alloc(), rows)?;
+        compare_steps(&rt, &game, lines, steps.as_slice())?;
+    }
     // Steps go as deep as calls do.
-    compare_steps(&rt, &game, &routines, &[("NEST", OKAY)], &nests)?;
-    // A late line that is ignored leaves no steps.
-    let ignored = [("TWIST ALL", KEY), IGNORED_AT_KEY];
-    compare_steps(&rt, &game, &routines, &ignored, &[])?;
-    compare_steps(&rt, &game, &routines, &[("QUIT", SURE)], &asks)?;
-    let quits = [("QUIT", SURE), ("Y", AGAIN)];
-    compare_steps(&rt, &game, &routines, &quits, &ends)?;
-    let stays = [("QUIT", SURE), ("N", PROMPT)];
-    compare_steps(&rt, &game, &routines, &stays, &[])?;
-    compare_steps(&rt, &game, &routines, &[("XYZZY", unknown)], &[])?;
-    Ok(())
+    compare_steps(&rt, &game, &[("NEST", OKAY)], &nested_steps())
 }

@@ -5,6 +5,7 @@ use paw_effects::act::Prompt;
 use paw_game::game::Game;
 use paw_process::{Frames, Machine};
 use paw_reading::places::{Frame, OpenLoop};
+use std::process::Abort;
 use std::test::Fail;
 
 fn row(table: u8, entry: u16, at: u8, acted: bool) -> Frame {
@@ -67,7 +68,7 @@ fn refused_at(game: &Game, kept: &Frames, prompt: Prompt) -> Option<u8> {
 }
 
 /// A depth, the row that is put there, and where that is refused.
-const ROWS: [(usize, (u8, u16, u8, bool), Option<u8>); 19] = [
+static ROWS: [(usize, (u8, u16, u8, bool), Option<u8>); 19] = [
     // Whether an action was carried out is free.
     (0, (0, 3, 0, false), None),
     (1, (4, 1, 0, false), None),
@@ -94,28 +95,30 @@ const ROWS: [(usize, (u8, u16, u8, bool), Option<u8>); 19] = [
     (10, (4, 1, 0, true), Some(10)),
 ];
 
+// Checks where frames are refused at the key with this row at a depth, and with it at the greatest depth too.
+fn row_is_refused(rt: &impl Abort, game: &Game, depth: usize, row: Frame, fault: Option<u8>) {
+    let mut kept = waiting();
+    if let Some(place) = kept.rows.get_mut(depth) {
+        *place = row;
+    }
+    assert_eq!(rt; refused_at(game, &kept, Prompt::Key), fault, "{depth}");
+    // The least depth is named.
+    kept.rows[10] = row;
+    let least = fault.or(Some(10));
+    assert_eq!(rt; refused_at(game, &kept, Prompt::Key), least, "{depth}");
+}
+
 #[test]
 fn rows_are_refused_by_their_depth(rt: HostRuntime) -> Result<(), Fail> {
-    let alloc = rt.alloc();
-    let game = asking_game(alloc)?;
-    for (depth, (table, entry, at, acted), fault) in ROWS {
-        let row = row(table, entry, at, acted);
-        let mut kept = waiting();
-        if let Some(place) = kept.rows.get_mut(depth) {
-            *place = row;
-        }
-        let found = refused_at(&game, &kept, Prompt::Key);
-        assert_eq!(rt; found, fault, "{depth}: {row:?}");
-        // The least depth is named.
-        kept.rows[10] = row;
-        let least = refused_at(&game, &kept, Prompt::Key);
-        assert_eq!(rt; least, fault.or(Some(10)), "{depth}: {row:?}");
+    let game = asking_game(rt.alloc())?;
+    for &(depth, (table, entry, at, acted), fault) in &ROWS {
+        row_is_refused(&rt, &game, depth, row(table, entry, at, acted), fault);
     }
     Ok(())
 }
 
 /// Open loops, and where they are refused.
-const LOOPS: [((u8, u8, u16, u8, u8, u8), Option<u8>); 19] = [
+static LOOPS: [((u8, u8, u16, u8, u8, u8), Option<u8>); 19] = [
     ((1, 4, 0, 0, 254, 2), None),
     ((1, 4, 0, 0, 3, 0), None),
     ((1, 4, 0, 0, 252, 1), None),
@@ -141,73 +144,92 @@ const LOOPS: [((u8, u8, u16, u8, u8, u8), Option<u8>); 19] = [
     ((1, 4, 0, 0, 254, 255), Some(11)),
 ];
 
+// Checks where frames are refused at the key with this loop, and with it and a row that breaks a rule.
+fn loop_is_refused(rt: &impl Abort, game: &Game, turning: OpenLoop, fault: Option<u8>) {
+    let mut kept = waiting();
+    kept.turning = Some(turning);
+    assert_eq!(rt; refused_at(game, &kept, Prompt::Key), fault, "{turning:?}");
+    // A row that breaks a rule comes first.
+    kept.rows[1] = UNUSED;
+    let first = Some(1);
+    assert_eq!(rt; refused_at(game, &kept, Prompt::Key), first, "{turning:?}");
+}
+
 #[test]
 fn loops_are_refused_behind_the_rows(rt: HostRuntime) -> Result<(), Fail> {
-    let alloc = rt.alloc();
-    let game = asking_game(alloc)?;
-    for ((level, table, entry, at, place, last), fault) in LOOPS {
+    let game = asking_game(rt.alloc())?;
+    for &((level, table, entry, at, place, last), fault) in &LOOPS {
         let turning = turning(level, table, entry, at, place, last);
-        let mut kept = waiting();
-        kept.turning = Some(turning);
-        let found = refused_at(&game, &kept, Prompt::Key);
-        assert_eq!(rt; found, fault, "{turning:?}");
-        // A row that breaks a rule comes first.
-        kept.rows[1] = UNUSED;
-        let first = refused_at(&game, &kept, Prompt::Key);
-        assert_eq!(rt; first, Some(1), "{turning:?}");
+        loop_is_refused(&rt, &game, turning, fault);
+    }
+    Ok(())
+}
+
+const QUITTING: Frame = Frame {
+    table: 0,
+    entry: 6,
+    at: 0,
+    acted: false,
+};
+
+const ENDING: Frame = Frame { at: 1, ..QUITTING };
+
+const CALLING: Frame = Frame {
+    table: 0,
+    entry: 1,
+    at: 0,
+    acted: false,
+};
+
+const CALLED: Frame = Frame {
+    table: 3,
+    entry: 0,
+    at: 0,
+    acted: false,
+};
+
+/// A prompt, how many tables are open, the first rows, and where they are refused.
+static PROMPTS: [(Prompt, u8, Frame, Frame, Option<u8>); 17] = [
+    (Prompt::Main, 0, UNUSED, UNUSED, None),
+    (Prompt::Over, 0, UNUSED, UNUSED, None),
+    (Prompt::Quit, 1, QUITTING, UNUSED, None),
+    (Prompt::Again, 1, ENDING, UNUSED, None),
+    (Prompt::Quit, 2, CALLING, CALLED, None),
+    // The outermost table may not be one that is only called.
+    (Prompt::Quit, 1, CALLED, UNUSED, Some(0)),
+    // Another prompt's condact.
+    (Prompt::Again, 1, QUITTING, UNUSED, Some(0)),
+    (Prompt::Key, 1, QUITTING, UNUSED, Some(0)),
+    (Prompt::Quit, 1, ENDING, UNUSED, Some(0)),
+    // Another number of rows.
+    (Prompt::Quit, 0, QUITTING, UNUSED, Some(0)),
+    (Prompt::Quit, 2, QUITTING, UNUSED, Some(0)),
+    (Prompt::Quit, 12, QUITTING, UNUSED, Some(0)),
+    (Prompt::Quit, 1, CALLING, CALLED, Some(0)),
+    (Prompt::Quit, 3, CALLING, CALLED, Some(1)),
+    (Prompt::Main, 1, QUITTING, UNUSED, Some(0)),
+    // Rows where none is used.
+    (Prompt::Main, 0, QUITTING, UNUSED, Some(0)),
+    (Prompt::Over, 0, UNUSED, CALLED, Some(1)),
+];
+
+#[test]
+fn prompts_want_their_condact_and_their_number_of_rows(rt: HostRuntime) -> Result<(), Fail> {
+    let game = asking_game(rt.alloc())?;
+    for &(prompt, count, first, second, fault) in &PROMPTS {
+        let found = refused_at(&game, &open_frames(count, first, second), prompt);
+        assert_eq!(rt; found, fault, "{prompt:?}, {count}, {first:?}");
     }
     Ok(())
 }
 
 #[test]
-fn prompts_want_their_condact_and_their_number_of_rows(rt: HostRuntime) -> Result<(), Fail> {
-    let alloc = rt.alloc();
-    let game = asking_game(alloc)?;
-    let quit = row(0, 6, 0, false);
-    let end = row(0, 6, 1, false);
-    let called = row(3, 0, 0, false);
-    for (prompt, kept, fault) in [
-        (Prompt::Main, open_frames(0, UNUSED, UNUSED), None),
-        (Prompt::Over, open_frames(0, UNUSED, UNUSED), None),
-        (Prompt::Quit, open_frames(1, quit, UNUSED), None),
-        (Prompt::Again, open_frames(1, end, UNUSED), None),
-        (
-            Prompt::Quit,
-            open_frames(2, row(0, 1, 0, false), called),
-            None,
-        ),
-        // The outermost table may not be one that is only called.
-        (Prompt::Quit, open_frames(1, called, UNUSED), Some(0)),
-        // Another prompt's condact.
-        (Prompt::Again, open_frames(1, quit, UNUSED), Some(0)),
-        (Prompt::Key, open_frames(1, quit, UNUSED), Some(0)),
-        (Prompt::Quit, open_frames(1, end, UNUSED), Some(0)),
-        (Prompt::Quit, waiting(), Some(1)),
-        // Another number of rows.
-        (Prompt::Quit, open_frames(0, quit, UNUSED), Some(0)),
-        (Prompt::Quit, open_frames(2, quit, UNUSED), Some(0)),
-        (Prompt::Quit, open_frames(12, quit, UNUSED), Some(0)),
-        (
-            Prompt::Quit,
-            open_frames(1, row(0, 1, 0, false), called),
-            Some(0),
-        ),
-        (
-            Prompt::Quit,
-            open_frames(3, row(0, 1, 0, false), called),
-            Some(1),
-        ),
-        (Prompt::Main, open_frames(1, quit, UNUSED), Some(0)),
-        (Prompt::Over, waiting(), Some(0)),
-        // Rows where none is used.
-        (Prompt::Main, open_frames(0, quit, UNUSED), Some(0)),
-        (Prompt::Over, open_frames(0, UNUSED, called), Some(1)),
-    ] {
-        let found = refused_at(&game, &kept, prompt);
-        assert_eq!(rt; found, fault, "{prompt:?}, {kept:?}");
-    }
-    let mut kept = open_frames(0, UNUSED, UNUSED);
-    kept.turning = Some(turning(0, 0, 2, 0, 0, 1));
-    assert_eq!(rt; refused_at(&game, &kept, Prompt::Main), Some(11));
+fn another_prompt_refuses_rows_and_a_loop_alone(rt: HostRuntime) -> Result<(), Fail> {
+    let game = asking_game(rt.alloc())?;
+    let mut looping = open_frames(0, UNUSED, UNUSED);
+    looping.turning = Some(turning(0, 0, 2, 0, 0, 1));
+    assert_eq!(rt; refused_at(&game, &looping, Prompt::Main), Some(11));
+    assert_eq!(rt; refused_at(&game, &waiting(), Prompt::Quit), Some(1));
+    assert_eq!(rt; refused_at(&game, &waiting(), Prompt::Over), Some(0));
     Ok(())
 }
