@@ -21,7 +21,6 @@ ghost use Rattle.paw_process.specs.inner.Meaning.{AnswersQuit, AnswersKey};
 ghost use Rattle.paw_process.specs.inner.Steps.{IsReady, IsAfterReading};
 
 use crate::Turned;
-use crate::after_condact::NextFrame;
 use crate::frame::{frame_after_answer, start_of};
 use crate::kept::{FrameFault, Frames, frames_fault, waiting_at};
 use crate::step::StoryReader;
@@ -148,9 +147,9 @@ impl Machine {
         // The innermost frame. The machine takes it back where reading leaves its table or waits.
         let mut f = self.top();
         loop {
-            match reader.read_on(self, surroundings, f) {
-                NextFrame::At(next) => f = next,
-                NextFrame::Stopped(turned) => return turned,
+            match reader.read_on(self, surroundings, &mut f) {
+                None => {}
+                Some(turned) => return turned,
             }
         }
     }

@@ -28,13 +28,13 @@ ghost use Rattle.paw_process.specs.inner.Moves.{next_of, past_of, loop_at_frames
 ghost use Rattle.paw_process.specs.inner.Moves.{ReadsTable, ReadsOne};
 ghost use Rattle.paw_process.specs.inner.Steps.{IsReady, IsInnermost, MayReadOne, MayReadNext, HasMoved, HasStepped};
 ghost use Rattle.paw_process.specs.inner.AfterCondact.{with_frame, frame_of, moved_on, stop_after_condact, held_at};
-ghost use Rattle.paw_process.specs.inner.AfterCondact.{stop_at, ReachesTable};
+ghost use Rattle.paw_process.specs.inner.AfterCondact.{ReachesTable};
 ghost use Rattle.paw_process.specs.inner.Work.{machine_work, frames_work, Progress};
 ghost use Rattle.paw_process.specs.declared.after_condact.AfterCondact.TheVariants as after_condact;
 ghost use Rattle.paw_world.specs.inner.Places.{left_above};
 
 use crate::Turned;
-use crate::after_condact::{AfterCondact, NextFrame};
+use crate::after_condact::AfterCondact;
 use crate::frame::{after_found, next_entry, past, start_of};
 use crate::machine::{MOST_FRAMES, Machine};
 use crate::objects::{next_taken, take};
@@ -99,16 +99,14 @@ impl Machine {
         Some(turned)
     }
 
-    // Where reading goes on after a move of the machine: at its innermost frame, unless it has stopped.
-    fn next_frame(&self, turned: Option<Turned>) -> NextFrame
+    // Makes this the innermost frame after a move of the machine, since reading goes on there, unless it has stopped.
+    fn take_top(&self, turned: Option<Turned>, f: &mut Frame)
         requires stands { StandsOrStopped turned self.now }
-        ensures stop { stop_at result ≡ turned }
-        ensures held { held_at result self.now ≡ self.now }
-        ensures in_table { ReachesTable result }
+        ensures held { held_at turned f.new self.now ≡ self.now }
+        ensures in_table { ReachesTable turned f.new }
     {
-        match turned {
-            None => NextFrame::At(self.top()),
-            Some(turned) => NextFrame::Stopped(turned),
+        if turned.is_none() {
+            *f = self.top();
         }
     }
 
@@ -481,33 +479,34 @@ impl<T: Tables, F: Fn(u8, u8) -> u8> StoryReader<'_, T, F> {
         }
     }
 
-    // Reads the condacts of an entry from a cursor on, as long as reading goes on from one to the next.
+    // Reads the condacts of an entry from a cursor on, as long as reading goes on from one to the next. It leaves the
+    // frame where reading goes on then, unless the machine has stopped.
     fn rest_of_entry(
         &self,
         machine: &mut Machine,
         surroundings: &mut Surroundings,
         start: CondactCursor,
-        acted: bool,
-    ) -> NextFrame
+        f: &mut Frame,
+    ) -> Option<Turned>
         requires stands { T.stands self.now.tables.now start }
         requires may { MayReadNext F.Fn self.now.routines.now
             (T.game self.now.tables.now) machine.old surroundings.old.world }
         requires entry { start.entry < ENTRY_LIMIT }
         requires valid { Valid (T.game self.now.tables.now) }
         ensures meaning { InStories F.Fn self.now.routines.now (T.game self.now.tables.now) (λ g.
-            ReadsTable g (reading_at g (below machine.old.frames) (frame_of start acted))
-            (having surroundings.old machine.old) (stop_at result)
-            (having surroundings.new (held_at result machine.new))) }
-        ensures progress { IsNone (stop_at result) →
-            Progress (with_frame (frame_of start acted) machine.old) (held_at result machine.new) }
+            ReadsTable g (reading_at g (below machine.old.frames) (frame_of start f.old.acted))
+            (having surroundings.old machine.old) result
+            (having surroundings.new (held_at result f.new machine.new))) }
+        ensures progress { IsNone result →
+            Progress (with_frame (frame_of start f.old.acted) machine.old) (held_at result f.new machine.new) }
         ensures after { HasStepped (T.game self.now.tables.now) (having surroundings.old machine.old)
-            (stop_at result) (having surroundings.new machine.new) }
-        ensures in_table { ReachesTable result }
+            result (having surroundings.new machine.new) }
+        ensures in_table { ReachesTable result f.new }
     {
         let mut cursor = start;
-        let mut acted = acted;
+        let mut acted = f.acted;
         loop {
-            let f = Frame {
+            let here = Frame {
                 table: cursor.table,
                 entry: cursor.entry,
                 at: cursor.at,
@@ -515,8 +514,14 @@ impl<T: Tables, F: Fn(u8, u8) -> u8> StoryReader<'_, T, F> {
             };
             match self.read_at_cursor(machine, surroundings, &mut cursor, acted) {
                 AfterCondact::Next(by_now) => acted = by_now,
-                AfterCondact::NextEntry => return NextFrame::At(next_entry(f)),
-                AfterCondact::Moved(turned) => return machine.next_frame(turned),
+                AfterCondact::NextEntry => {
+                    *f = next_entry(here);
+                    return None;
+                }
+                AfterCondact::Moved(turned) => {
+                    machine.take_top(turned, f);
+                    return turned;
+                }
             }
         }
     }
@@ -538,34 +543,36 @@ impl<T: Tables, F: Fn(u8, u8) -> u8> StoryReader<'_, T, F> {
     }
 
     /// Reads on at a frame in the place of the innermost one: in its entry, or in the next one that matches, as far as
-    /// reading goes on there from one condact to the next.
+    /// reading goes on there from one condact to the next. It leaves the frame where reading goes on then, which the
+    /// machine needn't hold yet, unless the machine has stopped.
     pub(crate) fn read_on(
         &self,
         machine: &mut Machine,
         surroundings: &mut Surroundings,
-        f: Frame,
-    ) -> NextFrame
+        f: &mut Frame,
+    ) -> Option<Turned>
         requires may { MayReadNext F.Fn self.now.routines.now
             (T.game self.now.tables.now) machine.old surroundings.old.world }
-        requires place { 0 < f.at → f.entry < ENTRY_LIMIT }
+        requires place { 0 < f.old.at → f.old.entry < ENTRY_LIMIT }
         ensures meaning { InStories F.Fn self.now.routines.now (T.game self.now.tables.now) (λ g.
-            ReadsTable g (going_in g (f ∷ below machine.old.frames)) (having surroundings.old machine.old)
-            (stop_at result) (having surroundings.new (held_at result machine.new))) }
-        ensures progress { IsNone (stop_at result) →
-            Progress (with_frame f machine.old) (held_at result machine.new) }
+            ReadsTable g (going_in g (f.old ∷ below machine.old.frames)) (having surroundings.old machine.old)
+            result (having surroundings.new (held_at result f.new machine.new))) }
+        ensures progress { IsNone result →
+            Progress (with_frame f.old machine.old) (held_at result f.new machine.new) }
         ensures after { HasStepped (T.game self.now.tables.now) (having surroundings.old machine.old)
-            (stop_at result) (having surroundings.new machine.new) }
-        ensures in_table { ReachesTable result }
+            result (having surroundings.new machine.new) }
+        ensures in_table { ReachesTable result f.new }
     {
         // The clause of this call says that the game is valid, which the proof needs. The compiler leaves the call out.
         let _counts = self.tables.counts();
-        match self.enter(&surroundings.world, f) {
+        match self.enter(&surroundings.world, *f) {
             None => {
-                machine.set_top(f);
+                machine.set_top(*f);
                 let turned = self.leave_level(machine, &mut surroundings.world, f.acted);
-                machine.next_frame(turned)
+                machine.take_top(turned, f);
+                turned
             }
-            Some(cursor) => self.rest_of_entry(machine, surroundings, cursor, f.acted),
+            Some(cursor) => self.rest_of_entry(machine, surroundings, cursor, f),
         }
     }
 }

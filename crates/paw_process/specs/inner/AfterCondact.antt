@@ -16,8 +16,6 @@ use Rattle.paw_process.specs.inner.Work.{IsNoFurther}
 use Rattle.paw_process.specs.declared.Turned.{Turned}
 use Rattle.paw_process.specs.declared.after_condact.AfterCondact.{AfterCondact}
 use Rattle.paw_process.specs.declared.after_condact.AfterCondact.TheVariants as after_condact
-use Rattle.paw_process.specs.declared.after_condact.NextFrame.{NextFrame}
-use Rattle.paw_process.specs.declared.after_condact.NextFrame.TheVariants as next_frame
 
 -- The machine with this frame in the place of the innermost one.
 abbrev pub with_frame : Frame → OpenTables → OpenTables
@@ -39,20 +37,15 @@ stop_after_condact (after_condact.Next acted) = None
 stop_after_condact after_condact.NextEntry = None
 stop_after_condact (after_condact.Moved t) = t
 
--- The machine with the frame that was reached.
-abbrev pub held_at : NextFrame → OpenTables → OpenTables
-held_at (next_frame.At f) m = with_frame f m
-held_at (next_frame.Stopped t) m = m
-
--- Why the machine has stopped, if it has.
-abbrev pub stop_at : NextFrame → Option Turned
-stop_at (next_frame.At f) = None
-stop_at (next_frame.Stopped t) = Some t
+-- The machine with the frame that was reached, unless it has stopped.
+abbrev pub held_at : Option Turned → Frame → OpenTables → OpenTables
+held_at None f m = with_frame f m
+held_at (Some t) f m = m
 
 -- A frame that was reached stands before an entry, or in one.
-abbrev pub ReachesTable : NextFrame → Type 0
-ReachesTable (next_frame.At f) = 0 < f.at → f.entry < ENTRY_LIMIT
-ReachesTable (next_frame.Stopped t) = Unit {0}
+abbrev pub ReachesTable : Option Turned → Frame → Type 0
+ReachesTable None f = 0 < f.at → f.entry < ENTRY_LIMIT
+ReachesTable (Some t) f = Unit {0}
 
 -- Whatever reading on at the frame of now leads to, reading from the frame where it began leads to.
 abbrev pub LeadsOn : Story → Frame → Held → Frame → Held → Type 0

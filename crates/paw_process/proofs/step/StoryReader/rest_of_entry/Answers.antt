@@ -9,7 +9,7 @@ use Rattle.paw_process.proofs.step.StoryReader.rest_of_entry.Goals as goal
 
 pub loop-by_now-init : goal.loop-by_now-init
 loop-by_now-init g c = record {
-  inside = entry_starts g.F.Fn c.args.self.now.routines.now (g.T.Tables.game c.args.self.now.tables.now) (frame_of c.args.start c.args.acted)
+  inside = entry_starts g.F.Fn c.args.self.now.routines.now (g.T.Tables.game c.args.self.now.tables.now) (frame_of c.args.start c.args.f.now.acted)
       (having c.args.surroundings.now c.args.machine.now) c.requires.may c.requires.entry;
   stands = c.requires.stands;
 }
@@ -37,7 +37,7 @@ loop-by_now-smaller g c =
 pub loop-by_now-preserved : goal.loop-by_now-preserved
 loop-by_now-preserved g c =
     let loop = c.loop-by_now in
-    let start = frame_of c.args.start c.args.acted in
+    let start = frame_of c.args.start c.args.f.now.acted in
     let first = having c.args.surroundings.now c.args.machine.now in
     let new = having c.read_at_cursor.new.surroundings c.read_at_cursor.new.machine in
     let next : Frame = record (frame_of loop.cursor c.in-Next.by_now) { at = loop.cursor.at + 1 } in
@@ -63,7 +63,7 @@ returns-in-NextEntry-clause-meaning g c X answers =
 pub returns-in-NextEntry-clause-progress : goal.returns-in-NextEntry-clause-progress
 returns-in-NextEntry-clause-progress g c none =
     rw c.next_entry.ensures.value
-    (progress_on (with_frame (frame_of c.args.start c.args.acted) c.args.machine.now)
+    (progress_on (with_frame (frame_of c.args.start c.args.f.now.acted) c.args.machine.now)
     (with_frame (frame_of c.loop-by_now.cursor c.loop-by_now.acted) c.loop-by_now.machine) _ c.loop-by_now.invariant.inside.further
     (c.in-NextEntry.ensures.progress refl))
 
@@ -76,25 +76,24 @@ returns-in-NextEntry-clause-after g c =
 pub returns-in-NextEntry-clause-in_table : goal.returns-in-NextEntry-clause-in_table
 returns-in-NextEntry-clause-in_table g c = rw c.next_entry.ensures.value (λ h. omega arith)
 
-pub next_frame-requires : goal.next_frame-requires
-next_frame-requires g c = record { stands = c.in-Moved.ensures.after.stands }
+pub take_top-requires : goal.take_top-requires
+take_top-requires g c = record { stands = c.in-Moved.ensures.after.stands }
 
 pub returns-in-Moved-clause-meaning : goal.returns-in-Moved-clause-meaning
 returns-in-Moved-clause-meaning g c X answers =
-    rw (c.next_frame.ensures.stop, c.next_frame.ensures.held)
+    rw c.take_top.ensures.held
     (c.loop-by_now.invariant.inside.leads X answers c.in-Moved.turned (having c.read_at_cursor.new.surroundings c.read_at_cursor.new.machine)
     (c.in-Moved.ensures.meaning X answers))
 
 pub returns-in-Moved-clause-progress : goal.returns-in-Moved-clause-progress
 returns-in-Moved-clause-progress g c none =
-    rw c.next_frame.ensures.held
-    (progress_on (with_frame (frame_of c.args.start c.args.acted) c.args.machine.now)
+    rw c.take_top.ensures.held
+    (progress_on (with_frame (frame_of c.args.start c.args.f.now.acted) c.args.machine.now)
     (with_frame (frame_of c.loop-by_now.cursor c.loop-by_now.acted) c.loop-by_now.machine) c.read_at_cursor.new.machine
-    c.loop-by_now.invariant.inside.further (c.in-Moved.ensures.progress (rw c.next_frame.ensures.stop at none)))
+    c.loop-by_now.invariant.inside.further (c.in-Moved.ensures.progress none))
 
 pub returns-in-Moved-clause-after : goal.returns-in-Moved-clause-after
 returns-in-Moved-clause-after g c =
-    rw c.next_frame.ensures.stop
     (stepped_on (g.T.Tables.game c.args.self.now.tables.now) (having c.args.surroundings.now c.args.machine.now)
     (having c.loop-by_now.surroundings c.loop-by_now.machine) c.in-Moved.turned
     (having c.read_at_cursor.new.surroundings c.read_at_cursor.new.machine) c.loop-by_now.invariant.inside.after c.in-Moved.ensures.after)

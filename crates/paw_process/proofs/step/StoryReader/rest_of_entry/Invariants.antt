@@ -6,7 +6,7 @@ use Rattle.paw_process.proofs.step.StoryReader.rest_of_entry.Given as goal
 
 abbrev pub invariant-loop-by_now : goal.invariant-loop-by_now
 invariant-loop-by_now g l = record {
-  inside : IsInEntry g.F.Fn l.self.routines.now (g.T.Tables.game l.self.tables.now) (frame_of l.fn.start l.fn.acted)
+  inside : IsInEntry g.F.Fn l.self.routines.now (g.T.Tables.game l.self.tables.now) (frame_of l.fn.start l.initial.f.acted)
       (having l.initial.surroundings l.initial.machine) (frame_of l.cursor l.acted) (having l.surroundings l.machine);
   stands : g.T.Tables.stands l.self.tables.now l.cursor;
 }
