@@ -1,7 +1,8 @@
 // Cutting bytes into tokens and separators.
 
-ghost use Rattle.std.specs.Prelude.{◌≡◌, ◌<◌, ◌≤◌, [], ◌∷◌, true, length, drop, slice_index, MatchOption, IfSome};
-ghost use Rattle.std.specs.Char.{is_ascii_alphanumeric};
+ghost use Rattle.std.specs.Prelude.{◌≡◌, ◌<◌, ◌≤◌, [], ◌∷◌, true, false, length, drop, slice_index, MatchOption};
+ghost use Rattle.std.specs.Prelude.{IfSome, IfNone};
+ghost use Rattle.std.specs.Char.{is_ascii_alphanumeric, to_ascii_uppercase};
 ghost use Rattle.paw_phrase.specs.Phrase.{is_separator, lexemes};
 
 use paw_base::limits::WORD_LENGTH;
@@ -19,6 +20,18 @@ fn is_separator(byte: u8) -> bool
     matches!(byte, b'.' | b',' | b';' | b':' | b'!' | b'?' | b'"')
 }
 
+// What a byte is in a token: a digit, or a letter as a capital. None for a byte that ends one.
+fn letter_of(byte: u8) -> Option<u8>
+    ensures none { IfNone result (is_ascii_alphanumeric byte ≡ false) }
+    ensures some { IfSome result (λ letter. (is_ascii_alphanumeric byte ≡ true) × (letter ≡ to_ascii_uppercase byte)) }
+{
+    match byte {
+        b'A'..=b'Z' | b'0'..=b'9' => Some(byte),
+        b'a'..=b'z' => Some(byte - 32),
+        _ => None,
+    }
+}
+
 // The token that stands first.
 fn first_token(bytes: &[u8]) -> Lexeme
     requires begins { 0 < length bytes.now }
@@ -30,14 +43,14 @@ fn first_token(bytes: &[u8]) -> Lexeme
 {
     let mut letters = [b' '; WORD_LENGTH];
     for (i, byte) in bytes.iter().enumerate() {
-        if !byte.is_ascii_alphanumeric() {
+        let Some(letter) = letter_of(*byte) else {
             return Lexeme {
                 token: Some(letters),
                 end: i,
             };
-        }
+        };
         if i < WORD_LENGTH {
-            letters[i] = byte.to_ascii_uppercase();
+            letters[i] = letter;
         }
     }
     Lexeme {

@@ -3,18 +3,18 @@ use Rattle.paw_phrase.proofs.Lexemes.{IsToken, kept, cut, lexemes-token}
 use Rattle.paw_phrase.proofs.tokens.first_token.Goals as goal
 use Rattle.paw_phrase.proofs.tokens.first_token.Goals.{then-i-lt-WORD_LENGTH, else-i-lt-WORD_LENGTH}
 
-pub returns-then-not-is_ascii_alphanumeric-clause-value : goal.returns-then-not-is_ascii_alphanumeric-clause-value
-returns-then-not-is_ascii_alphanumeric-clause-value c =
+pub returns-in_default-clause-value : goal.returns-in_default-clause-value
+returns-in_default-clause-value c =
     lexemes-token c.args.bytes.now c.loop-i.i c.loop-i.letters c.requires.begins c.requires.token (omega arith)
-    (λ _. sym c.if-not-is_ascii_alphanumeric.ensures.value) c.loop-i.invariant
+    (λ _. c.in_default.ensures.none) c.loop-i.invariant
 
 pub loop-i-preserved : goal.loop-i-preserved
 loop-i-preserved c =
     let s = c.args.bytes.now in
-    let token = sym c.if-not-is_ascii_alphanumeric.ensures.value in
+    let token = c.in-Some.ensures.some.0 in
     elim c.if-i-lt-WORD_LENGTH.branch [
       | then-i-lt-WORD_LENGTH w ↦
-          subst (IsToken s (c.loop-i.i + 1)) (sym (w.letters-is ∙ ap (set c.loop-i.letters c.loop-i.i) w.to_ascii_uppercase.ensures.value))
+          subst (IsToken s (c.loop-i.i + 1)) (sym (w.letters-is ∙ ap (set c.loop-i.letters c.loop-i.i) c.in-Some.ensures.some.1))
           (kept s c.loop-i.i c.loop-i.letters c.loop-i.invariant c.loop-i-test.true token w.if-i-lt-WORD_LENGTH.true)
       | else-i-lt-WORD_LENGTH w ↦
           subst (IsToken s (c.loop-i.i + 1)) (sym w.letters-is)
