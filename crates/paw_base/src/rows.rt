@@ -288,6 +288,3 @@ fn filled_up_capitals(name: &[u8]) -> Option<[u8; 8]>
     filled.make_ascii_uppercase();
     Some(filled)
 }
-
-#[cfg(test)]
-mod tests;

@@ -101,6 +101,3 @@ fn keep(rows: &mut [StepRow], count: usize, row: StepRow)
         rows[count] = row;
     }
 }
-
-#[cfg(test)]
-mod tests;

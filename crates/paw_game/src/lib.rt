@@ -10,8 +10,6 @@ pub mod parts;
 mod rows;
 pub mod rules;
 pub mod tables;
-#[cfg(test)]
-mod tests;
 pub mod texts;
 pub mod values;
 pub mod words;

@@ -1,3 +1,11 @@
+// Phrases of lines; and what the crates below promise of condacts, games, pieces and steps. Those tests stand here,
+// where few functions are proved once more with them.
+
+mod condacts;
+mod games;
+mod piece;
+mod steps;
+
 use crate::{Found, Pending, Sentence, next_phrase};
 use paw_base::limits::LINE_LIMIT;
 use paw_base::words::NO_WORD;

@@ -1,4 +1,6 @@
-use super::*;
+// Steps, noted past their limit.
+
+use paw_base::steps::{StepRow, Steps};
 use std::process::Abort;
 use std::test::Fail;
 

@@ -1,12 +1,12 @@
 // A small game, made, read by number, and broken part by part.
 
-use crate::game::Game;
-use crate::parts::{Entry, Exit, Exits, GamePart, GameParts, ObjectRow, Table, Text, Word};
-use crate::tables::Tables;
 use paw_base::codes::{DONE, LET, MESSAGE};
 use paw_base::parts::{Condact, Counts, ObjectFacts};
 use paw_base::places::WORN_PLACE;
 use paw_base::words::{ANY_WORD, NO_WORD, NOUN_CLASS, VERB_CLASS};
+use paw_game::game::Game;
+use paw_game::parts::{Entry, Exit, Exits, GamePart, GameParts, ObjectRow, Table, Text, Word};
+use paw_game::tables::Tables;
 use std::alloc::{AllocError, Global};
 use std::test::Fail;
 

@@ -1,5 +1,11 @@
-use super::*;
-use crate::codes;
+// The table of condacts, once more, in other words.
+
+use paw_base::codes;
+use paw_base::rows::ParamKind::{
+    self, Absent, Adjective, Adverb, Flag, Location, Message, Noun, Number, Object, Place,
+    Preposition, System, Table,
+};
+use paw_base::rows::{condact_named, condact_row};
 use std::alloc::{AllocError, Global};
 use std::process::Abort;
 use std::test::Fail;
