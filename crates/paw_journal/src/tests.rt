@@ -1,4 +1,4 @@
-// Sessions in stores in memory: damaged ones, and those that a crash leaves.
+// Sessions in stores in memory: damaged ones, and those that a crash leaves; and the stages below them.
 
 ghost use Rattle.std.specs.Prelude.{◌≡◌, ◌↔◌, ◌<◌, ◌≤◌, true, length, IfOk};
 ghost use Rattle.paw_stage.specs.Disk.{IsStable};
@@ -16,6 +16,7 @@ use std::process::Abort;
 use std::test::Fail;
 
 mod commits;
+mod stages;
 
 const GAME: [u8; 32] = [7; 32];
 

@@ -13,11 +13,10 @@ mod refusing;
 mod replay;
 mod stopping;
 mod streams;
-#[cfg(test)]
-mod tests;
 
 pub use failing::{FailStage, Listed};
 pub use failures::FailureCounts;
+pub use input::{LineFailure, LineReader};
 pub use log::CallKind;
 pub use memory::MemoryStage;
 use paw_base::limits::LINE_LIMIT;

@@ -32,9 +32,6 @@ use std::alloc::Global;
 use std::collections::VecDeque;
 use std::marker::Model;
 
-#[cfg(test)]
-mod tests;
-
 // A line that is left.
 type Line = Rows<u8>;
 

@@ -19,8 +19,6 @@ use std::marker::Model;
 use std::rt::Files;
 
 mod opening;
-#[cfg(test)]
-mod tests;
 
 /// Real files, standard input and standard output, which report nothing but how often each call has failed.
 ///

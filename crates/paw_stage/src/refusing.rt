@@ -23,9 +23,6 @@ use paw_base::limits::LINE_LIMIT;
 use std::alloc::Global;
 use std::marker::Model;
 
-#[cfg(test)]
-mod tests;
-
 /// Which calls of a stage are made to fail.
 pub trait Refusals {
     ghost use Rattle.std.specs.Prelude.{◌≡◌, Bool};

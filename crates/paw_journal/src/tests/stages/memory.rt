@@ -4,8 +4,8 @@ ghost use Rattle.std.specs.Prelude.{◌≡◌, IfOk, IsSome};
 ghost use Rattle.paw_stage.specs.Disk.{IsStable};
 ghost use Rattle.paw_stage.specs.inner.Memory.{empty, with_file, standing_of};
 
-use crate::{LoadRefusal, MemoryStage, Stage};
 use paw_base::fault::NoRoom;
+use paw_stage::{LoadRefusal, MemoryStage, Stage};
 use std::alloc::{AllocError, Global};
 use std::process::Abort;
 use std::test::Fail;

@@ -1,6 +1,6 @@
 // A store that is a real file.
 
-use crate::{LoadRefusal, RealStage, Stage};
+use paw_stage::{LoadRefusal, RealStage, Stage};
 use std::alloc::{Alloc, AllocError, Global};
 use std::fs::{self, File};
 use std::io;

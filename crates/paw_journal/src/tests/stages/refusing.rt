@@ -4,8 +4,8 @@ ghost use Rattle.std.specs.Prelude.{IfOk};
 ghost use Rattle.paw_stage.specs.Disk.{IsStable};
 ghost use Rattle.paw_stage.specs.inner.Memory.{standing_of};
 
-use crate::{Asked, FailStage, MemoryStage, Stage, StopStage};
 use paw_base::fault::NoRoom;
+use paw_stage::{Asked, FailStage, MemoryStage, Stage, StopStage};
 use std::alloc::Global;
 use std::process::Abort;
 use std::test::Fail;
