@@ -1,5 +1,5 @@
-// Condacts of a small game, read one after the other. They stand here, where few functions are proved once more with
-// them.
+// Condacts of a small game, read one after the other; and what the crates below promise of worlds and routines. All
+// stand here, where few functions are proved once more with them.
 
 ghost use Rattle.std.specs.Prelude.{◌≡◌, ◌+◌, ◌-◌, ◌*◌, ◌%◌, ◌<◌, ◌^◌, IfOk, map};
 ghost use Rattle.paw_effects.specs.Worlds.{IsOf};
@@ -12,9 +12,11 @@ macro_rules! scenes {
     };
 }
 
+mod called_routines;
 mod indirect;
 mod object_actions;
 mod prints;
+mod worlds;
 
 use paw_base::codes::ABILITY;
 use paw_base::codes::ABSENT;

@@ -3,5 +3,3 @@
 
 pub mod program;
 pub mod routines;
-#[cfg(test)]
-mod tests;

@@ -6,6 +6,4 @@ mod draws;
 mod places;
 mod position;
 mod set;
-#[cfg(test)]
-mod tests;
 pub mod world;

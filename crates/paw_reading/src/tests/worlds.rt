@@ -1,6 +1,8 @@
-use crate::world::World;
+// Worlds: flags, places, weights, kept positions and draws.
+
 use paw_base::flags;
 use paw_base::parts::ObjectFacts;
+use paw_world::world::World;
 use std::process::Abort;
 
 fn thing(start: u8, weight: u8, container: bool) -> ObjectFacts {

@@ -2,8 +2,8 @@
 
 ghost use Rattle.std.specs.Prelude.{◌≡◌, ◌+◌, ◌%◌};
 
-use crate::program::{ROUTINES, give};
-use crate::routines::Routines;
+use paw_routines::program::{ROUTINES, give};
+use paw_routines::routines::Routines;
 
 #[test]
 fn three_routines(rt: HostRuntime) {

@@ -1,6 +1,6 @@
 use Rattle.std.proofs.Common.{arith, ◌<◌, ◌≡◌, ◌+◌, ◌%◌, ℕ}
 use Rattle.paw_routines.proofs.FunctionAnswers.{answers_of, stand_for}
-use Rattle.paw_routines.proofs.tests.an_answer_that_is_told_modulo_256.Goals as goal
+use Rattle.paw_reading.proofs.tests.called_routines.an_answer_that_is_told_modulo_256.Goals as goal
 
 -- What each routine gives.
 given : ℕ → ℕ → ℕ
