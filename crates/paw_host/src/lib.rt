@@ -9,6 +9,4 @@ mod names;
 mod open;
 pub mod outcome;
 mod reply;
-#[cfg(test)]
-mod tests;
 mod words;

@@ -14,6 +14,9 @@ use std::env::{self, Env};
 use std::io::{self, ErrorKind};
 use std::process::ExitCode;
 
+#[cfg(test)]
+mod tests;
+
 // The words after the program's name; none of them where one isn't text.
 fn words_of<R: Env + AllocGlobal>(rt: &R) -> io::Result<Vec<String>> {
     match env::args(rt) {

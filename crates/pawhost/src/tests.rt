@@ -1,10 +1,10 @@
-// Hosting over stages in memory.
+// Hosting over stages in memory. These tests stand here, where few functions are proved once more with them.
 
 ghost use Rattle.paw_stage.specs.Disk.{IsStable};
 
-use crate::host::host;
-use crate::outcome::HostOutcome;
 use crate::tests::images::{HALL, OTHER};
+use paw_host::host::host;
+use paw_host::outcome::HostOutcome;
 use paw_routines::program::{ROUTINES, give};
 use paw_routines::routines::Routines;
 use paw_stage::{CallKind, FailStage, MemoryStage, Stage, StageCall, StopStage};
