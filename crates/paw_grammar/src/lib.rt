@@ -7,8 +7,6 @@ pub mod numbers;
 pub mod places;
 pub mod refusal;
 pub mod section;
-#[cfg(test)]
-mod tests;
 pub mod tokens;
 pub mod vocabulary;
 pub mod words;

@@ -8,6 +8,3 @@ mod tokens;
 pub use bytes::{LexFault, byte_fault, is_comment};
 pub use lines::{Line, Lines};
 pub use tokens::{Token, next_token};
-
-#[cfg(test)]
-mod tests;

@@ -3,5 +3,3 @@
 
 pub mod laws;
 pub mod read_error;
-#[cfg(test)]
-mod tests;

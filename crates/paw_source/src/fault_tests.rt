@@ -7,6 +7,7 @@ use paw_base::fault::SourceKind::{
 };
 use paw_base::fault::{SourceFault, SourceKind};
 use std::alloc::{AllocError, Global};
+use std::process::Abort;
 use std::test::Fail;
 
 /// What stands before the text sections: eight words.
@@ -281,7 +282,7 @@ const OF_ENTRIES: [Cases; 8] = [
 
 /// Faults in a line before the last, or after it: what stands before, the lines, the number of the faulty one among
 /// them, and the kind.
-const ELSEWHERE: [(&[&str], &str, u32, SourceKind); 8] = [
+static ELSEWHERE: [(&[&str], &str, u32, SourceKind); 8] = [
     (&[], "", 1, Missing),
     (&[], "; nothing\n", 2, Missing),
     (&[], "/VOC", 2, Missing),
@@ -329,20 +330,25 @@ fn last_line(source: &[u8]) -> u32 {
     }
 }
 
+// Whether the last line of this text, after what stands before it, has the first fault, one of this kind.
+fn has_fault(alloc: Global, before: &[&str], text: &str, kind: SourceKind) -> Result<bool, Fail> {
+    let source = with_lines(alloc, before, text, 1)?;
+    let wanted = SourceFault {
+        line: last_line(&source),
+        kind,
+    };
+    Ok(fault_in(alloc, &source)? == Some(wanted))
+}
+
 // The first text, after what stands before it, whose last line hasn't the first fault or has one of another kind.
 fn wrong_case(
     alloc: Global,
     before: &[&str],
     cases: &[Cases],
 ) -> Result<Option<&'static str>, Fail> {
-    for (kind, texts) in cases {
-        for text in *texts {
-            let source = with_lines(alloc, before, text, 1)?;
-            let wanted = SourceFault {
-                line: last_line(&source),
-                kind: *kind,
-            };
-            if fault_in(alloc, &source)? != Some(wanted) {
+    for &(kind, texts) in cases {
+        for &text in texts {
+            if !has_fault(alloc, before, text, kind)? {
                 return Ok(Some(text));
             }
         }
@@ -350,29 +356,44 @@ fn wrong_case(
     Ok(None)
 }
 
+/// What stands before, and the cases after it.
+static GROUPS: [(&[&str], &[Cases]); 6] = [
+    (&[], &HEADERS),
+    (AT_WORDS, &OF_WORDS),
+    (AT_TEXTS, &OF_TEXTS),
+    (AT_EXITS, &OF_EXITS),
+    (AT_OBJECTS, &OF_OBJECTS),
+    (AT_ENTRIES, &OF_ENTRIES),
+];
+
 #[test]
 fn the_fault_of_the_last_line_is_named(rt: HostRuntime) -> Result<(), Fail> {
-    let groups: [(&[&str], &[Cases]); 6] = [
-        (&[], &HEADERS),
-        (AT_WORDS, &OF_WORDS),
-        (AT_TEXTS, &OF_TEXTS),
-        (AT_EXITS, &OF_EXITS),
-        (AT_OBJECTS, &OF_OBJECTS),
-        (AT_ENTRIES, &OF_ENTRIES),
-    ];
-    for (before, cases) in groups {
+    for &(before, cases) in &GROUPS {
         assert_eq!(rt; wrong_case(rt.alloc(), before, cases)?, None);
     }
     Ok(())
 }
 
+/// What stands before, a text after it and how often, the number of the faulty line among those after it, and the kind
+/// of the fault.
+type Faulty<'a> = (&'a [&'a str], &'a str, u32, u32, SourceKind);
+
+// Checks the first fault of a source.
+fn is_faulty(
+    rt: &impl Abort,
+    alloc: Global,
+    (before, text, count, after, kind): Faulty<'_>,
+) -> Result<(), Fail> {
+    let line = lines_in(&join(alloc, before)?).saturating_add(after);
+    let source = with_lines(alloc, before, text, count)?;
+    assert_eq!(rt; fault_in(alloc, &source)?, Some(SourceFault { line, kind }));
+    Ok(())
+}
+
 #[test]
 fn the_first_fault_is_named(rt: HostRuntime) -> Result<(), Fail> {
-    let alloc = rt.alloc();
-    for (before, text, line, kind) in ELSEWHERE {
-        let line = lines_in(&join(alloc, before)?).saturating_add(line);
-        let source = with_lines(alloc, before, text, 1)?;
-        assert_eq!(rt; fault_in(alloc, &source)?, Some(SourceFault { line, kind }));
+    for &(before, text, after, kind) in &ELSEWHERE {
+        is_faulty(&rt, rt.alloc(), (before, text, 1, after, kind))?;
     }
     Ok(())
 }
@@ -409,44 +430,59 @@ fn with_lines(
     Ok(source)
 }
 
+// Checks that after this number of items a source has this fault.
+fn items_are_faulty(
+    rt: &impl Abort,
+    alloc: Global,
+    (before, count, line, kind): (&str, u32, u32, SourceKind),
+) -> Result<(), Fail> {
+    let source = with_items(alloc, before, count)?;
+    assert_eq!(rt; fault_in(alloc, &source)?, Some(SourceFault { line, kind }));
+    Ok(())
+}
+
+/// What stands before items, how many they are, and the fault of the source.
+static ITEMS: [(&str, u32, u32, SourceKind); 5] = [
+    ("/VOC\n/STX\n/MTX\n", 256, 260, Missing),
+    ("/VOC\n/STX\n", 257, 259, TooBig),
+    ("/VOC\n/STX\n/MTX\n", 257, 260, TooBig),
+    ("/VOC\n/STX\n/MTX\n/OTX\n", 256, 260, TooBig),
+    ("/VOC\n/STX\n/MTX\n/OTX\n/LTX\n", 253, 258, TooBig),
+];
+
+/// Up to the first line of a system message.
+const AT_MESSAGE: &[&str] = &["/VOC\n/STX\n/0\n"];
+
+/// Up to the first entry of table 0, which has no condact yet.
+const AT_CONDACTS: &[&str] = &[WORDS, TEXTS, ROWS, "/PRO 0\n_ _\n"];
+
+/// Lines that are too many, or the most that fit.
+static LINES: [Faulty<'static>; 4] = [
+    (AT_MESSAGE, "a line of twenty-one.\n", 186, 187, Missing),
+    (AT_MESSAGE, "a line of twenty-one.\n", 187, 187, TooBig),
+    (AT_CONDACTS, " DONE\n", 256, 256, TooBig),
+    (AT_CONDACTS, "_ _\n", 4_000, 4_000, TooBig),
+];
+
+// Checks that 2,001 words are too many.
+fn words_are_faulty(rt: &impl Abort, alloc: Global) -> Result<(), Fail> {
+    let source = with_words(alloc, 2_001)?;
+    let fault = SourceFault {
+        line: 2_002,
+        kind: TooBig,
+    };
+    assert_eq!(rt; fault_in(alloc, &source)?, Some(fault));
+    Ok(())
+}
+
 #[test]
 fn too_much_is_too_big(rt: HostRuntime) -> Result<(), Fail> {
-    let alloc = rt.alloc();
-    let table = &[WORDS, TEXTS, ROWS, "/PRO 0\n_ _\n"];
-    let lines = lines_in(&join(alloc, table)?);
-    let text = "a line of twenty-one.\n";
-    let messages = "/VOC\n/STX\n/MTX\n";
-    let objects = "/VOC\n/STX\n/MTX\n/OTX\n";
-    let locations = "/VOC\n/STX\n/MTX\n/OTX\n/LTX\n";
-    for (source, line, kind) in [
-        (with_words(alloc, 2_001)?, 2_002, TooBig),
-        (with_items(alloc, messages, 256)?, 260, Missing),
-        (with_items(alloc, "/VOC\n/STX\n", 257)?, 259, TooBig),
-        (with_items(alloc, messages, 257)?, 260, TooBig),
-        (with_items(alloc, objects, 256)?, 260, TooBig),
-        (with_items(alloc, locations, 253)?, 258, TooBig),
-        (
-            with_lines(alloc, &["/VOC\n/STX\n/0\n"], text, 186)?,
-            190,
-            Missing,
-        ),
-        (
-            with_lines(alloc, &["/VOC\n/STX\n/0\n"], text, 187)?,
-            190,
-            TooBig,
-        ),
-        (
-            with_lines(alloc, table, " DONE\n", 256)?,
-            lines.saturating_add(256),
-            TooBig,
-        ),
-        (
-            with_lines(alloc, table, "_ _\n", 4_000)?,
-            lines.saturating_add(4_000),
-            TooBig,
-        ),
-    ] {
-        assert_eq!(rt; fault_in(alloc, &source)?, Some(SourceFault { line, kind }));
+    words_are_faulty(&rt, rt.alloc())?;
+    for &row in &ITEMS {
+        items_are_faulty(&rt, rt.alloc(), row)?;
+    }
+    for &row in &LINES {
+        is_faulty(&rt, rt.alloc(), row)?;
     }
     Ok(())
 }

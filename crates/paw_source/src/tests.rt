@@ -1,12 +1,18 @@
-// A small source that spells a game, and a few that spell none.
+// A small source that spells a game, and a few that spell none; and what the crates below promise of images, lines,
+// rows and refusals. Those tests stand here, where few functions are proved once more with them.
 
 use crate::read_source;
 use crate::refusal::SourceRefusal;
 use paw_base::fault::{SourceFault, SourceKind};
 use paw_image::encoder::encode;
+use std::alloc::Global;
+use std::process::Abort;
 use std::test::Fail;
 
+mod grammar;
 mod images;
+mod lines;
+mod read_errors;
 
 /// One location with a lamp, and an entry that takes it.
 const LAMP: &[u8] =
@@ -28,29 +34,35 @@ fn a_small_source_is_read(rt: HostRuntime) -> Result<(), Fail> {
     Ok(())
 }
 
+/// Sources, and the lines and kinds of their first faults.
+static FAULTY: [(&[u8], u32, SourceKind); 8] = [
+    (b"", 1, SourceKind::Missing),
+    (b"; a comment\n\nGO 30 verb\n", 3, SourceKind::Section),
+    (
+        b"/VOC\nGO 30 verb\nGO 31 noun\n/CON\n",
+        3,
+        SourceKind::Duplicate,
+    ),
+    (b"/VOC\nGO 1 verb x\n", 2, SourceKind::Range),
+    (b"/voc\n/stx x\n", 2, SourceKind::Extra),
+    (b"/VOC\n/STX\n/0\none\n/2\n", 5, SourceKind::Range),
+    (b"/VOC\n/STX\n/MTX\n/0\na\ttab\n", 5, SourceKind::Text),
+    (
+        b"/VOC\n/STX\n/MTX\n/OTX\n/LTX\n/CON\n",
+        6,
+        SourceKind::Missing,
+    ),
+];
+
+// Checks the first fault of a source.
+fn is_refused(rt: &impl Abort, alloc: Global, (source, line, kind): (&[u8], u32, SourceKind)) {
+    let refusal = SourceRefusal::Fault(SourceFault { line, kind });
+    assert_eq!(rt; read_source(alloc, source).err(), Some(refusal));
+}
+
 #[test]
-fn the_first_fault_is_named(rt: HostRuntime) -> Result<(), Fail> {
-    let sources: [(&[u8], u32, SourceKind); 8] = [
-        (b"", 1, SourceKind::Missing),
-        (b"; a comment\n\nGO 30 verb\n", 3, SourceKind::Section),
-        (
-            b"/VOC\nGO 30 verb\nGO 31 noun\n/CON\n",
-            3,
-            SourceKind::Duplicate,
-        ),
-        (b"/VOC\nGO 1 verb x\n", 2, SourceKind::Range),
-        (b"/voc\n/stx x\n", 2, SourceKind::Extra),
-        (b"/VOC\n/STX\n/0\none\n/2\n", 5, SourceKind::Range),
-        (b"/VOC\n/STX\n/MTX\n/0\na\ttab\n", 5, SourceKind::Text),
-        (
-            b"/VOC\n/STX\n/MTX\n/OTX\n/LTX\n/CON\n",
-            6,
-            SourceKind::Missing,
-        ),
-    ];
-    for (source, line, kind) in sources {
-        let refusal = SourceRefusal::Fault(SourceFault { line, kind });
-        assert_eq!(rt; read_source(rt.alloc(), source).err(), Some(refusal));
+fn the_first_fault_is_named(rt: HostRuntime) {
+    for &row in &FAULTY {
+        is_refused(&rt, rt.alloc(), row);
     }
-    Ok(())
 }

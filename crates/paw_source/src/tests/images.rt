@@ -9,6 +9,7 @@ use paw_image::encoder::{encode, image_length};
 use paw_image::refusal::ImageRefusal;
 use paw_image::view::View;
 use std::alloc::{AllocError, Global};
+use std::process::Abort;
 use std::test::Fail;
 
 /// Two rooms, four words, nine system messages, a message, and no object.
@@ -53,19 +54,20 @@ const DONE: Condact = Condact {
     b: 0,
 };
 
+// Checks that an image is written as it was read.
+fn is_written_again(rt: &impl Abort, alloc: Global, image: &[u8]) -> Result<(), Fail> {
+    let game = decode(alloc, image)?;
+    let again = encode(alloc, &game)?;
+    assert_eq!(rt; again.as_slice(), image);
+    Ok(())
+}
+
 #[test]
 fn images_are_read_and_written_again(rt: HostRuntime) -> Result<(), Fail> {
-    for image in [
-        TWO_ROOMS.as_slice(),
-        SMALLEST.as_slice(),
-        LANTERN.as_slice(),
-        FLAGGED.as_slice(),
-    ] {
-        let game = decode(rt.alloc(), image)?;
-        let again = encode(rt.alloc(), &game)?;
-        assert_eq!(rt; again.as_slice(), image);
-    }
-    Ok(())
+    is_written_again(&rt, rt.alloc(), &TWO_ROOMS)?;
+    is_written_again(&rt, rt.alloc(), &SMALLEST)?;
+    is_written_again(&rt, rt.alloc(), &LANTERN)?;
+    is_written_again(&rt, rt.alloc(), &FLAGGED)
 }
 
 #[test]
@@ -134,62 +136,69 @@ fn image_with(
     Ok(changed)
 }
 
+/// The first changed offset of an image, what stands there, and the offset of the fault.
+type Change<'a> = (usize, &'a [u8], u64);
+
+// Checks that both readers name the fault of an image with a change.
+fn change_is_named(
+    rt: &impl Abort,
+    alloc: Global,
+    image: &[u8],
+    (place, bytes, at): Change<'_>,
+) -> Result<(), Fail> {
+    let changed = image_with(alloc, image, place, bytes)?;
+    assert_eq!(rt; damaged_at(alloc, &changed), Some(at), "changed at {place}");
+    Ok(())
+}
+
+/// Changes of the lantern game.
+static CHANGES: [Change<'static>; 14] = [
+    (0, b"Q", 0),
+    (4, &[2], 4),
+    (5, &[0xD1, 0x07], 5),
+    (24, b"GET  ", 24),
+    (22, &[1], 22),
+    (45, &[0, 16], 45),
+    (47, b"/", 47),
+    (61, &[51], 61),
+    (63, &[1], 63),
+    (75, &[0xA1, 0x0F], 75),
+    (77, &[31], 77),
+    (80, &[108], 80),
+    (81, &[1], 81),
+    (85, &[161, 15], 85),
+];
+
 #[test]
 fn every_damaged_byte_is_named(rt: HostRuntime) -> Result<(), Fail> {
-    // The first changed offset, what stands there, and the offset of the fault.
-    let changes: [(usize, &[u8], u64); 14] = [
-        (0, b"Q", 0),
-        (4, &[2], 4),
-        (5, &[0xD1, 0x07], 5),
-        (24, b"GET  ", 24),
-        (22, &[1], 22),
-        (45, &[0, 16], 45),
-        (47, b"/", 47),
-        (61, &[51], 61),
-        (63, &[1], 63),
-        (75, &[0xA1, 0x0F], 75),
-        (77, &[31], 77),
-        (80, &[108], 80),
-        (81, &[1], 81),
-        (85, &[161, 15], 85),
-    ];
-    for (place, bytes, at) in changes {
-        let image = image_with(rt.alloc(), &LANTERN, place, bytes)?;
-        assert_eq!(rt;
-            damaged_at(rt.alloc(), &image),
-            Some(at),
-            "changed at {place}"
-        );
+    for &change in &CHANGES {
+        change_is_named(&rt, rt.alloc(), &LANTERN, change)?;
     }
     Ok(())
 }
 
+/// Changes of a game with indirect condacts.
+static FLAGGED_CHANGES: [Change<'static>; 12] = [
+    (4, &[0], 4),
+    (4, &[1], 36),
+    (4, &[3], 4),
+    (36, &[108], 36),
+    (36, &[127], 36),
+    // INVEN has no parameter, and neither PROCESS nor DOALL nor a code that isn't a condact's can be indirect.
+    (36, &[157], 36),
+    (36, &[213], 36),
+    (36, &[214], 36),
+    (36, &[236], 36),
+    // No condact is indirect: the version is named where nothing else is wrong.
+    (36, &[50, 1, 70, 100, 9, 50, 0], 4),
+    (36, &[50, 1, 70, 100, 9, 50, 2], 42),
+    (36, &[50, 1, 70, 100, 9, 50, 0, 161, 15], 43),
+];
+
 #[test]
 fn damage_of_version_2_is_named(rt: HostRuntime) -> Result<(), Fail> {
-    // The first changed offset, what stands there, and the offset of the fault.
-    let changes: [(usize, &[u8], u64); 12] = [
-        (4, &[0], 4),
-        (4, &[1], 36),
-        (4, &[3], 4),
-        (36, &[108], 36),
-        (36, &[127], 36),
-        // INVEN has no parameter, and neither PROCESS nor DOALL nor a code that isn't a condact's can be indirect.
-        (36, &[157], 36),
-        (36, &[213], 36),
-        (36, &[214], 36),
-        (36, &[236], 36),
-        // No condact is indirect: the version is named where nothing else is wrong.
-        (36, &[50, 1, 70, 100, 9, 50, 0], 4),
-        (36, &[50, 1, 70, 100, 9, 50, 2], 42),
-        (36, &[50, 1, 70, 100, 9, 50, 0, 161, 15], 43),
-    ];
-    for (place, bytes, at) in changes {
-        let image = image_with(rt.alloc(), &FLAGGED, place, bytes)?;
-        assert_eq!(rt;
-            damaged_at(rt.alloc(), &image),
-            Some(at),
-            "changed at {place}"
-        );
+    for &change in &FLAGGED_CHANGES {
+        change_is_named(&rt, rt.alloc(), &FLAGGED, change)?;
     }
     Ok(())
 }
@@ -218,20 +227,37 @@ fn both_tell_an_indirect_condact(rt: HostRuntime) -> Result<(), Fail> {
     Ok(())
 }
 
-#[test]
-fn cuts_and_bytes_too_many_are_named(rt: HostRuntime) -> Result<(), Fail> {
-    let alloc = rt.alloc();
-    assert_eq!(rt; damaged_at(alloc, &[]), Some(0));
-    assert_eq!(rt; damaged_at(alloc, &LANTERN[..50]), Some(47));
-    assert_eq!(rt; damaged_at(alloc, &SMALLEST[..25]), Some(24));
-    assert_eq!(rt; damaged_at(alloc, &TWO_ROOMS[..133]), Some(132));
+// The smallest image with a byte after it.
+fn one_too_many(alloc: Global) -> Result<Vec<u8>, AllocError> {
     let mut longer = SMALLEST.to_vec(alloc)?;
     longer.push(0)?;
-    assert_eq!(rt; damaged_at(alloc, &longer), Some(26));
-    // Two exits of a location with one verb: the later one's verb.
+    Ok(longer)
+}
+
+// Two exits of a location with one verb.
+fn one_exit_twice(alloc: Global) -> Result<Vec<u8>, AllocError> {
     let mut twice = TWO_ROOMS[..102].to_vec(alloc)?;
     twice.extend_from_slice(&[2, 2, 1, 2, 0])?;
     twice.extend_from_slice(&TWO_ROOMS[105..])?;
+    Ok(twice)
+}
+
+// Checks that both readers name the fault of an image that is cut.
+fn cut_is_named(rt: &impl Abort, alloc: Global, image: &[u8], at: u64) {
+    assert_eq!(rt; damaged_at(alloc, image), Some(at));
+}
+
+#[test]
+fn cuts_and_bytes_too_many_are_named(rt: HostRuntime) -> Result<(), Fail> {
+    let alloc = rt.alloc();
+    cut_is_named(&rt, alloc, &[], 0);
+    cut_is_named(&rt, alloc, &LANTERN[..50], 47);
+    cut_is_named(&rt, alloc, &SMALLEST[..25], 24);
+    cut_is_named(&rt, alloc, &TWO_ROOMS[..133], 132);
+    let longer = one_too_many(alloc)?;
+    assert_eq!(rt; damaged_at(alloc, &longer), Some(26));
+    // The later one's verb is named.
+    let twice = one_exit_twice(alloc)?;
     assert_eq!(rt; damaged_at(alloc, &twice), Some(105));
     Ok(())
 }
@@ -295,26 +321,30 @@ fn cursor_entries<T: Tables>(tables: &T) -> [Option<u16>; 10] {
     ]
 }
 
+/// The entries of these matches.
+const FOUND: [Option<u16>; 10] = [
+    Some(0),
+    Some(1),
+    Some(2),
+    Some(4),
+    None,
+    Some(1),
+    Some(3),
+    None,
+    Some(2),
+    None,
+];
+
+// Checks that a reader finds them, and that its cursors do.
+fn finds_each_match<T: Tables>(rt: &impl Abort, tables: &T) {
+    assert_eq!(rt; next_matches(tables), FOUND);
+    assert_eq!(rt; cursor_entries(tables), FOUND);
+}
+
 #[test]
 fn both_find_the_next_match(rt: HostRuntime) -> Result<(), Fail> {
-    let want = [
-        Some(0),
-        Some(1),
-        Some(2),
-        Some(4),
-        None,
-        Some(1),
-        Some(3),
-        None,
-        Some(2),
-        None,
-    ];
-    let game = decode(rt.alloc(), &MATCHES)?;
-    assert_eq!(rt; next_matches(&game), want);
-    let view = View::new(rt.alloc(), &MATCHES)?;
-    assert_eq!(rt; next_matches(&view), want);
-    assert_eq!(rt; cursor_entries(&game), want);
-    assert_eq!(rt; cursor_entries(&view), want);
+    finds_each_match(&rt, &decode(rt.alloc(), &MATCHES)?);
+    finds_each_match(&rt, &View::new(rt.alloc(), &MATCHES)?);
     Ok(())
 }
 
@@ -359,8 +389,8 @@ fn read_from_matches<T: Tables>(tables: &T) -> [[Option<Condact>; 2]; 6] {
     ]
 }
 
-#[test]
-fn both_read_on_from_the_next_match(rt: HostRuntime) -> Result<(), Fail> {
+// Checks that a reader reads each of these condacts.
+fn reads_each_setting<T: Tables>(rt: &impl Abort, tables: &T) {
     let want = [
         [Some(setting(0)), None],
         [Some(setting(1)), None],
@@ -369,10 +399,13 @@ fn both_read_on_from_the_next_match(rt: HostRuntime) -> Result<(), Fail> {
         [Some(setting(4)), None],
         [None, None],
     ];
-    let game = decode(rt.alloc(), &SETTINGS)?;
-    assert_eq!(rt; read_from_matches(&game), want);
-    let view = View::new(rt.alloc(), &SETTINGS)?;
-    assert_eq!(rt; read_from_matches(&view), want);
+    assert_eq!(rt; read_from_matches(tables), want);
+}
+
+#[test]
+fn both_read_on_from_the_next_match(rt: HostRuntime) -> Result<(), Fail> {
+    reads_each_setting(&rt, &decode(rt.alloc(), &SETTINGS)?);
+    reads_each_setting(&rt, &View::new(rt.alloc(), &SETTINGS)?);
     Ok(())
 }
 
@@ -419,14 +452,16 @@ fn condacts<T: Tables>(tables: &T) -> [Option<Condact>; 3] {
     ]
 }
 
+// Checks that a reader gives the lantern, and the condacts of its entry.
+fn tells_the_lantern<T: Tables>(rt: &impl Abort, tables: &T) {
+    assert!(rt; is_lantern(tables));
+    assert_eq!(rt; condacts(tables), [Some(MESSAGE), Some(DONE), None]);
+}
+
 #[test]
 fn both_tell_the_lantern(rt: HostRuntime) -> Result<(), Fail> {
-    let game = decode(rt.alloc(), &LANTERN)?;
-    let view = View::new(rt.alloc(), &LANTERN)?;
-    assert!(rt; is_lantern(&game));
-    assert!(rt; is_lantern(&view));
-    assert_eq!(rt; condacts(&game), [Some(MESSAGE), Some(DONE), None]);
-    assert_eq!(rt; condacts(&view), [Some(MESSAGE), Some(DONE), None]);
+    tells_the_lantern(&rt, &decode(rt.alloc(), &LANTERN)?);
+    tells_the_lantern(&rt, &View::new(rt.alloc(), &LANTERN)?);
     Ok(())
 }
 
@@ -522,7 +557,7 @@ fn every_kind(alloc: Global) -> Result<Vec<u8>, AllocError> {
     Ok(image)
 }
 
-// The classes of the seven words.
+// What a reader gives of the seven words.
 fn classes<T: Tables>(tables: &T) -> [Option<(u8, u8)>; 7] {
     [
         tables.word(b"ABLE "),
@@ -559,27 +594,34 @@ fn has_every_kind<T: Tables>(tables: &T) -> bool {
         && tables.head(0, 1) == Some((1, 255))
 }
 
+/// The values and the classes of the seven words.
+const OF_SEVEN_WORDS: [Option<(u8, u8)>; 7] = [
+    Some((30, 0)),
+    Some((31, 1)),
+    Some((50, 2)),
+    Some((40, 3)),
+    Some((60, 4)),
+    Some((61, 5)),
+    Some((62, 6)),
+];
+
+// Checks that a reader gives them, the objects and the condacts.
+fn tells_every_kind<T: Tables>(rt: &impl Abort, tables: &T) {
+    assert_eq!(rt; classes(tables), OF_SEVEN_WORDS);
+    assert!(rt; has_every_kind(tables));
+}
+
+// Checks that both readers do, and that the image is written again.
+fn both_tell(rt: &impl Abort, alloc: Global, image: &[u8]) -> Result<(), Fail> {
+    tells_every_kind(rt, &decode(alloc, image)?);
+    tells_every_kind(rt, &View::new(alloc, image)?);
+    is_written_again(rt, alloc, image)
+}
+
 #[test]
 fn both_tell_every_kind_of_row(rt: HostRuntime) -> Result<(), Fail> {
     let image = every_kind(rt.alloc())?;
-    let game = decode(rt.alloc(), &image)?;
-    let view = View::new(rt.alloc(), &image)?;
-    let want = [
-        Some((30, 0)),
-        Some((31, 1)),
-        Some((50, 2)),
-        Some((40, 3)),
-        Some((60, 4)),
-        Some((61, 5)),
-        Some((62, 6)),
-    ];
-    assert_eq!(rt; classes(&game), want);
-    assert_eq!(rt; classes(&view), want);
-    assert!(rt; has_every_kind(&game));
-    assert!(rt; has_every_kind(&view));
-    let again = encode(rt.alloc(), &game)?;
-    assert_eq!(rt; again.as_slice(), image.as_slice());
-    Ok(())
+    both_tell(&rt, rt.alloc(), &image)
 }
 
 // The condact of this number, plain or indirect: one, two or three bytes.

@@ -1,7 +1,7 @@
-// A small source, read as its rules say.
+// A small source, cut into lines and tokens as its rules say.
 
-use super::*;
 use paw_base::fault::SourceKind;
+use paw_lex::{LexFault, Line, Lines, Token, byte_fault, next_token};
 use std::test::Fail;
 
 /// Line ends of both kinds, an empty line, a comment with a byte 0, a CR alone, and a last line that a byte 0x1A ends.

@@ -1,6 +1,6 @@
 // Faults and lack of memory, each in its own way.
 
-use crate::read_error::ReadError;
+use paw_read_error::read_error::ReadError;
 use std::alloc::AllocError;
 use std::test::Fail;
 
