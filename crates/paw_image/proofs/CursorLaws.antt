@@ -5,14 +5,16 @@ use Rattle.std.proofs.Common.{refl, sym, ap, subst, ◌∙◌, inl, inr, arith}
 use Rattle.std.proofs.lemmas.Bool.{cases_lt, lt-ltb, le-ltb}
 use Rattle.std.proofs.lemmas.List.{length-drop, take_all}
 use Rattle.paw_base.specs.declared.parts.Condact.{Condact}
-use Rattle.paw_game.specs.Tables.{condact_at, entry_at}
+use Rattle.std.specs.Prelude.{IfSome}
+use Rattle.std.proofs.lemmas.Option.{none-some, same_Some, slice_get-get_or}
+use Rattle.paw_game.specs.Tables.{condact_at, condacts_of, entry_at}
 use Rattle.paw_read_error.specs.Bind.{◌>>=◌}
 use Rattle.paw_image.specs.Damage.{Passing, each}
 use Rattle.paw_image.specs.Reading.{Reading}
 use Rattle.paw_image.specs.inner.Milestones.{IsEnd, AreFrom, AreNth}
 use Rattle.paw_image.specs.inner.Reading.{IsFault, leading_condact}
-use Rattle.paw_image.specs.inner.Rows.{past_condact, condact_among, nth_condact, value_of}
-use Rattle.paw_image.specs.inner.Views.{game_read, CondactsStand, EntryStands}
+use Rattle.paw_image.specs.inner.Rows.{past_condact, condact_among, head_here, nth_condact, value_of}
+use Rattle.paw_image.specs.inner.Views.{game_read, AreLeft, CondactsStand, EntryStands, HeadCounts, condact_count}
 use Rattle.paw_image.proofs.CondactLaws.{each_add, each_more}
 use Rattle.paw_image.proofs.EndLaws.{end_whole, end_taken, end_of_end, end_fits}
 use Rattle.paw_image.proofs.Faults.{fault_first, no_value}
@@ -142,3 +144,32 @@ stands_in bytes t e at left offset place there are k = are k ∙ there (at + k)
 
 pub stands_nowhere : (bytes : List ℕ) (t e at offset : ℕ) → entry_at (game_read bytes) t e ≡ None → CondactsStand bytes t e at 0 offset
 stands_nowhere bytes t e at offset none k = among_none k (drop offset bytes) ∙ sym (rw none refl)
+
+-- A condact for where there is none.
+no_condact : Condact
+no_condact = record { code = 0; a = 0; b = 0 }
+
+-- Where condacts are left, the first of them is there.
+pub left_there : (bytes : List ℕ) (t e at left offset : ℕ) → CondactsStand bytes t e at left offset → AreLeft bytes t e at left → 0 < left
+    → value_of (leading_condact (drop offset bytes)) ≡ None → ⊥
+left_there bytes t e at left offset stands there lt none =
+    let here = stands_first bytes t e at left offset stands lt in
+    let within : at < condact_count bytes t e = omega (arith, there lt, lt) in
+    none-some (get_or (condacts_of (entry_at (game_read bytes) t e)) at no_condact)
+    (sym none ∙ here ∙ slice_get-get_or (condacts_of (entry_at (game_read bytes) t e)) at no_condact within)
+
+-- After one of them, one fewer is left.
+pub left_next : (bytes : List ℕ) (t e at left : ℕ) → AreLeft bytes t e at left → 0 < left → AreLeft bytes t e (at + 1) (left - 1)
+left_next bytes t e at left there lt some = omega (arith, there lt, lt, some)
+
+-- An entry has the condacts that its head counts.
+pub left_in : (bytes : List ℕ) (t e at left place : ℕ) → HeadCounts bytes t e place
+    → (0 < left → IfSome (head_here (drop place bytes)) (λ x. at + left ≤ x.1)) → AreLeft bytes t e at left
+left_in bytes t e at left place counts few some =
+    subst (λ (h : Option ((ℕ × ℕ) × ℕ)). IfSome h (λ x. at + left ≤ x.1)) counts.1 (few some)
+
+pub left_whole : (bytes : List ℕ) (t e place : ℕ) (head : ℕ × ℕ) (left : ℕ) → HeadCounts bytes t e place
+    → head_here (drop place bytes) ≡ Some (head, left) → AreLeft bytes t e 0 left
+left_whole bytes t e place head left counts h some =
+    let same = ap (λ (x : (ℕ × ℕ) × ℕ). x.1) (same_Some _ _ (sym h ∙ counts.1)) in
+    omega (arith, same)

@@ -1,20 +1,20 @@
 -- What stands at an offset of bytes: the head of an entry, or a condact.
-use Rattle.std.proofs.Common.{◌≡◌, ℕ, zero, suc, ◌+◌, List, [], ◌∷◌, drop, get_or, Some, None, Ok, refl, sym, ap, ◌∙◌, arith}
-use Rattle.std.specs.Prelude.{slice_get}
+use Rattle.std.proofs.Common.{◌≡◌, ℕ, zero, suc, ◌+◌, ◌<◌, List, [], ◌∷◌, length, drop, get_or, Some, None, Ok, refl, sym, ap, ◌∙◌}
+use Rattle.std.proofs.Common.{inl, inr, arith}
+use Rattle.std.specs.Prelude.{slice_get, IfSome, ◌≤◌}
 use Rattle.std.proofs.lemmas.List.{drop-drop}
-use Rattle.std.proofs.lemmas.Option.{none-some, same_Some}
-use Rattle.std.proofs.lemmas.Bool.{false_from_ne_true}
+use Rattle.std.proofs.lemmas.Option.{none-some, same_Some, slice_get_past}
+use Rattle.std.proofs.lemmas.Bool.{cases_lt, false_from_ne_true}
 use Rattle.paw_base.specs.declared.parts.Condact.{Condact}
 use Rattle.paw_base.specs.declared.rows.ParamKind.{ParamKind}
 use Rattle.paw_base.specs.declared.rows.ParamKind.TheVariants as kind
 use Rattle.paw_base.specs.Condacts.{is_code, first_kind, second_kind}
 use Rattle.paw_base.specs.inner.Condacts.{IsCode}
-use Rattle.paw_game.specs.Tables.{condact_at}
 use Rattle.paw_read_error.specs.Bind.{◌>>=◌}
 use Rattle.paw_image.specs.Reading.{Reading, byte_at}
 use Rattle.paw_image.specs.inner.Reading.{IsFault, leading_condact, parameter_at}
 use Rattle.paw_image.specs.inner.Rows.{head_here, condact_among, nth_condact, value_of}
-use Rattle.paw_image.specs.inner.Views.{game_read, CondactsStand, EntryStands}
+use Rattle.paw_image.specs.inner.Views.{CondactsStand, EntryStands}
 use Rattle.paw_image.proofs.Faults.{fault_first, no_value}
 
 -- ---- the head of an entry ----
@@ -46,6 +46,14 @@ head_is p bytes count h =
 
 pub no_head : (p : ℕ) (bytes : List ℕ) → slice_get bytes (p + 2) ≡ None → head_here (drop p bytes) ≡ None
 no_head p bytes h = let two : p + 2 ≡ suc (suc p) = omega arith in no_head_from p bytes (rw two at h)
+
+-- The third byte of a row is the number in its head.
+pub few_in_row : (row same : List ℕ) (n : ℕ) → same ≡ row → 3 ≤ length same → n ≤ get_or same 2 0 → IfSome (head_here row) (λ x. n ≤ x.1)
+unfolding head_here
+few_in_row [] same n e long few = tt
+few_in_row (b ∷ []) same n e long few = tt
+few_in_row (b ∷ c ∷ []) same n e long few = tt
+few_in_row (b ∷ c ∷ d ∷ row) same n e long few = rw e at few
 
 -- ---- the first condact of an entry ----
 
@@ -105,6 +113,17 @@ parameter_is k p bytes b other h = rw (by_kind k (drop p bytes) other, here p by
 pub no_parameter : (k : ParamKind) (p : ℕ) (bytes : List ℕ) → (k ≡ kind.Absent → ⊥) → slice_get bytes p ≡ None → IsFault (parameter_at k (drop p bytes))
 no_parameter k p bytes other h = rw (by_kind k (drop p bytes) other, nothing_here p bytes h) tt
 
+-- A byte that can be read is there.
+byte_there : (p : ℕ) (bytes : List ℕ) → (slice_get bytes p ≡ None → ⊥) → p < length bytes
+byte_there p bytes h =
+    elim (cases_lt p (length bytes)) [
+      | inl lt ↦ lt
+      | inr le ↦ absurd (h (slice_get_past bytes p le))
+    ]
+
+pub parameter_there : (k : ParamKind) (p : ℕ) (bytes : List ℕ) → (k ≡ kind.Absent → ⊥) → (IsFault (parameter_at k (drop p bytes)) → ⊥) → p < length bytes
+parameter_there k p bytes other h = byte_there p bytes (λ none. h (no_parameter k p bytes other none))
+
 -- What is read of a condact from its code on.
 abbrev parameters_at : ℕ → List ℕ → Reading Condact
 parameters_at code bytes =
@@ -138,3 +157,6 @@ module _ (p : ℕ) (bytes : List ℕ) (code : ℕ) (h : slice_get bytes p ≡ So
 pub nothing_read : (p : ℕ) (bytes : List ℕ) → slice_get bytes p ≡ None → value_of (leading_condact (drop p bytes)) ≡ None
 unfolding leading_condact
 nothing_read p bytes h = rw (nothing_here p bytes h) refl
+
+pub code_there : (p : ℕ) (bytes : List ℕ) → (value_of (leading_condact (drop p bytes)) ≡ None → ⊥) → p < length bytes
+code_there p bytes h = byte_there p bytes (λ none. h (nothing_read p bytes none))

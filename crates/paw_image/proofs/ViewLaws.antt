@@ -24,7 +24,7 @@ use Rattle.paw_image.specs.inner.Reading as inner_reading
 use Rattle.paw_image.specs.inner.Reading.{all_of}
 use Rattle.paw_image.specs.inner.Rows.{value_of, head_here, nth_condact, entry_here}
 use Rattle.paw_image.specs.inner.Sizes.{FitsGame, FitsCondact, FitsEntry, FitsTable}
-use Rattle.paw_image.specs.inner.Views.{game_read, rows_begin, tables_begin_at, span_at, IsIndex}
+use Rattle.paw_image.specs.inner.Views.{game_read, rows_begin, tables_begin_at, span_at, IsIndex, HeadCounts}
 use Rattle.paw_base.specs.declared.limits.TheConstants.{IMAGE_LIMIT}
 use Rattle.paw_image.specs.declared.head.Front.{Front}
 use Rattle.paw_image.specs.declared.offsets.Offsets.{Offsets}
@@ -121,6 +121,14 @@ pub head_read : (bytes : List ℕ) → IsImage bytes (game_read bytes) → (t k 
     → option_map {U = ℕ × ℕ} (λ (x : (ℕ × ℕ) × ℕ). x.0) (head_here (drop p bytes)) ≡ head_at (game_read bytes) t k
 head_read bytes is t k p h = let r = entry_at_place bytes is t k p h in rw (r.lies, r.is, head_there r.row r.after) refl
 
+pub counts_read : (bytes : List ℕ) → IsImage bytes (game_read bytes) → (t k p : ℕ)
+    → slice_get (unwrap_or (slice_get (entry_offsets (tables_begin_at (game_read bytes)) (game_read bytes).tables) t) []) k
+    ≡ Some p
+    → HeadCounts bytes t k p
+counts_read bytes is t k p h =
+    let r = entry_at_place bytes is t k p h in
+    ((r.row.verb, r.row.noun), rw (r.lies, r.is) (head_there r.row r.after))
+
 pub condact_read : (bytes : List ℕ) → IsImage bytes (game_read bytes) → (t k p at : ℕ)
     → slice_get (unwrap_or (slice_get (entry_offsets (tables_begin_at (game_read bytes)) (game_read bytes).tables) t) []) k
     ≡ Some p
@@ -196,6 +204,9 @@ module _ {bytes : List ℕ} {counts : Counts} {words : List Word} {p : Offsets} 
   pub condact_by_index : (at place : ℕ) → slice_get i.entries.items k ≡ Some place
       → nth_condact at (drop place bytes) ≡ condact_at (game_read bytes) t k at
   condact_by_index at place h = condact_read bytes is.image t k place at (entry_begins ∙ h)
+
+  pub counts_by_index : (place : ℕ) → slice_get i.entries.items k ≡ Some place → HeadCounts bytes t k place
+  counts_by_index place h = counts_read bytes is.image t k place (entry_begins ∙ h)
 
   pub milestones_by_index : (place : ℕ) → slice_get i.entries.items k ≡ Some place
       → EntryMilestones (drop (get_or i.milestones.firsts.items k 0) i.milestones.milestones.items) (drop place bytes)

@@ -1,7 +1,7 @@
 // One row of an image, read where it stands.
 
-ghost use Rattle.std.specs.Prelude.{◌≡◌, ◌+◌, ◌*◌, ◌/◌, ◌^◌, ◌<◌, drop, Ok, None, slice_get};
-ghost use Rattle.std.specs.Prelude.{OnErr, IfSome, OnSome, IfNone};
+ghost use Rattle.std.specs.Prelude.{◌≡◌, ◌+◌, ◌*◌, ◌/◌, ◌<◌, ◌≤◌, drop, length, Ok, None, Some, slice_get};
+ghost use Rattle.std.specs.Prelude.{OnErr, IfSome};
 ghost use Rattle.std.specs.Option.{option_copied, option_map};
 ghost use Rattle.paw_image.specs.inner.Milestones.{AreMilestones, AreFrom, AreNth, IsEnd, EntryMilestones};
 ghost use Rattle.paw_image.specs.inner.Milestones.{milestones_of};
@@ -28,18 +28,6 @@ fn from_offset(bytes: &[u8], place: usize) -> &[u8]
         return &[];
     }
     &bytes[place..]
-}
-
-// The byte at an offset, if there is one. An offset comes after it then, which `get` doesn't say.
-fn byte_in(bytes: &[u8], place: usize) -> Option<u8>
-    ensures value { result ≡ slice_get bytes.now place }
-    ensures below { OnSome result (place + 1 < 2 ^ 64) }
-{
-    if place < bytes.len() {
-        Some(bytes[place])
-    } else {
-        None
-    }
 }
 
 /// The text that begins at an offset, with its length.
@@ -108,12 +96,13 @@ pub fn exit_at(bytes: &[u8], place: u32, verb: u8) -> Option<u8>
 }
 
 /// The verb and the noun of the entry that begins at an offset, and how many condacts it has.
-pub fn head_in(bytes: &[u8], place: u32) -> Option<((u8, u8), u8)>
-    ensures value { result ≡ head_here (drop place bytes.now) }
+pub fn head_in(bytes: &[u8], place: u32) -> ((u8, u8), u8)
+    requires there { ¬ (head_here (drop place bytes.now) ≡ None) }
+    ensures value { head_here (drop place bytes.now) ≡ Some result }
 {
     let place = place as usize;
-    let count = byte_in(bytes, place + 2)?;
-    Some(((bytes[place], bytes[place + 1]), count))
+    prove!(place + 2 < bytes.len());
+    ((bytes[place], bytes[place + 1]), bytes[place + 2])
 }
 
 // The bytes after this number of condacts.
@@ -159,6 +148,7 @@ fn from_condact<'a>(
 ) -> (u8, &'a [u8])
     requires milestones { AreMilestones (milestones_of milestones.now entry) count condacts.now }
     ensures value { AreFrom at count condacts.now result.0 result.1.now }
+    ensures few { 0 < result.0 → at + result.0 ≤ count }
     ensures end { IsEnd condacts.now result.1.now }
 {
     if at >= count {
@@ -184,6 +174,7 @@ pub fn condacts_in(
 ) -> (u8, usize)
     requires milestones { EntryMilestones (milestones_of milestones.now entry) (drop place bytes.now) }
     ensures value { AreNth at (drop place bytes.now) result.0 (drop result.1 bytes.now) }
+    ensures few { 0 < result.0 → IfSome (head_here (drop place bytes.now)) (λ x. at + result.0 ≤ x.1) }
 {
     match from_offset(bytes, place as usize) {
         [_, _, count, condacts @ ..] => {
@@ -194,30 +185,41 @@ pub fn condacts_in(
     }
 }
 
-// The parameter of this kind at an offset, and where the bytes after it begin; 0 where there is none.
-fn parameter_in(kind: ParamKind, bytes: &[u8], place: usize) -> Option<(u8, usize)>
-    ensures some { IfSome result (λ x. parameter_at kind (drop place bytes.now) ≡ Ok (x.0, drop x.1 bytes.now)) }
-    ensures none { IfNone result (IsFault (parameter_at kind (drop place bytes.now))) }
+// The byte at an offset, and the offset after it.
+fn byte_from(bytes: &[u8], place: usize) -> (u8, usize)
+    requires there { place < length bytes.now }
+    ensures value { slice_get bytes.now place ≡ Some result.0 }
+    ensures next { result.1 ≡ place + 1 }
+{
+    prove!(place < bytes.len());
+    (bytes[place], place + 1)
+}
+
+// The parameter of this kind at an offset, and where the bytes after it begin; 0 where the kind has none.
+fn parameter_in(kind: ParamKind, bytes: &[u8], place: usize) -> (u8, usize)
+    requires there { ¬ IsFault (parameter_at kind (drop place bytes.now)) }
+    ensures value { parameter_at kind (drop place bytes.now) ≡ Ok (result.0, drop result.1 bytes.now) }
 {
     match kind {
-        ParamKind::Absent => Some((0, place)),
-        _ => {
-            let value = byte_in(bytes, place)?;
-            Some((value, place + 1))
-        }
+        ParamKind::Absent => (0, place),
+        _ => byte_from(bytes, place),
     }
 }
 
-/// The condact that begins at an offset, and where the next one does.
-pub fn condact_at(bytes: &[u8], place: usize) -> Option<(Condact, usize)>
-    ensures some { IfSome result (λ x. leading_condact (drop place bytes.now) ≡ Ok (x.0, drop x.1 bytes.now)) }
-    ensures none { IfNone result (value_of (leading_condact (drop place bytes.now)) ≡ None) }
+/// The condact that begins at an offset, where one does, and where the next one begins.
+pub fn condact_at(bytes: &[u8], place: usize) -> (Condact, usize)
+    requires there { ¬ (value_of (leading_condact (drop place bytes.now)) ≡ None) }
+    ensures value { leading_condact (drop place bytes.now) ≡ Ok (result.0, drop result.1 bytes.now) }
 {
-    let code = byte_in(bytes, place)?;
-    let row = condact_row(code)?;
-    let (a, place) = parameter_in(row.first, bytes, place + 1)?;
-    let (b, place) = parameter_in(row.second, bytes, place)?;
-    Some((Condact { code, a, b }, place))
+    let (code, place) = byte_from(bytes, place);
+    match condact_row(code) {
+        Some(row) => {
+            let (a, place) = parameter_in(row.first, bytes, place);
+            let (b, place) = parameter_in(row.second, bytes, place);
+            (Condact { code, a, b }, place)
+        }
+        None => unreachable!(),
+    }
 }
 
 // A row up to this number of condacts, and with them.

@@ -13,7 +13,7 @@ ghost use Rattle.paw_image.specs.inner.Images.{IfDamaged};
 ghost use Rattle.paw_image.specs.inner.Offsets.{entries_of};
 ghost use Rattle.paw_image.specs.inner.Milestones.{EntryMilestones, milestones_of};
 ghost use Rattle.paw_image.specs.inner.Views.{game_read, rows_begin, span_at};
-ghost use Rattle.paw_image.specs.inner.Views.{CondactsStand, CursorStands, EntryStands};
+ghost use Rattle.paw_image.specs.inner.Views.{AreLeft, CondactsStand, CursorStands, EntryStands, HeadCounts};
 
 use crate::at_offset::{condact_at, condacts_in, entry_in, exit_at, facts_in, head_in, text_in};
 use crate::damage::pass_whole;
@@ -139,6 +139,7 @@ impl<'a> View<'a> {
     fn marked_entry(&self, table: u8, entry: u16) -> Option<(u32, &Milestones)>
         ensures milestones { IfSome result (λ x. EntryMilestones (milestones_of x.1.now entry) (drop x.0 self.now)) }
         ensures stands { IfSome result (λ x. EntryStands self.now table entry x.0) }
+        ensures count { IfSome result (λ x. HeadCounts self.now table entry x.0) }
         ensures none { IfNone result (entry_at (game_read self.now) table entry ≡ None) }
     {
         let index = index_of(&self.offsets.tables, table)?;
@@ -156,7 +157,7 @@ impl<'a> View<'a> {
         ensures small { OnSome result (entry < ENTRY_LIMIT) }
     {
         let offset = entry_offset(&self.offsets.tables, table, entry)?;
-        let (head, left) = head_in(self.bytes, offset)?;
+        let (head, left) = head_in(self.bytes, offset);
         let cursor = CondactCursor {
             table,
             entry,
@@ -178,6 +179,7 @@ impl<'a> View<'a> {
     // How many condacts an entry has from one of them on, and where that one begins; none where there is no entry.
     fn condacts_from(&self, table: u8, entry: u16, at: u8) -> (u8, usize)
         ensures value { CondactsStand self.now table entry at result.0 result.1 }
+        ensures there { AreLeft self.now table entry at result.0 }
     {
         match self.marked_entry(table, entry) {
             Some((offset, milestones)) => condacts_in(self.bytes, offset, milestones, entry, at),
@@ -243,7 +245,7 @@ impl<'a> Tables for View<'a> {
         if cursor.left == 0 {
             return None;
         }
-        let (condact, next) = condact_at(self.bytes, cursor.offset)?;
+        let (condact, next) = condact_at(self.bytes, cursor.offset);
         cursor.at += 1;
         cursor.left -= 1;
         cursor.offset = next;

@@ -1,5 +1,5 @@
 -- The game whose image some bytes are, where its rows stand in them, and what a view keeps of it.
-use Rattle.std.specs.Prelude.{◌≡◌, ℕ, ◌+◌, List, [], length, Option, Some, None, Result, Ok, Err, flat_map, slice_get}
+use Rattle.std.specs.Prelude.{◌≡◌, ℕ, ◌+◌, ◌<◌, ◌≤◌, List, [], length, Option, Some, None, Result, Ok, Err, flat_map, slice_get}
 use Rattle.std.specs.Prelude.{drop}
 use Rattle.std.specs.List.{AllByRecursion}
 use Rattle.paw_base.specs.Bytes.{Bytes, Text}
@@ -10,7 +10,7 @@ use Rattle.paw_game.specs.declared.parts.GamePart.{GamePart}
 use Rattle.paw_game.specs.declared.parts.GamePart.TheVariants as part
 use Rattle.paw_game.specs.Game.{GameLists, counts_of}
 use Rattle.paw_game.specs.Image.{word_image, text_image, object_image, exits_image}
-use Rattle.paw_game.specs.Tables.{condact_at}
+use Rattle.paw_game.specs.Tables.{condact_at, condacts_of, entry_at}
 use Rattle.paw_game.specs.inner.Tables.{text_at}
 use Rattle.paw_image.specs.declared.offsets.Offsets.{Offsets}
 use Rattle.paw_image.specs.inner.Milestones.{HasMilestones}
@@ -18,7 +18,7 @@ use Rattle.paw_image.specs.Images.{IsImage}
 use Rattle.paw_image.specs.inner.Orders.{IsOrder}
 use Rattle.paw_image.specs.inner.Offsets.{offsets, entry_offsets, entries_of}
 use Rattle.paw_image.specs.inner.Reading.{all_of}
-use Rattle.paw_image.specs.inner.Rows.{condact_among, nth_condact}
+use Rattle.paw_image.specs.inner.Rows.{condact_among, head_here, nth_condact}
 
 -- The game that was read; one with no rows where none was.
 abbrev pub or_no_game : Result GameLists ℕ → GameLists
@@ -114,11 +114,24 @@ pub record IsIndex (bytes : Bytes) (counts : Counts) (words : List Word) (p : Of
 abbrev pub EntryStands : Bytes → (table entry place : ℕ) → Type 0
 EntryStands bytes t e place = (k : ℕ) → nth_condact k (drop place bytes) ≡ condact_at (game_read bytes) t e k
 
+-- How many condacts an entry has.
+abbrev pub condact_count : Bytes → (table entry : ℕ) → ℕ
+condact_count bytes t e = length (condacts_of (entry_at (game_read bytes) t e))
+
+-- The head at an offset says how many condacts an entry has.
+abbrev pub HeadCounts : Bytes → (table entry place : ℕ) → Type 0
+HeadCounts bytes t e place = (head : ℕ × ℕ) × (head_here (drop place bytes) ≡ Some (head, condact_count bytes t e))
+
+-- An entry has as many condacts as are left from number `at` on.
+abbrev pub AreLeft : Bytes → (table entry at left : ℕ) → Type 0
+AreLeft bytes t e at left = 0 < left → at + left ≤ condact_count bytes t e
+
 -- The condacts at an offset, `left` of them, are those of an entry from number `at` on.
 abbrev pub CondactsStand : Bytes → (table entry at left offset : ℕ) → Type 0
 CondactsStand bytes t e at left offset =
     (k : ℕ) → condact_among k left (drop offset bytes) ≡ condact_at (game_read bytes) t e (at + k)
 
--- At a cursor's offset stand the condacts of its entry from its own on.
-abbrev pub CursorStands : Bytes → CondactCursor → Type 0
-CursorStands bytes c = CondactsStand bytes c.table c.entry c.at c.left c.offset
+-- At a cursor's offset stand the condacts of its entry from its own on, all of which are there.
+pub record CursorStands (bytes : Bytes) (c : CondactCursor) : Type 0 where
+  pub condacts : CondactsStand bytes c.table c.entry c.at c.left c.offset
+  pub there : AreLeft bytes c.table c.entry c.at c.left

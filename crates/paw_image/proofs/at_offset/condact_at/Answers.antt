@@ -1,36 +1,46 @@
-use Rattle.std.proofs.Common.{sym, ap}
+use Rattle.std.proofs.Common.{ap}
 use Rattle.paw_base.specs.declared.rows.CondactRow.{CondactRow}
-use Rattle.paw_image.proofs.HereLaws.{condact_is, no_code, no_first, no_second, nothing_read}
+use Rattle.paw_image.proofs.HereLaws.{code_there, condact_is, no_code, no_first, no_second}
 use Rattle.paw_image.proofs.at_offset.condact_at.Goals as goal
 
-pub returns-in_err-code-clause-none : goal.returns-in_err-code-clause-none
-returns-in_err-code-clause-none c =
-    rw c.from_residual.ensures (nothing_read c.args.place c.args.bytes.now (sym c.in_err-code.ensures.value))
+pub byte_from-code-requires : goal.byte_from-code-requires
+byte_from-code-requires c = record { there = code_there c.args.place c.args.bytes.now c.requires.there }
 
-pub returns-in_err-row-clause-none : goal.returns-in_err-row-clause-none
-returns-in_err-row-clause-none c =
-    rw c.from_residual-in_err-row.ensures
-    (no_code c.args.place c.args.bytes.now c.in_ok-code.code (sym c.in_ok-code.ensures.value) c.in_err-row.ensures.value)
+pub parameter_in-a-requires : goal.parameter_in-a-requires
+parameter_in-a-requires c =
+    let row = c.in-Some.ensures.value in
+    let code = c.byte_from-code in
+    record {
+      there = λ fault. c.requires.there
+          (no_first c.args.place c.args.bytes.now code.result.0 code.ensures.value row.0
+          (rw (ap (λ (r : CondactRow). r.first) row.1, code.ensures.next) at fault));
+    }
 
-pub returns-in_err-a-clause-none : goal.returns-in_err-a-clause-none
-returns-in_err-a-clause-none c =
-    let row = c.in_ok-row.ensures.value in
-    let fault = rw (ap (λ (r : CondactRow). r.first) row.1) at c.in_err-a.ensures.none in
-    rw c.from_residual-in_err-a.ensures
-    (no_first c.args.place c.args.bytes.now c.in_ok-code.code (sym c.in_ok-code.ensures.value) row.0 fault)
+pub parameter_in-b-requires : goal.parameter_in-b-requires
+parameter_in-b-requires c =
+    let row = c.in-Some.ensures.value in
+    let code = c.byte_from-code in
+    let a = c.parameter_in-a in
+    let first = rw (ap (λ (r : CondactRow). r.first) row.1, code.ensures.next) at a.ensures.value in
+    record {
+      there = λ fault. c.requires.there
+          (no_second c.args.place c.args.bytes.now code.result.0 code.ensures.value row.0 a.result.0 a.result.1 first
+          (rw (ap (λ (r : CondactRow). r.second) row.1) at fault));
+    }
 
-pub returns-in_err-b-clause-none : goal.returns-in_err-b-clause-none
-returns-in_err-b-clause-none c =
-    let row = c.in_ok-row.ensures.value in
-    let first = rw (ap (λ (r : CondactRow). r.first) row.1) at c.in_ok-a.ensures.some in
-    let fault = rw (ap (λ (r : CondactRow). r.second) row.1) at c.in_err-b.ensures.none in
-    rw c.from_residual-in_err-b.ensures
-    (no_second c.args.place c.args.bytes.now c.in_ok-code.code (sym c.in_ok-code.ensures.value) row.0 c.in_ok-a.a c.in_ok-a.place first fault)
+pub unreachable-requires : goal.unreachable-requires
+unreachable-requires c =
+    let code = c.byte_from-code in
+    c.requires.there (no_code c.args.place c.args.bytes.now code.result.0 code.ensures.value c.in-None.ensures.value)
 
-pub returns-clause-some : goal.returns-clause-some
-returns-clause-some c =
-    let row = c.in_ok-row.ensures.value in
-    let first = rw (ap (λ (r : CondactRow). r.first) row.1) at c.in_ok-a.ensures.some in
-    let second = rw (ap (λ (r : CondactRow). r.second) row.1) at c.in_ok-b.ensures.some in
-    condact_is c.args.place c.args.bytes.now c.in_ok-code.code (sym c.in_ok-code.ensures.value) row.0 c.in_ok-a.a c.in_ok-b.b
-    c.in_ok-a.place c.in_ok-b.place first second
+pub returns : goal.returns
+returns c =
+    let row = c.in-Some.ensures.value in
+    let code = c.byte_from-code in
+    let a = c.parameter_in-a in
+    let b = c.parameter_in-b in
+    let first = rw (ap (λ (r : CondactRow). r.first) row.1, code.ensures.next) at a.ensures.value in
+    let second = rw (ap (λ (r : CondactRow). r.second) row.1) at b.ensures.value in
+    record {
+      value = condact_is c.args.place c.args.bytes.now code.result.0 code.ensures.value row.0 a.result.0 b.result.0 a.result.1 b.result.1 first second;
+    }

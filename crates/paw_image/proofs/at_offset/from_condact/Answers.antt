@@ -8,6 +8,7 @@ use Rattle.paw_image.proofs.at_offset.from_condact.Goals as goal
 pub returns-then-at-count : goal.returns-then-at-count
 returns-then-at-count c = record {
   value = none_from c.args.at c.args.count c.args.condacts.now c.args.condacts.now c.if-at-count.true;
+  few = λ some. omega arith;
   end = end_whole c.args.condacts.now;
 }
 
@@ -20,6 +21,7 @@ returns-in-Ok c =
     ∙ c.in-Ok.ensures.gives in
     record {
       value = among_from c.args.at c.args.count _ condacts rest walk (omega (arith, c.if-at-count.false));
+      few = λ some. omega (arith, c.if-at-count.false);
       end = walked_end c.args.at condacts rest (λ i. omega (arith, c.type_inv.condacts i)) walk;
     }
 
@@ -29,5 +31,6 @@ returns-in-Err c =
     record {
       value = fault_from (c.args.at / 8 * 8) (c.args.at % 8) c.args.at c.args.count condacts c.from_milestone.result.now condacts c.from_milestone.ensures.value
           c.in-Err.ensures.fails (omega arith);
+      few = λ some. omega arith;
       end = end_whole condacts;
     }

@@ -1,9 +1,14 @@
-use Rattle.std.proofs.Common.{sym, ◌∙◌}
+use Rattle.std.proofs.Common.{◌+◌, get_or, arith}
+use Rattle.std.proofs.lemmas.Option.{slice_get_past, slice_get-get_or}
 use Rattle.paw_image.proofs.HereLaws.{head_is, no_head}
 use Rattle.paw_image.proofs.at_offset.head_in.Goals as goal
 
-pub returns-in_err-count : goal.returns-in_err-count
-returns-in_err-count c = record { value = c.from_residual.ensures ∙ sym (no_head c.args.place c.args.bytes.now (sym c.in_err-count.ensures.value)) }
+pub prove-unreachable-requires : goal.prove-unreachable-requires
+prove-unreachable-requires c =
+    c.requires.there (no_head c.args.place c.args.bytes.now (slice_get_past c.args.bytes.now (c.args.place + 2) c.if-prove.true))
 
 pub returns : goal.returns
-returns c = record { value = sym (head_is c.args.place c.args.bytes.now c.in_ok-count.count (sym c.in_ok-count.ensures.value)) }
+returns c =
+    let bytes = c.args.bytes.now in
+    let count = slice_get-get_or bytes (c.args.place + 2) 0 (omega (arith, c.if-prove.false)) in
+    record { value = head_is c.args.place bytes (get_or bytes (c.args.place + 2) 0) count }

@@ -1,4 +1,5 @@
-use Rattle.paw_image.proofs.CursorLaws.{stands_in, stands_nowhere}
+use Rattle.std.proofs.Common.{arith}
+use Rattle.paw_image.proofs.CursorLaws.{left_in, stands_in, stands_nowhere}
 use Rattle.paw_image.proofs.view.View.condacts_from.Goals as goal
 
 pub condacts_in-requires : goal.condacts_in-requires
@@ -10,7 +11,9 @@ returns-in-Some c =
     record {
       value = stands_in c.args.self.now c.args.table c.args.entry c.args.at c.condacts_in.result.0 c.condacts_in.result.1 c.in-Some.offset
           c.in-Some.ensures.stands read;
+      there = left_in c.args.self.now c.args.table c.args.entry c.args.at c.condacts_in.result.0 c.in-Some.offset c.in-Some.ensures.count
+          (rw c.self.view_is at c.condacts_in.ensures.few);
     }
 
 pub returns-in-None : goal.returns-in-None
-returns-in-None c = record { value = stands_nowhere c.args.self.now c.args.table c.args.entry c.args.at 0 c.in-None.ensures.none }
+returns-in-None c = record { value = stands_nowhere c.args.self.now c.args.table c.args.entry c.args.at 0 c.in-None.ensures.none; there = λ some. omega (arith, some) }

@@ -1,7 +1,7 @@
 use Rattle.std.proofs.Common.{List, ℕ, sym, ap, ◌∙◌}
 use Rattle.std.specs.Prelude.{slice_get}
 use Rattle.paw_image.specs.declared.offsets.TableIndex.{TableIndex}
-use Rattle.paw_image.proofs.ViewLaws.{no_index_read, no_place_read, condact_by_index, milestones_by_index}
+use Rattle.paw_image.proofs.ViewLaws.{no_index_read, no_place_read, condact_by_index, counts_by_index, milestones_by_index}
 use Rattle.paw_image.proofs.view.View.marked_entry.Goals as goal
 
 pub returns-in_err-index-clause-none : goal.returns-in_err-index-clause-none
@@ -31,5 +31,6 @@ returns c =
     record {
       milestones = rw c.self.view_is at (milestones_by_index c.self.invariant c.args.table index there c.args.entry offset begins);
       stands = rw c.self.view_is at (λ (k : ℕ). condact_by_index c.self.invariant c.args.table index there c.args.entry k offset begins);
+      count = rw c.self.view_is at (counts_by_index c.self.invariant c.args.table index there c.args.entry offset begins);
       none = tt;
     }
