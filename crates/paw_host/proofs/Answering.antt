@@ -8,7 +8,6 @@ use Rattle.paw_effects.specs.Story.{Story}
 use Rattle.paw_reading.specs.declared.places.Halt.TheVariants as halt
 use Rattle.paw_reading.specs.Turn.{Ending, WaitsAt, Halted, Unended, reading}
 use Rattle.paw_stage.specs.Stage.{Standing}
-use Rattle.paw_stage.specs.Moments.{Moment}
 use Rattle.paw_journal.specs.Session.{IsUnmade, recover}
 use Rattle.paw_journal.specs.inner.Store.{ChangesStoreOnly}
 use Rattle.paw_play.specs.Stands.{Stands}
@@ -94,7 +93,7 @@ making_by : (g : Story) (seed : ℕ) (s : NamedSession) (o : List (List ℕ)) (b
 making_by g seed s o bytes e h = subst (λ x. LeftOfMaking g seed Absent x bytes) (sym e) h
 
 -- While the game is begun.
-pub in_new_begun : (g : Story) (seed : ℕ) (text : Option (List ℕ)) (old : Standing) (m : Moment) → InFile (LeftOfBeginning g seed) old m →
+pub in_new_begun : (g : Story) (seed : ℕ) (text : Option (List ℕ)) (old m : Standing) → InFile (LeftOfBeginning g seed) old m →
     InFile (LeftOf g seed Absent (answer g seed Absent text).session) old m
 in_new_begun g seed text old m i = record {
   asked = i.asked;
@@ -108,7 +107,7 @@ in_new_begun g seed text old m i = record {
 }
 
 -- What holds from a store beside which nothing has changed holds from before.
-pub in_file_from : (Left : List ℕ → Type 0) (old mid : Standing) (m : Moment) → ChangesStoreOnly old mid → InFile Left mid m → InFile Left old m
+pub in_file_from : (Left : List ℕ → Type 0) (old mid : Standing) (m : Standing) → ChangesStoreOnly old mid → InFile Left mid m → InFile Left old m
 in_file_from Left old mid m b i = record {
   asked = i.asked ∙ b.asked;
   shown = i.shown ∙ b.shown;
@@ -118,7 +117,7 @@ in_file_from Left old mid m b i = record {
 }
 
 -- While it takes a text.
-pub in_new_taking : (g : Story) (seed : ℕ) (text : List ℕ) (old mid : Standing) (m : Moment) → (begun_answer g seed).session ≡ At seed [] →
+pub in_new_taking : (g : Story) (seed : ℕ) (text : List ℕ) (old mid : Standing) (m : Standing) → (begun_answer g seed).session ≡ At seed [] →
     ChangesStoreOnly old mid →
     InFile (StoresEither g (At seed []) (answer_taking g seed [] text).session) mid m →
     InFile (LeftOf g seed Absent (answer g seed Absent (Some text)).session) old m

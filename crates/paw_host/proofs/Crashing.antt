@@ -7,7 +7,7 @@ use Rattle.paw_effects.specs.Story.{Story}
 use Rattle.paw_effects.specs.Standing.{AreBytes}
 use Rattle.paw_reading.specs.Bounds.{IsLine, ValidStory}
 use Rattle.paw_stage.specs.Stage.{file_bytes}
-use Rattle.paw_stage.specs.Moments.{Moment}
+use Rattle.paw_stage.specs.Stage.{Standing}
 use Rattle.paw_journal.specs.Session.{IsUnmade, recover}
 use Rattle.paw_host.specs.Names.{request_of, is_name, store_name}
 use Rattle.paw_host.specs.Replies.{NamedSession, Absent, At, Refused, Sessions, sessions_with, sessions_after}
@@ -34,7 +34,7 @@ may_before g seed first lines (suc n) valid small bytes may =
     may_after g seed first (take n lines) valid small (All-take AreBytes n lines bytes) may
 
 -- What a crash leaves while the last of n lines is at work.
-left_at : (g : Story) (seed : ℕ) (first : Sessions) (lines : List (List ℕ)) (n : ℕ) (text : List ℕ) (m : Moment) → IsUpToDate g seed first lines n text m →
+left_at : (g : Story) (seed : ℕ) (first : Sessions) (lines : List (List ℕ)) (n : ℕ) (text : List ℕ) (m : Standing) → IsUpToDate g seed first lines n text m →
     EachLeft g seed (sessions_after g seed first (before_last lines n)) (sessions_after g seed first (take n lines)) m
 unfolding sessions_after
 left_at g seed first lines zero text m k = λ name is bytes may. inl (k.1 name is bytes may)

@@ -11,8 +11,8 @@ use Rattle.paw_effects.specs.Standing.{AreBytes}
 use Rattle.paw_reading.specs.Bounds.{ValidStory}
 use Rattle.paw_stage.specs.Disk.{IsStable}
 use Rattle.paw_stage.specs.Stage.{Standing, IsCut, file_bytes, with_shown}
-use Rattle.paw_stage.specs.Moments.{Moment, Passes, moment_of, InAsk, InShow}
-use Rattle.paw_stage.specs.declared.Asked.TheVariants as asked
+use Rattle.paw_stage.specs.Stage.{InAsk, InShow}
+use Rattle.paw_stage.specs.Moments.{Passes}
 use Rattle.paw_stage.specs.Across.{IsOneOf}
 use Rattle.paw_play.specs.Calls.{session_calls}
 use Rattle.paw_play.proofs.Walking.{drop_more, drop_all}
@@ -34,7 +34,7 @@ use Rattle.paw_host.proofs.Serving.{sessions_more, replies_more, not_of_more, la
 use Rattle.paw_host.proofs.Serving.{attached_in, each_done, with_attached}
 
 -- The files of all sessions, at rest.
-all_left : (g : Story) (sessions : Sessions) (s : Standing) → AllStore g sessions s → IsStable s.disk → FilesHold s → AllLeft g sessions (moment_of s)
+all_left : (g : Story) (sessions : Sessions) (s : Standing) → AllStore g sessions s → IsStable s.disk → FilesHold s → AllLeft g sessions s
 all_left g sessions s stores settled holds name is bytes may =
     subst (Stores g (sessions name)) (sym (rest_left s settled holds (store_name name) bytes may)) (stores name is)
 
@@ -102,7 +102,7 @@ grown g seed (l ∷ lines) (suc n) at =
           ∙ sym (append_assoc (reply_to g seed at (request_of l)) (replies g seed (sessions_with g seed at (request_of l)) (take n lines)) r.0),
     )
 
-keeps_now : (g : Story) (seed : ℕ) (first : Sessions) (start : Option (List ℕ)) (lines : List (List ℕ)) (n : ℕ) (m : Moment) → n ≤ length lines →
+keeps_now : (g : Story) (seed : ℕ) (first : Sessions) (start : Option (List ℕ)) (lines : List (List ℕ)) (n : ℕ) (m : Standing) → n ≤ length lines →
     m.attached ≡ attached_after start (take n lines) → AllLeft g (sessions_after g seed first (take n lines)) m →
     IsUpToDate g seed first lines n (replies g seed first (take n lines)) m
 unfolding sessions_after replies
@@ -118,7 +118,7 @@ keeps_now g seed first start lines (suc n) m there attached h =
     )
 
 at_prompt : (g : Story) (seed : ℕ) (first : Sessions) (old now : Standing) (n : ℕ) → IsServing g seed first old now n → FilesHold now →
-    InHost g seed first old (moment_of now)
+    InHost g seed first old now
 at_prompt g seed first old now n s holds = record {
   taken = n;
   text = replies g seed first (take n old.lines);
@@ -126,13 +126,13 @@ at_prompt g seed first old now n s holds = record {
   asked = s.answered.asked;
   shown = s.answered.shown;
   attached = subst (AttachedIn old.attached (take n old.lines)) (sym s.answered.attached) (attached_now old.attached (take n old.lines));
-  keeps = keeps_now g seed first old.attached old.lines n (moment_of now) s.answered.there s.answered.attached
+  keeps = keeps_now g seed first old.attached old.lines n now s.answered.there s.answered.attached
       (all_left g (sessions_after g seed first (take n old.lines)) now s.answered.files s.settled holds);
   others = s.answered.others;
 }
 
 pub still_at_prompt : (g : Story) (seed : ℕ) (first : Sessions) (old now : Standing) (n : ℕ) → IsServing g seed first old now n → FilesHold now →
-    (m : Moment) → m ≡ moment_of now → InHost g seed first old m
+    (m : Standing) → m ≡ now → InHost g seed first old m
 still_at_prompt g seed first old now n s holds m e = subst (InHost g seed first old) (sym e) (at_prompt g seed first old now n s holds)
 
 -- No line is left.
@@ -183,7 +183,7 @@ module _ (g : Story) (seed : ℕ) (first : Sessions) (old now mid : Standing) (n
   mid_stores name is = subst (λ (q : Standing). Stores g (before name) (file_bytes q (store_name name))) (sym took) (s.answered.files name is)
 
   -- While it is asked for, and while what it asks for is done.
-  pub in_work : (m : Moment) → InWork g seed before after (request_of line) mid m → InHost g seed first old m
+  pub in_work : (m : Standing) → InWork g seed before after (request_of line) mid m → InHost g seed first old m
   in_work m i = record {
     taken = suc n;
     text = replies g seed first (take n old.lines);
@@ -203,7 +203,7 @@ module _ (g : Story) (seed : ℕ) (first : Sessions) (old now mid : Standing) (n
   mid_holds = subst FilesHold (sym took) holds
 
   -- Once it was taken nothing is done yet.
-  not_begun : InWork g seed before after (request_of line) mid (moment_of mid)
+  not_begun : InWork g seed before after (request_of line) mid mid
   not_begun = record {
     asked = refl;
     shown = refl;
@@ -213,12 +213,12 @@ module _ (g : Story) (seed : ℕ) (first : Sessions) (old now mid : Standing) (n
   }
 
   -- While the host asks for it.
-  pub in_ask : (count : ℕ) (m : Moment) → InAsk now (asked.Line count) m → InHost g seed first old m
-  in_ask count m (inl e) = still_at_prompt g seed first old now n s holds m e
-  in_ask count m (inr e) = in_work m (subst (InWork g seed before after (request_of line) mid) (sym (e ∙ sym (ap moment_of took))) not_begun)
+  pub in_ask : (m : Standing) → InAsk now mid m → InHost g seed first old m
+  in_ask m (inl e) = still_at_prompt g seed first old now n s holds m e
+  in_ask m (inr e) = in_work m (subst (InWork g seed before after (request_of line) mid) (sym e) not_begun)
 
   -- While what it asks for is done.
-  pub in_doing : (request : Option Request) → request ≡ request_of line → (m : Moment) → Doing g seed before request mid m → InHost g seed first old m
+  pub in_doing : (request : Option Request) → request ≡ request_of line → (m : Standing) → Doing g seed before request mid m → InHost g seed first old m
   in_doing request same m i = in_work m (subst (λ r. Doing g seed before r mid m) same i)
 
   module _ (done : Standing) (is : IsDone g after (request_of line) mid done) (settled : IsStable done.disk) where
@@ -232,7 +232,7 @@ module _ (g : Story) (seed : ℕ) (first : Sessions) (old now mid : Standing) (n
     attached_done = is.attached ∙ ap (attached_with (request_of line)) attached_same ∙ sym (attached_more old.attached old.lines n line mid.lines at)
 
     -- While its reply is shown.
-    pub in_reply : FilesHold done → (m : Moment) → InShow done (reply_to g seed before (request_of line)) m → InHost g seed first old m
+    pub in_reply : FilesHold done → (m : Standing) → InShow done (reply_to g seed before (request_of line)) m → InHost g seed first old m
     in_reply done_holds m i = subst (InHost g seed first old) (sym i.1) (record {
       taken = suc n;
       text = replies g seed first (take n old.lines) ++ take i.0 (reply_to g seed before (request_of line));
@@ -241,8 +241,8 @@ module _ (g : Story) (seed : ℕ) (first : Sessions) (old now mid : Standing) (n
       shown = ap (λ x. x ++ take i.0 (reply_to g seed before (request_of line))) shown_before
           ∙ append_assoc old.shown (replies g seed first (take n old.lines)) (take i.0 (reply_to g seed before (request_of line)));
       keeps = (
-        subst (λ x. EachLeft g seed before x (moment_of done)) (sym after_is)
-            (each_done g seed before (request_of line) (moment_of done) (with_attached (request_of line) mid.attached done.attached is.attached)
+        subst (λ x. EachLeft g seed before x done) (sym after_is)
+            (each_done g seed before (request_of line) done (with_attached (request_of line) mid.attached done.attached is.attached)
             (all_left g after done is.stores settled done_holds)),
         inr (
           (
@@ -254,7 +254,7 @@ module _ (g : Story) (seed : ℕ) (first : Sessions) (old now mid : Standing) (n
                   ∙ ap (λ x. replies g seed first (take n old.lines) ++ x) (take-append-drop i.0 (reply_to g seed before (request_of line))) ∙ sym more,
             ),
           ),
-          subst (λ x. AllLeft g x (moment_of done)) (sym after_is) (all_left g after done is.stores settled done_holds),
+          subst (λ x. AllLeft g x done) (sym after_is) (all_left g after done is.stores settled done_holds),
         ),
       );
       attached = subst (AttachedIn old.attached (take (suc n) old.lines)) (sym attached_done) (attached_now old.attached (take (suc n) old.lines));
@@ -286,7 +286,7 @@ module _ (g : Story) (seed : ℕ) (first : Sessions) (old now mid : Standing) (n
     is_done = subst (λ r. AnswersRequest g seed before r text mid done) same does
 
     -- While the reply that was made is shown.
-    pub in_show : FilesHold done → (shown : List ℕ) → shown ≡ text → (m : Moment) → InShow done shown m → InHost g seed first old m
+    pub in_show : FilesHold done → (shown : List ℕ) → shown ≡ text → (m : Standing) → InShow done shown m → InHost g seed first old m
     in_show done_holds shown e m i = in_reply done is_done.1 settled done_holds m (subst (λ t. InShow done t m) (e ∙ is_done.0) i)
 
     -- Once it was shown.
@@ -299,7 +299,7 @@ module _ (g : Story) (seed : ℕ) (first : Sessions) (old now mid : Standing) (n
 -- ---- how taking lines ends ----
 
 -- Where the calls ended is one of their moments.
-pub ends_inside : (clock now : ℕ) (past since : ℕ → Moment → Type 0) (P : Moment → Type 0) (m : Moment) → Passes clock now past since P →
+pub ends_inside : (clock now : ℕ) (past since : ℕ → Standing → Type 0) (P : Standing → Type 0) (m : Standing) → Passes clock now past since P →
     since clock m → (past clock m → P m) → P m
 ends_inside clock now past since P m h at before = elim (h.nothing_else clock m (omega arith) at) [
   | inl q ↦ before q
@@ -308,7 +308,7 @@ ends_inside clock now past since P m h at before = elim (h.nothing_else clock m 
 
 -- What the last line did, if there was one.
 pub hosts_by : (g : Story) (seed : ℕ) (first : Sessions) (old new : Standing) (n : ℕ) (o : HostOutcome) → ServesTo g seed first old new n (Some o) →
-    InHost g seed first old (moment_of new) → Hosts g seed first old new o
+    InHost g seed first old new → Hosts g seed first old new o
 hosts_by g seed first old new n outcome.InputEnded h i = subst (Answered g seed first old new) h.0 h.1.answered
 hosts_by g seed first old new n outcome.Usage h i = absurd h
 hosts_by g seed first old new n (outcome.ImageDamaged _) h i = absurd h
@@ -352,7 +352,7 @@ ends_by old now new n (outcome.Long lines) h few k among = absurd k
 
 -- Before the first line.
 pub at_first : (g : Story) (seed : ℕ) (first : Sessions) (old : Standing) → BeginsWith g first old → IsStable old.disk → FilesHold old →
-    (m : Moment) → m ≡ moment_of old → InHost g seed first old m
+    (m : Standing) → m ≡ old → InHost g seed first old m
 at_first g seed first old b settled holds m e = still_at_prompt g seed first old old 0 (serving_first g seed first old b settled) holds m e
 
 -- ---- a stage that rests ----

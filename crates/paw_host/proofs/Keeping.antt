@@ -6,7 +6,6 @@ use Rattle.paw_effects.specs.Story.{Story}
 use Rattle.paw_reading.specs.Turn.{reading, pieces_of}
 use Rattle.paw_stage.specs.Disk.{IsStable}
 use Rattle.paw_stage.specs.Stage.{Standing}
-use Rattle.paw_stage.specs.Moments.{Moment, moment_of}
 use Rattle.paw_journal.proofs.Disks.{stable_leaves}
 use Rattle.paw_state.specs.State.{last_piece}
 use Rattle.paw_play.specs.Stands.{Stands, IsPlayedWith}
@@ -51,8 +50,8 @@ module _ (g : Story) (seed : ℕ) (bytes : List ℕ) (some : 0 < length bytes) w
   kept_each P (Refused kept) text may stores shows each = no_refused kept stores shows
 
 -- While nothing is written.
-pub still_in_file : (g : Story) (before after : NamedSession) (old : Standing) (m : Moment) → IsStable old.disk → Stores g before old.disk.bytes → m
-    ≡ moment_of old →
+pub still_in_file : (g : Story) (before after : NamedSession) (old m : Standing) → IsStable old.disk → Stores g before old.disk.bytes → m
+    ≡ old →
     InFile (StoresEither g before after) old m
 still_in_file g before after old m settled stores e = subst (InFile (StoresEither g before after) old) (sym e) (record {
   asked = refl;

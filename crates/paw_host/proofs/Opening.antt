@@ -1,7 +1,7 @@
 -- Sessions that are begun, and sessions that are taken up.
-use Rattle.std.proofs.Common.{◌≡◌, ◌≢◌, inl, inr, ℕ, ◌+◌, ◌*◌, ◌<◌, List, [], ◌∷◌, ◌++◌, refl, sym, ap, ◌∙◌, subst}
-use Rattle.std.proofs.Common.{true, take, length, get_or, arith}
-use Rattle.std.proofs.Common.{◌≡◌, ◌≢◌, inl, inr, ℕ, ◌+◌, ◌*◌, ◌<◌, List, [], ◌∷◌, ◌++◌, refl, sym, ap, ◌∙◌, subst}
+use Rattle.std.proofs.Common.{◌≡◌, ◌≢◌, inl, inr, ℕ, List, [], ◌∷◌, ◌++◌, refl, sym, ap, ◌∙◌, subst}
+use Rattle.std.proofs.Common.{true, take, length, arith}
+use Rattle.std.proofs.Common.{◌≡◌, ◌≢◌, inl, inr, ℕ, List, [], ◌∷◌, ◌++◌, refl, sym, ap, ◌∙◌, subst}
 use Rattle.std.proofs.Common.{true, take, length, arith}
 use Rattle.std.proofs.Common.{Some, codes}
 use Rattle.std.proofs.lemmas.List.{append-nil, take_all}
@@ -10,7 +10,6 @@ use Rattle.sha2.specs.Sha256.{sha256}
 use Rattle.paw_game.specs.Game.{GameLists}
 use Rattle.paw_game.specs.Image.{image}
 use Rattle.paw_stage.specs.Stage.{Standing}
-use Rattle.paw_stage.specs.Moments.{Moment}
 use Rattle.paw_effects.specs.Story.{Story}
 use Rattle.paw_effects.specs.declared.act.Prompt.{Prompt}
 use Rattle.paw_effects.specs.declared.act.Prompt.TheVariants as prompt
@@ -23,8 +22,6 @@ use Rattle.paw_turn.specs.declared.Step.TheVariants as step
 use Rattle.paw_routines.specs.declared.routines.Routines.{Routines}
 use Rattle.paw_stage.specs.declared.StageCall.{StageCall}
 use Rattle.paw_routines.specs.Measure.{measure}
-use Rattle.paw_base.specs.declared.layout.TheConstants.{STATE_LENGTH}
-use Rattle.paw_state.specs.declared.fields.TheConstants.{PIECE}
 use Rattle.paw_journal.specs.Session.{Digests, Unmade, Damaged, Shown, recover, state_length, piece_length}
 use Rattle.paw_journal.proofs.ShownPieces.{buffer_long}
 use Rattle.paw_journal.specs.inner.Session.{session_shown}
@@ -107,7 +104,7 @@ module _ {F : Type 0} (g : Story) (seed : ℕ) (found : Step) (next : PlayerView
       ] plays e
 
   -- While the session is made.
-  pub in_beginning : (state : List ℕ) (old : Standing) (m : Moment) → IsStanding found → take state_length state ≡ seat_state 0 next →
+  pub in_beginning : (state : List ℕ) (old m : Standing) → IsStanding found → take state_length state ≡ seat_state 0 next →
       LeavesMade (story_digests g) state next.piece old m → InFile (LeftOfBeginning g seed) old m
   in_beginning state old m shows e i = record {
     asked = i.asked;

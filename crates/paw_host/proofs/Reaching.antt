@@ -5,7 +5,7 @@ use Rattle.std.specs.Prelude.{if◌then◌else◌}
 use Rattle.std.proofs.lemmas.Slice.Eq.{bytes_eq-Decides}
 use Rattle.paw_stage.specs.Disk.{IsStable, stable}
 use Rattle.paw_stage.specs.Stage.{Standing, Files, file_bytes, bytes_or_none, made_if_missing, with_store_opened, Unattached}
-use Rattle.paw_stage.specs.Moments.{Moment, moment_of, InAttach}
+use Rattle.paw_stage.specs.Stage.{InAttach}
 use Rattle.paw_journal.specs.Session.{IsUnmade, Recovered, Shown, Digests, recover, recover_by}
 use Rattle.paw_journal.specs.inner.Store.{ChangesStoreOnly}
 use Rattle.paw_journal.proofs.Disks.{stable_is, stable_leaves}
@@ -21,7 +21,7 @@ abbrev pub FilesHold : Standing → Type 0
 FilesHold s = (n : List ℕ) → s.attached ≡ Some n → file_bytes s n ≡ s.disk.bytes
 
 -- A moment at which nothing is done yet: a crash leaves of each file the bytes that it had.
-pub record IsBefore (name : List ℕ) (old : Standing) (m : Moment) : Type 0 where
+pub record IsBefore (name : List ℕ) (old m : Standing) : Type 0 where
   pub asked : m.asked ≡ old.asked
   pub shown : m.shown ≡ old.shown
   pub files : (f : List ℕ) → f ≢ name → m.files f ≡ old.files f
@@ -29,7 +29,7 @@ pub record IsBefore (name : List ℕ) (old : Standing) (m : Moment) : Type 0 whe
   pub left : (f bytes : List ℕ) → MayBeLeft f m bytes → bytes ≡ file_bytes old f
 
 -- At rest.
-pub rest_left : (s : Standing) → IsStable s.disk → FilesHold s → (f bytes : List ℕ) → MayBeLeft f (moment_of s) bytes → bytes ≡ file_bytes s f
+pub rest_left : (s : Standing) → IsStable s.disk → FilesHold s → (f bytes : List ℕ) → MayBeLeft f s bytes → bytes ≡ file_bytes s f
 rest_left s settled holds f bytes (inl h) = stable_leaves s.disk bytes settled h.1 ∙ sym (holds f h.0)
 rest_left s settled holds f bytes (inr h) = h.1
 
@@ -50,20 +50,20 @@ made_bytes old name f = made_by name f old.files (old.files name) refl
 same_name : (name f : List ℕ) → ◌≡◌ {A = Option (List ℕ)} (Some name) (Some f) → name ≡ f
 same_name name f e = cc
 
-opened_left : (old : Standing) (name f bytes : List ℕ) → MayBeLeft f (moment_of (with_store_opened name old)) bytes → bytes ≡ file_bytes old f
+opened_left : (old : Standing) (name f bytes : List ℕ) → MayBeLeft f (with_store_opened name old) bytes → bytes ≡ file_bytes old f
 opened_left old name f bytes (inl h) =
     stable_leaves (stable (file_bytes old name)) bytes (stable_is (file_bytes old name)) h.1 ∙ ap (file_bytes old) (same_name name f h.0)
 opened_left old name f bytes (inr h) = h.1 ∙ made_bytes old name f
 
-none_left : (old : Standing) (f bytes : List ℕ) → MayBeLeft f (moment_of (record old { attached = None; disk = stable [] })) bytes → bytes ≡ file_bytes old f
+none_left : (old : Standing) (f bytes : List ℕ) → MayBeLeft f (record old { attached = None; disk = stable [] }) bytes → bytes ≡ file_bytes old f
 none_left old f bytes (inl h) = let no : ◌≡◌ {A = Option (List ℕ)} None (Some f) = h.0 in cc
 none_left old f bytes (inr h) = h.1
 
 module _ (old new : Standing) (name : List ℕ) (settled : IsStable old.disk) (holds : FilesHold old) where
-  before_it : IsBefore name old (moment_of old)
+  before_it : IsBefore name old old
   before_it = record { asked = refl; shown = refl; files = λ f ne. refl; attached = inl refl; left = rest_left old settled holds }
 
-  made_it : IsBefore name old (record (moment_of old) { files = made_if_missing name (old.files name) old.files })
+  made_it : IsBefore name old (record old { files = made_if_missing name (old.files name) old.files })
   made_it = record {
     asked = refl;
     shown = refl;
@@ -75,20 +75,20 @@ module _ (old new : Standing) (name : List ℕ) (settled : IsStable old.disk) (h
     ];
   }
 
-  opened_it : IsBefore name old (moment_of (with_store_opened name old))
+  opened_it : IsBefore name old (with_store_opened name old)
   opened_it = record { asked = refl; shown = refl; files = λ f ne. other_file old name f ne; attached = inr (inl refl); left = opened_left old name }
 
-  unattached_it : Unattached old new → IsBefore name old (moment_of new)
-  unattached_it (inl e) = subst (λ q. IsBefore name old (moment_of q)) (sym e) before_it
-  unattached_it (inr e) = subst (λ q. IsBefore name old (moment_of q)) (sym e)
+  unattached_it : Unattached old new → IsBefore name old new
+  unattached_it (inl e) = subst (λ q. IsBefore name old q) (sym e) before_it
+  unattached_it (inr e) = subst (λ q. IsBefore name old q) (sym e)
       (record { asked = refl; shown = refl; files = λ f ne. refl; attached = inr (inr refl); left = none_left old })
 
   -- Inside the attach.
-  pub in_attach : (new ≡ with_store_opened name old) ⊎ Unattached old new → (m : Moment) → InAttach old new name m → IsBefore name old m
+  pub in_attach : (new ≡ with_store_opened name old) ⊎ Unattached old new → (m : Standing) → InAttach old new name m → IsBefore name old m
   in_attach how m (inl e) = subst (IsBefore name old) (sym e) before_it
   in_attach how m (inr (inl e)) = subst (IsBefore name old) (sym e) made_it
   in_attach how m (inr (inr e)) = subst (IsBefore name old) (sym e) (elim how [
-    | inl is ↦ subst (λ q. IsBefore name old (moment_of q)) (sym is) opened_it
+    | inl is ↦ subst (λ q. IsBefore name old q) (sym is) opened_it
     | inr u ↦ unattached_it u
   ])
 
@@ -96,7 +96,7 @@ module _ (old new : Standing) (name : List ℕ) (settled : IsStable old.disk) (h
 
 module _ (g : Story) (seed : ℕ) (name : List ℕ) (before after : NamedSession) (old : Standing) (stores : Stores g before (file_bytes old name)) where
   -- Before anything is done.
-  pub answer_before : (m : Moment) → IsBefore name old m → InAnswer g seed name before after old m
+  pub answer_before : (m : Standing) → IsBefore name old m → InAnswer g seed name before after old m
   answer_before m i = record {
     asked = i.asked;
     shown = i.shown;
@@ -107,7 +107,7 @@ module _ (g : Story) (seed : ℕ) (name : List ℕ) (before after : NamedSession
   }
 
   -- Once the store is attached.
-  pub answer_in_file : (m : Moment) → InFile (LeftOf g seed before after) (with_store_opened name old) m → InAnswer g seed name before after old m
+  pub answer_in_file : (m : Standing) → InFile (LeftOf g seed before after) (with_store_opened name old) m → InAnswer g seed name before after old m
   answer_in_file m i = record {
     asked = i.asked;
     shown = i.shown;
@@ -127,7 +127,7 @@ module _ (g : Story) (seed : ℕ) (name : List ℕ) (before after : NamedSession
       still f ne = i.files f (λ e. ne (sym (same_name name f e))) ∙ other_file old name f ne
 
 -- From a store with no bytes, of which there is no session.
-pub answer_in_new : (g : Story) (seed : ℕ) (name : List ℕ) (before after : NamedSession) (old mid : Standing) (m : Moment) →
+pub answer_in_new : (g : Story) (seed : ℕ) (name : List ℕ) (before after : NamedSession) (old mid : Standing) (m : Standing) →
     Stores g before (file_bytes old name) → before ≡ Absent → mid ≡ with_store_opened name old → InFile (LeftOf g seed Absent after) mid m →
     InAnswer g seed name before after old m
 answer_in_new g seed name before after old mid m stores none is i =
@@ -135,7 +135,7 @@ answer_in_new g seed name before after old mid m stores none is i =
     (subst (λ s. InFile (LeftOf g seed s after) (with_store_opened name old) m) (sym none) (subst (λ q. InFile (LeftOf g seed Absent after) q m) is i))
 
 -- From a store with bytes.
-pub answer_in_kept : (g : Story) (seed : ℕ) (name : List ℕ) (before after : NamedSession) (old mid : Standing) (m : Moment) →
+pub answer_in_kept : (g : Story) (seed : ℕ) (name : List ℕ) (before after : NamedSession) (old mid : Standing) (m : Standing) →
     Stores g before (file_bytes old name) → mid ≡ with_store_opened name old → InFile (StoresEither g before after) mid m →
     InAnswer g seed name before after old m
 answer_in_kept g seed name before after old mid m stores is i =

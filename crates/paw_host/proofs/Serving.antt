@@ -8,7 +8,6 @@ use Rattle.std.specs.Prelude.{codes, if◌then◌else◌}
 use Rattle.paw_effects.specs.Story.{Story}
 use Rattle.paw_stage.specs.Disk.{IsStable}
 use Rattle.paw_stage.specs.Stage.{Standing, file_bytes, bytes_or_none}
-use Rattle.paw_stage.specs.Moments.{Moment, moment_of}
 use Rattle.paw_play.specs.Laws.{MayBeLeft}
 use Rattle.paw_host.specs.Names.{Request, request_of, is_name, store_name}
 use Rattle.paw_host.specs.Replies.{NamedSession, Sessions, with_named_session, answer, reply_text, reply_to}
@@ -146,7 +145,7 @@ module _ (g : Story) (seed : ℕ) (sessions : Sessions) (old new : Standing) (st
 
 -- While it is done.
 module _ (g : Story) (seed : ℕ) (sessions : Sessions) (old : Standing) (stores : AllStore g sessions old) where
-  pub in_nothing : (m : Moment) → IsStable old.disk → FilesHold old → m ≡ moment_of old → InWork g seed sessions sessions None old m
+  pub in_nothing : (m : Standing) → IsStable old.disk → FilesHold old → m ≡ old → InWork g seed sessions sessions None old m
   in_nothing m settled holds e = subst (InWork g seed sessions sessions None old) (sym e) (record {
     asked = refl;
     shown = refl;
@@ -155,7 +154,7 @@ module _ (g : Story) (seed : ℕ) (sessions : Sessions) (old : Standing) (stores
     left = λ name is bytes may. inl (subst (Stores g (sessions name)) (sym (rest_left old settled holds (store_name name) bytes may)) (stores name is));
   })
 
-  pub in_request : (r : Request) (m : Moment) →
+  pub in_request : (r : Request) (m : Standing) →
       InAnswer g seed (store_name r.name) (sessions r.name) (answer g seed (sessions r.name) r.text).session old m →
       InWork g seed sessions (sessions_with g seed sessions (Some r)) (Some r) old m
   in_request r m i = record {
@@ -175,7 +174,7 @@ module _ (g : Story) (seed : ℕ) (sessions : Sessions) (old : Standing) (stores
   }
 
 -- Once it is done.
-pub each_done : (g : Story) (seed : ℕ) (sessions : Sessions) (request : Option Request) (m : Moment) →
+pub each_done : (g : Story) (seed : ℕ) (sessions : Sessions) (request : Option Request) (m : Standing) →
     ((r : Request) → request ≡ Some r → m.attached ≡ Some (store_name r.name)) → AllLeft g (sessions_with g seed sessions request) m →
     EachLeft g seed sessions (sessions_with g seed sessions request) m
 each_done g seed sessions None m attached all = λ name is bytes may. inl (all name is bytes may)
@@ -208,7 +207,7 @@ does_request g seed sessions old new r store begun grown whole stores named is a
 )
 
 -- While it is asked.
-pub doing_request : (g : Story) (seed : ℕ) (sessions : Sessions) (old : Standing) (r : Request) (store : List ℕ) (m : Moment) → AllStore g sessions old →
+pub doing_request : (g : Story) (seed : ℕ) (sessions : Sessions) (old : Standing) (r : Request) (store : List ℕ) (m : Standing) → AllStore g sessions old →
     store ≡ store_name r.name → InAnswer g seed store (sessions r.name) (answer g seed (sessions r.name) r.text).session old m →
     Doing g seed sessions (Some r) old m
 doing_request g seed sessions old r store m stores is i =

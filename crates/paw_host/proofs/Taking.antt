@@ -4,7 +4,6 @@ use Rattle.std.proofs.Common.{length, Some}
 use Rattle.std.proofs.lemmas.Bool.{le-leb}
 use Rattle.paw_base.specs.declared.limits.TheConstants.{EVENT_LIMIT}
 use Rattle.paw_stage.specs.Stage.{Standing}
-use Rattle.paw_stage.specs.Moments.{Moment}
 use Rattle.paw_effects.specs.Story.{Story}
 use Rattle.paw_effects.specs.declared.act.Prompt.{Prompt}
 use Rattle.paw_effects.specs.declared.act.Prompt.TheVariants as prompt
@@ -77,7 +76,7 @@ module _ {F : Type 0} {g : Story} {seed : ℕ} {es : List (List ℕ)} {seat : Pl
         })
 
     -- Inside the commit.
-    pub in_taking : (events : ℕ) (old : Standing) (m : Moment) → IsStanding found → events ≡ length es + 1 → Stands g seed es old.disk.bytes →
+    pub in_taking : (events : ℕ) (old m : Standing) → IsStanding found → events ≡ length es + 1 → Stands g seed es old.disk.bytes →
         (state piece : List ℕ) → recover old.disk.bytes ≡ Shown (kept_digests old.disk.bytes) state piece → InCommit events next old m →
         InFile (StoresEither g (At seed es) (answer_taking g seed es text).session) old m
     in_taking events old m shows count stands state piece kept i = record {

@@ -4,7 +4,6 @@ use Rattle.paw_base.specs.Bytes.{Name, RoutineAnswers, Seed}
 use Rattle.paw_game.specs.Game.{GameLists}
 use Rattle.paw_effects.specs.Story.{Story, story_of}
 use Rattle.paw_stage.specs.Stage.{Standing}
-use Rattle.paw_stage.specs.Moments.{Moment, moment_of}
 use Rattle.paw_stage.specs.Across.{IsOneOf}
 use Rattle.paw_stage.specs.declared.StageCall.TheVariants as call
 use Rattle.paw_play.specs.Calls.{session_calls}
@@ -35,7 +34,7 @@ Ends old new _ = ⊥
 abbrev pub Hosts : Story → Seed → Sessions → Standing → Standing → HostOutcome → Type 0
 Hosts g seed first old new outcome.InputEnded = Answered g seed first old new (length old.lines)
 Hosts g seed first old new (outcome.Long lines) = (lines ≡ HOST_LIMIT) × Answered g seed first old new HOST_LIMIT
-Hosts g seed first old new (outcome.Outside c) = InHost g seed first old (moment_of new)
+Hosts g seed first old new (outcome.Outside c) = InHost g seed first old new
 Hosts g seed first old new outcome.Memory = new ≡ old
 Hosts g seed first old new _ = ⊥
 
@@ -54,6 +53,6 @@ pub data HostsFile (answers : RoutineAnswers) (name : Name) (seed : Seed) (old n
   without_memory : new ≡ old → HostsFile answers name seed old new outcome.Memory
 
 -- What stands at each moment of hosting; `Come` says that all its moments are of this kind.
-abbrev pub HostsAtEachMoment : ((Moment → Type 0) → Type 0) → RoutineAnswers → Name → Seed → Standing → Type 0
+abbrev pub HostsAtEachMoment : ((Standing → Type 0) → Type 0) → RoutineAnswers → Name → Seed → Standing → Type 0
 HostsAtEachMoment Come answers name seed old = (g : GameLists) (first : Sessions) → Holds old name g →
     BeginsWith (story_of g answers) first old → Come (InHost (story_of g answers) seed first old)

@@ -11,7 +11,6 @@ use Rattle.paw_reading.specs.Run.{Run}
 use Rattle.paw_reading.specs.Turn.{WaitsAt, reading, pieces_of}
 use Rattle.paw_reading.specs.Bounds.{ValidStory}
 use Rattle.paw_stage.specs.Stage.{Standing, file_bytes}
-use Rattle.paw_stage.specs.Moments.{Moment}
 use Rattle.paw_play.specs.Laws.{MayBeLeft}
 use Rattle.paw_host.specs.Names.{Request, request_of, is_name, store_name}
 use Rattle.paw_host.specs.Replies.{NamedSession, Absent, At, Refused, Sessions, answer, sessions_with, sessions_after}
@@ -98,7 +97,7 @@ pub data AfterCrash (seed : Seed) (before after : NamedSession) : NamedSession �
   half_made : (bytes : Bytes) → before ≡ Absent → IsBegun after → AfterCrash seed before after (Refused bytes)
 
 -- A crash at this moment may leave the files of all names as they stand next.
-abbrev pub CrashLeaves : Moment → Standing → Type 0
+abbrev pub CrashLeaves : Standing → Standing → Type 0
 CrashLeaves m next = (name : Name) → is_name name ≡ true →
     MayBeLeft (store_name name) m (file_bytes next (store_name name))
 
@@ -106,7 +105,7 @@ CrashLeaves m next = (name : Name) → is_name name ≡ true →
 -- crash may leave it. The line that was at work is the last one that was taken.
 abbrev pub MayBeBegunAgain : Type 0
 MayBeBegunAgain =
-    (g : Story) (seed : Seed) (first : Sessions) (old next : Standing) (m : Moment) → ValidStory g → seed < 2 ^ 64 →
+    (g : Story) (seed : Seed) (first : Sessions) (old next : Standing) (m : Standing) → ValidStory g → seed < 2 ^ 64 →
     BeginsWith g first old → (i : InHost g seed first old m) → CrashLeaves m next → All AreBytes next.lines →
     (again : Sessions) × BeginsWith g again next × ((name : Name) → is_name name ≡ true →
     AfterCrash seed (sessions_after g seed first (before_last old.lines i.taken) name)

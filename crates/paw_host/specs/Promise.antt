@@ -7,7 +7,6 @@ use Rattle.paw_base.specs.Bytes.{Bytes, Lines, Name, Seed, Text}
 use Rattle.paw_effects.specs.Story.{Story}
 use Rattle.paw_effects.specs.Standing.{AreBytes}
 use Rattle.paw_stage.specs.Stage.{Standing, file_bytes}
-use Rattle.paw_stage.specs.Moments.{Moment}
 use Rattle.paw_journal.specs.Session.{IsUnmade, recover}
 use Rattle.paw_play.specs.Stands.{Stands, IsPlayedWith}
 use Rattle.paw_play.specs.Laws.{ShowsSome, MayBeLeft}
@@ -36,7 +35,7 @@ AllStore g sessions s =
     (name : Name) → is_name name ≡ true → Stores g (sessions name) (file_bytes s (store_name name))
 
 -- Whatever a crash at this moment leaves of the file of a name is that of its session.
-abbrev pub AllLeft : Story → Sessions → Moment → Type 0
+abbrev pub AllLeft : Story → Sessions → Standing → Type 0
 AllLeft g sessions m = (name : Name) → is_name name ≡ true → (bytes : Bytes) →
     MayBeLeft (store_name name) m bytes → Stores g (sessions name) bytes
 
@@ -48,7 +47,7 @@ LeftOfMaking g seed _ _ bytes = ⊥
 -- Whatever a crash at this moment leaves of the file of a name is that of its session before a line; or its store is
 -- attached, and it is that of its session after the line, or that session is being made. Where the line isn't about the
 -- name, both sessions are the same.
-abbrev pub EachLeft : Story → Seed → Sessions → Sessions → Moment → Type 0
+abbrev pub EachLeft : Story → Seed → Sessions → Sessions → Standing → Type 0
 EachLeft g seed before after m = (name : Name) → is_name name ≡ true → (bytes : Bytes) →
     MayBeLeft (store_name name) m bytes →
     Stores g (before name) bytes
@@ -62,7 +61,7 @@ IsBetween from to text = ((more : Text) × (text ≡ from ++ more)) × ((rest : 
 -- This number of lines was taken, and this text was shown for them. The last one is at work, and the file of each name
 -- is as before it, or as after it where its store is attached. The replies to the lines before it were shown. Its own
 -- is shown only once the file of each name is as after it.
-abbrev pub IsUpToDate : Story → Seed → Sessions → Lines → ℕ → Text → Moment → Type 0
+abbrev pub IsUpToDate : Story → Seed → Sessions → Lines → ℕ → Text → Standing → Type 0
 IsUpToDate g seed first lines zero text m = (text ≡ []) × AllLeft g first m
 IsUpToDate g seed first lines (suc n) text m =
     EachLeft g seed (sessions_after g seed first (take n lines)) (sessions_after g seed first (take (suc n) lines)) m
@@ -99,7 +98,7 @@ IsNotOf lines file = AllByRecursion (λ line. (r : Request) → request_of line 
 
 -- A moment of the host. Since the call began lines were taken, and a text was shown, with which the files keep
 -- up. The attached store is that of a line. No file has changed that isn't that of a name which these lines ask for.
-pub record InHost (g : Story) (seed : Seed) (first : Sessions) (old : Standing) (m : Moment) : Type 0 where
+pub record InHost (g : Story) (seed : Seed) (first : Sessions) (old m : Standing) : Type 0 where
   pub taken : ℕ
   pub text : Text
   pub there : taken ≤ length old.lines

@@ -1,6 +1,6 @@
 -- The words of a call.
 use Rattle.std.specs.Prelude.{List, [], ◌∷◌, length, map, nat_lt, string_bytes}
-use Rattle.std.specs.Prelude.{Option, Some, None, if◌then◌else◌}
+use Rattle.std.specs.Prelude.{Option, None, if◌then◌else◌}
 use Rattle.std.specs.Option.{option_map}
 use Rattle.std.specs.declared.string.String.{String}
 use Rattle.paw_base.specs.Bytes.{Bytes, Name, Seed}

@@ -3,7 +3,7 @@ use Rattle.std.proofs.Common.{◌≡◌, ◌≢◌, ℕ, ◌+◌, ◌-◌, ◌*�
 use Rattle.std.proofs.Common.{◌⊎◌, inl, inr}
 use Rattle.paw_stage.specs.Disk.{Disk, put_at, stable, IsStable, disk_written}
 use Rattle.paw_stage.specs.Stage.{Standing, wrote}
-use Rattle.paw_stage.specs.Moments.{Moment, InWrite, InSync}
+use Rattle.paw_stage.specs.Stage.{InWrite, InSync}
 use Rattle.paw_journal.specs.declared.layout.Slot.{Slot}
 use Rattle.paw_journal.specs.declared.layout.Slot.TheVariants as which
 use Rattle.paw_journal.specs.Session.{recover, recover_by, slot_in_use, kept_digests, slot, session_length, header_length}
@@ -47,7 +47,7 @@ choosing k old d low long h image l =
       | inr e ↦ inr (recover_is k image e ∙ selector_hidden k image old low n long same)
     ]
 
-pub in_choosing : (k : ℕ) (s : Standing) (m : Moment) → k < 2 → length s.disk.bytes ≡ session_length → IsStable s.disk →
+pub in_choosing : (k : ℕ) (s m : Standing) → k < 2 → length s.disk.bytes ≡ session_length → IsStable s.disk →
     InWrite s 1 1 m → InStore s (CrashLeavesSuch (IsOldOrNew (recover_by (1 - k) s.disk.bytes) (recover_by k s.disk.bytes))) m
 in_choosing k s m low long h w = in_moved_write 1 2 1 1 s s _ m (moved_none 1 2 s h) (omega arith) (omega arith)
     (omega arith) (λ d i. choosing k s.disk.bytes d low long i) w
@@ -56,7 +56,7 @@ pub chose : (x : ℕ) (s t : Standing) (n : ℕ) → length s.disk.bytes ≡ ses
     t ≡ wrote s (disk_written 1 1 (x ∷ []) s.disk) n → IsMoved 1 2 s t
 chose x s t n long h e = moved_wrote 1 2 1 1 n (x ∷ []) s s t (moved_none 1 2 s h) (omega arith) (omega arith) (omega arith) (omega arith) e
 
-pub in_chosen : (k : ℕ) (s t : Standing) (m : Moment) → k < 2 → length s.disk.bytes ≡ session_length → IsMoved 1 2 s t →
+pub in_chosen : (k : ℕ) (s t : Standing) (m : Standing) → k < 2 → length s.disk.bytes ≡ session_length → IsMoved 1 2 s t →
     InSync t m → InStore s (CrashLeavesSuch (IsOldOrNew (recover_by (1 - k) s.disk.bytes) (recover_by k s.disk.bytes))) m
 in_chosen k s t m low long h w = in_moved_sync 1 2 s t
     (IsOldOrNew (recover_by (1 - k) s.disk.bytes) (recover_by k s.disk.bytes)) m h

@@ -3,7 +3,8 @@ use Rattle.std.proofs.Common.{◌≡◌, ℕ, ◌+◌, ◌-◌, ◌*◌, ◌%◌
 use Rattle.std.proofs.Common.{get_or, ◌⊎◌, inl}
 use Rattle.paw_stage.specs.Disk.{Disk, put_at, stable, IsStable, disk_written}
 use Rattle.paw_stage.specs.Stage.{Standing, wrote}
-use Rattle.paw_stage.specs.Moments.{Moment, Passes, InWrite, InSync}
+use Rattle.paw_stage.specs.Stage.{InWrite, InSync}
+use Rattle.paw_stage.specs.Moments.{Passes}
 use Rattle.paw_stage.proofs.Time.{Passes_on}
 use Rattle.paw_journal.specs.Session.{recover, recover_by, is_version, slot, slot_in_use, kept_digests, session_length}
 use Rattle.paw_journal.specs.Session.{header_length, slot_length}
@@ -55,7 +56,7 @@ filling_wrote k at a new s t u h e fits w =
     let m = moved_wrote _ _ at (length new) (length new) new s t u (moved k s t h) (omega arith) (omega arith) (omega arith) (omega arith) w in
     record { low = h.low; made = h.made; other = h.other; beside = m.beside; within = m.within }
 
-pub in_filling_write : (k at a n : ℕ) (s t : Standing) (m : Moment) → IsFilling k s t →
+pub in_filling_write : (k at a n : ℕ) (s t : Standing) (m : Standing) → IsFilling k s t →
     at ≡ header_length + slot_length * k + a → a + n ≤ slot_length → InWrite t at n m →
     InStore s (CrashLeavesSuch (λ r. r ≡ recover s.disk.bytes)) m
 in_filling_write k at a n s t m h e fits w =
@@ -64,12 +65,12 @@ in_filling_write k at a n s t m h e fits w =
     in_moved_write _ _ at n s t (CrashLeavesSuch (λ r. r ≡ recover s.disk.bytes)) m (moved k s t h) (omega arith) (omega arith)
     (omega arith) (λ d i. filling k s.disk.bytes d h.low h.made.long h.other i) w
 
-pub in_filling_sync : (k : ℕ) (s t : Standing) (m : Moment) → IsFilling k s t → InSync t m → InStore s (CrashLeavesSuch (λ r. r ≡ recover s.disk.bytes)) m
+pub in_filling_sync : (k : ℕ) (s t : Standing) (m : Standing) → IsFilling k s t → InSync t m → InStore s (CrashLeavesSuch (λ r. r ≡ recover s.disk.bytes)) m
 in_filling_sync k s t m h w = in_moved_sync _ _ s t (λ r. r ≡ recover s.disk.bytes) m (moved k s t h)
     (λ d i. filling k s.disk.bytes d h.low h.made.long h.other i) w
 
 -- The moments of what is written to such a slot, and then of what follows.
-pub parts_on : (k : ℕ) (s t : Standing) (x y z : ℕ) (p q r : ℕ → Moment → Type 0) → IsStillFilling k s t →
+pub parts_on : (k : ℕ) (s t : Standing) (x y z : ℕ) (p q r : ℕ → Standing → Type 0) → IsStillFilling k s t →
     ((first : Standing) → IsFilling k first s → Passes x y p q (LeavesSame first)) →
     ((first : Standing) → IsFilling k first t → Passes y z q r (LeavesSame first)) →
     (first : Standing) → IsFilling k first s → Passes x z p r (LeavesSame first)

@@ -8,7 +8,8 @@ use Rattle.std.proofs.lemmas.Bool.Decides.{nat_tests}
 use Rattle.std.proofs.lemmas.List.{length-append, length-drop, length-replicate, take_all, take_at, drop_at, ext_get_or}
 use Rattle.paw_stage.specs.Disk.{Range, Disk, is_dirty, IsInWrite, put_at, IsStable, disk_written}
 use Rattle.paw_stage.specs.Stage.{Standing, wrote, with_written}
-use Rattle.paw_stage.specs.Moments.{Moment, Passes, InWrite, InSync}
+use Rattle.paw_stage.specs.Stage.{InWrite, InSync}
+use Rattle.paw_stage.specs.Moments.{Passes}
 use Rattle.paw_stage.proofs.Time.{Passes_map, Passes_on}
 use Rattle.paw_base.specs.declared.layout.TheConstants.{VERSION}
 use Rattle.paw_journal.specs.Session.{Digests, IsUnmade, recover, session_mark, zeros, made_mark, session_length}
@@ -33,10 +34,10 @@ short_write old d h (inr q) = let e : d.longest ≡ max old.longest 1 = ap (λ x
 pub empty_is_short : (d : Disk) → IsStable d → length d.bytes ≡ 0 → d.longest ≤ 1
 empty_is_short d h n = omega (arith, h.longest)
 
-pub in_beginning : (s : Standing) (m : Moment) → s.disk.longest ≤ 1 → InWrite s 0 1 m → InStore s (CrashLeavesSuch IsUnmade) m
+pub in_beginning : (s m : Standing) → s.disk.longest ≤ 1 → InWrite s 0 1 m → InStore s (CrashLeavesSuch IsUnmade) m
 in_beginning s m h w = in_write s 0 1 (CrashLeavesSuch IsUnmade) m (λ d i. short_leaves d (short_write s.disk d h i)) w
 
-pub in_begun : (x n : ℕ) (s t : Standing) (m : Moment) → s.disk.longest ≤ 1 →
+pub in_begun : (x n : ℕ) (s t : Standing) (m : Standing) → s.disk.longest ≤ 1 →
     t ≡ wrote s (disk_written 0 1 (x ∷ []) s.disk) n → InSync t m → InStore s (CrashLeavesSuch IsUnmade) m
 in_begun x n s t m h e w =
     let l : t.disk.longest ≤ 1 = let q : t.disk.longest ≡ max s.disk.longest 1 = ap (λ x. x.disk.longest) e in omega arith in
@@ -67,13 +68,13 @@ pub blank_write : (at n : ℕ) (d m : Disk) → IsBlank d.bytes d → 1 ≤ at �
 blank_write at n d m h low high (inl e) = subst (λ x. IsBlank x.bytes x) (sym e) h
 blank_write at n d m h low high (inr q) = subst (λ x. IsBlank x.bytes x) (sym q.2) (blank_touched at n q.0 d h low high)
 
-pub in_blank_write : (at n : ℕ) (s t : Standing) (m : Moment) → ChangesStoreOnly s t → IsBlank t.disk.bytes t.disk → 1 ≤ at →
+pub in_blank_write : (at n : ℕ) (s t : Standing) (m : Standing) → ChangesStoreOnly s t → IsBlank t.disk.bytes t.disk → 1 ≤ at →
     at ≤ length t.disk.bytes → InWrite t at n m → InStore s (CrashLeavesSuch IsUnmade) m
 in_blank_write at n s t m b h low high w =
     in_later s t (CrashLeavesSuch IsUnmade) (CrashLeavesSuch IsUnmade) m b (λ d p. p)
     (in_write t at n (CrashLeavesSuch IsUnmade) m (λ d i. blank_leaves d.bytes d (blank_write at n t.disk d h low high i)) w)
 
-pub in_blank_sync : (s t : Standing) (m : Moment) → ChangesStoreOnly s t → IsBlank t.disk.bytes t.disk → InSync t m → InStore s (CrashLeavesSuch IsUnmade) m
+pub in_blank_sync : (s t : Standing) (m : Standing) → ChangesStoreOnly s t → IsBlank t.disk.bytes t.disk → InSync t m → InStore s (CrashLeavesSuch IsUnmade) m
 in_blank_sync s t m b h w =
     in_later s t (CrashLeavesSuch IsUnmade) (CrashLeavesSuch IsUnmade) m b (λ d p. p) (in_sync t IsUnmade m (blank_leaves t.disk.bytes t.disk h) w)
 
@@ -154,13 +155,13 @@ marking old d long h image l =
         ext_get_or 0 image old (omega arith) (λ i b. same i (omega arith)) in
         ap (λ a. a ∷ image) e ∙ ap (λ l. made_mark ∷ l) f
 
-pub in_marking : (s : Standing) (m : Moment) → length s.disk.bytes ≡ session_length → IsStable s.disk →
+pub in_marking : (s m : Standing) → length s.disk.bytes ≡ session_length → IsStable s.disk →
     InWrite s 0 1 m → InStore s (CrashLeavesSuch (λ r. IsUnmade r ⊎ (r ≡ recover (made_mark ∷ drop 1 s.disk.bytes)))) m
 in_marking s m long h w = in_moved_write 0 1 0 1 s s
     (CrashLeavesSuch (λ r. IsUnmade r ⊎ (r ≡ recover (made_mark ∷ drop 1 s.disk.bytes)))) m (moved_none 0 1 s h) (omega arith)
     (omega arith) (omega arith) (λ d i. marking s.disk.bytes d long i) w
 
-pub in_marked : (x c : ℕ) (s t : Standing) (m : Moment) → length s.disk.bytes ≡ session_length → IsStable s.disk →
+pub in_marked : (x c : ℕ) (s t : Standing) (m : Standing) → length s.disk.bytes ≡ session_length → IsStable s.disk →
     t ≡ wrote s (disk_written 0 1 (x ∷ []) s.disk) c → InSync t m →
     InStore s (CrashLeavesSuch (λ r. IsUnmade r ⊎ (r ≡ recover (made_mark ∷ drop 1 s.disk.bytes)))) m
 in_marked x c s t m long h e w =
@@ -190,7 +191,7 @@ module _ (a b : ℕ) (bytes : List ℕ) (s t : Standing) (blank : IsBlank s.disk
     end = next ∙ sym (end_length a bytes s t _ _ at first)
 
     -- The moments of both writes.
-    pub in_both_writes : (x y z : ℕ) (p q r : ℕ → Moment → Type 0) → Passes x y p q (InWrite s a (length bytes)) →
+    pub in_both_writes : (x y z : ℕ) (p q r : ℕ → Standing → Type 0) → Passes x y p q (InWrite s a (length bytes)) →
         Passes y z q r (InWrite t b (length bytes)) → Passes x z p r (LeavesUnmade s)
     in_both_writes x y z p q r one two =
         Passes_on _ _ _ _ _ _ _ _
@@ -198,7 +199,7 @@ module _ (a b : ℕ) (bytes : List ℕ) (s t : Standing) (blank : IsBlank s.disk
         (λ m. in_blank_write b _ s t m (beside_wrote _ _ _ _ first) between (omega (arith, low, next)) (omega (arith, end)))
 
     -- A moment of the sync after them.
-    pub in_sync_behind : (u : Standing) (m : Moment) → u ≡ with_written b bytes t → InSync u m → LeavesUnmade s m
+    pub in_sync_behind : (u m : Standing) → u ≡ with_written b bytes t → InSync u m → LeavesUnmade s m
     in_sync_behind u m second w =
         in_blank_sync s u m (beside_on s t u (beside_wrote _ _ _ _ first) (beside_wrote _ _ _ _ second))
         (blank_end b bytes t u _ _ between (omega (arith, low, next)) end second) w

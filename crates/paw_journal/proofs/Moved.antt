@@ -1,9 +1,8 @@
 -- Calls that move a stretch of the attached store alone.
-use Rattle.std.proofs.Common.{◌≡◌, ℕ, ◌+◌, ◌≤◌, List, length, inl, inr, ◌⊎◌, refl, sym, ap, subst, ◌∙◌}
+use Rattle.std.proofs.Common.{◌≡◌, ℕ, ◌+◌, ◌≤◌, List, length, inl, inr, refl, sym, ap, subst, ◌∙◌}
 use Rattle.std.specs.Prelude.{Option, Some}
-use Rattle.paw_stage.specs.Disk.{Disk, IsInWrite, IsStable, disk_written, stable}
-use Rattle.paw_stage.specs.Stage.{Standing, WritesPart, Files, store_holding, wrote}
-use Rattle.paw_stage.specs.Moments.{Moment, InWrite, InSync}
+use Rattle.paw_stage.specs.Disk.{Disk, MayLeave, IsInWrite, IsStable, disk_written, stable}
+use Rattle.paw_stage.specs.Stage.{Standing, Files, InWrite, InSync, store_holding, wrote}
 use Rattle.paw_stage.proofs.Names.{held_other, holds_same}
 use Rattle.paw_journal.specs.Session.{Recovered}
 use Rattle.paw_journal.specs.inner.Steps.{IsWithin}
@@ -26,9 +25,9 @@ beside_wrote s t d n e = subst (λ x. ChangesStoreOnly s x) (sym e) (record {
   file = λ k a h. held_same s.attached k d.bytes s.files a;
 })
 
-pub beside_part : (s t : Standing) (at n : ℕ) → (t ≡ s) ⊎ WritesPart s t at n → ChangesStoreOnly s t
+pub beside_part : (s t : Standing) (at n : ℕ) → InWrite s at n t → ChangesStoreOnly s t
 beside_part s t at n (inl e) = subst (λ x. ChangesStoreOnly s x) (sym e) (beside_none s)
-beside_part s t at n (inr q) = beside_wrote s t q.disk q.count q.stands
+beside_part s t at n (inr q) = beside_wrote s t q.0 q.1 q.4
 
 pub beside_sync : (s t : Standing) → t ≡ record s { disk = stable s.disk.bytes } → ChangesStoreOnly s t
 beside_sync s t e = subst (λ x. ChangesStoreOnly s x) (sym e)
@@ -48,28 +47,28 @@ beside_on s t u h k =
       file = λ n a f. k.file n (h.attached ∙ a) (h.file n a f);
     }
 
-pub in_write : (s : Standing) (at n : ℕ) (P : Disk → Type 0) (m : Moment) → ((d : Disk) → IsInWrite at n s.disk d → P d) → InWrite s at n m → InStore s P m
-in_write s at n P m f h =
-    record {
-      asked = h.asked;
-      shown = h.shown;
-      attached = h.attached;
-      files = λ k ne. elim h.files [ inl e ↦ ap (λ x. x k) e | inr e ↦ ap (λ x. x k) e.1 ∙ held_other s.attached k e.0 s.files ne ];
-      disk = f m.disk h.disk;
-    }
+-- At a moment after which nothing but the store was moved, all else is as it was.
+in_store : (s m : Standing) (P : Disk → Type 0) → ChangesStoreOnly s m → P m.disk → InStore s P m
+in_store s m P h p = record { asked = h.asked; shown = h.shown; attached = h.attached; files = h.files; disk = p }
+
+pub in_write : (s : Standing) (at n : ℕ) (P : Disk → Type 0) (m : Standing) → ((d : Disk) → IsInWrite at n s.disk d → P d) → InWrite s at n m → InStore s P m
+in_write s at n P m f h = in_store s m P (beside_part s m at n h) (f m.disk (disk_inside s m at n h))
+  where
+    disk_inside : (s m : Standing) (at n : ℕ) → InWrite s at n m → IsInWrite at n s.disk m.disk
+    disk_inside s m at n (inl e) = inl (ap (λ x. x.disk) e)
+    disk_inside s m at n (inr q) = subst (IsInWrite at n s.disk) (sym (ap (λ x. x.disk) q.4)) q.2
 
 -- Inside a sync a crash leaves no more than before it.
-pub in_sync : (s : Standing) (P : Recovered → Type 0) (m : Moment) → CrashLeavesSuch P s.disk → InSync s m → InStore s (CrashLeavesSuch P) m
+pub in_sync : (s : Standing) (P : Recovered → Type 0) (m : Standing) → CrashLeavesSuch P s.disk → InSync s m → InStore s (CrashLeavesSuch P) m
 in_sync s P m f h = record {
-  asked = h.asked;
-  shown = h.shown;
-  attached = h.attached;
-  files =
-      λ k ne. ap (λ x. x k) h.files;
-  disk = λ image l. f image (h.disk image l);
+  asked = ap (λ x. x.asked) h.stands;
+  shown = ap (λ x. x.shown) h.stands;
+  attached = ap (λ x. x.attached) h.stands;
+  files = λ k ne. ap (λ x. x.files k) h.stands;
+  disk = λ image l. f image (h.leaves image (subst (λ x. MayLeave x.disk image) h.stands l));
 }
 
-pub in_later : (s t : Standing) (P Q : Disk → Type 0) (m : Moment) → ChangesStoreOnly s t → ((d : Disk) → P d → Q d) → InStore t P m → InStore s Q m
+pub in_later : (s t : Standing) (P Q : Disk → Type 0) (m : Standing) → ChangesStoreOnly s t → ((d : Disk) → P d → Q d) → InStore t P m → InStore s Q m
 in_later s t P Q m b f h =
     record {
       asked = h.asked ∙ b.asked;
@@ -96,12 +95,12 @@ moved_wrote lo hi at n c new s t u h low high long short e =
     }
 
 -- A moment inside a write to the stretch, and inside a sync after it.
-pub in_moved_write : (lo hi at n : ℕ) (s t : Standing) (P : Disk → Type 0) (m : Moment) → IsMoved lo hi s t → lo ≤ at →
+pub in_moved_write : (lo hi at n : ℕ) (s t : Standing) (P : Disk → Type 0) (m : Standing) → IsMoved lo hi s t → lo ≤ at →
     at + n ≤ hi → hi ≤ length s.disk.bytes → ((d : Disk) → IsWithin lo hi s.disk.bytes d → P d) → InWrite t at n m →
     InStore s P m
 in_moved_write lo hi at n s t P m h low high long f w =
     in_later s t P P m h.beside (λ d p. p) (in_write t at n P m (λ d i. f d (within_write lo hi at n s.disk.bytes t.disk d h.within low high long i)) w)
 
-pub in_moved_sync : (lo hi : ℕ) (s t : Standing) (P : Recovered → Type 0) (m : Moment) → IsMoved lo hi s t →
+pub in_moved_sync : (lo hi : ℕ) (s t : Standing) (P : Recovered → Type 0) (m : Standing) → IsMoved lo hi s t →
     ((d : Disk) → IsWithin lo hi s.disk.bytes d → CrashLeavesSuch P d) → InSync t m → InStore s (CrashLeavesSuch P) m
 in_moved_sync lo hi s t P m h f w = in_later s t (CrashLeavesSuch P) (CrashLeavesSuch P) m h.beside (λ d p. p) (in_sync t P m (f t.disk h.within) w)

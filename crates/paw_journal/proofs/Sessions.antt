@@ -9,7 +9,8 @@ use Rattle.std.proofs.lemmas.Slice.Eq.{bytes_eq-Decides}
 use Rattle.paw_base.specs.declared.layout.TheConstants.{PIECE_LENGTH_AT}
 use Rattle.paw_stage.specs.Disk.{Disk, IsStable, stable}
 use Rattle.paw_stage.specs.Stage.{Standing}
-use Rattle.paw_stage.specs.Moments.{Moment, Passes, Still, moment_of}
+use Rattle.paw_stage.specs.Stage.{Still}
+use Rattle.paw_stage.specs.Moments.{Passes}
 use Rattle.paw_stage.proofs.Time.{Passes_on}
 use Rattle.paw_journal.specs.declared.drafting.SlotState.{SlotState}
 use Rattle.paw_journal.specs.declared.layout.Slot.{Slot}
@@ -168,25 +169,25 @@ introduced_shows k digests held bytes h e =
     ∙ (ap (λ d. slot_shows d (slot k bytes)) (sym h.digests) ∙ ap (slot_shows digests) (sym e)))
 
 -- Two calls that change nothing.
-pub still_on : (b n n' : ℕ) (past since since' : ℕ → Moment → Type 0) (s t : Standing) → t ≡ s →
+pub still_on : (b n n' : ℕ) (past since since' : ℕ → Standing → Type 0) (s t : Standing) → t ≡ s →
     Passes b n past since (Still s) → Passes n n' since since' (Still t) → Passes b n' past since' (Still s)
-still_on b n n' past since since' s t e h k = Passes_on b n n' past since since' (Still s) (Still t) h k (λ m q. q ∙ ap moment_of e)
+still_on b n n' past since since' s t e h k = Passes_on b n n' past since since' (Still s) (Still t) h k (λ m q. q ∙ e)
 
 -- What a crash leaves of one of two sessions, in other words.
-pub in_either : (s t : Standing) (a b x y : Recovered) (m : Moment) → ChangesStoreOnly s t → a ≡ x → b ≡ y →
+pub in_either : (s t : Standing) (a b x y : Recovered) (m : Standing) → ChangesStoreOnly s t → a ≡ x → b ≡ y →
     InStore t (CrashLeavesSuch (IsOldOrNew a b)) m → InStore s (CrashLeavesSuch (IsOldOrNew x y)) m
 in_either s t a b x y m h e f i = in_later s t (CrashLeavesSuch (IsOldOrNew a b)) (CrashLeavesSuch (IsOldOrNew x y)) m h
     (λ d p image l. elim (p image l) [ inl q ↦ inl (q ∙ e) | inr q ↦ inr (q ∙ f) ]) i
 
-pub in_first_of : (s : Standing) (a b : Recovered) (m : Moment) → ChangesStoreOnly s s → InStore s (CrashLeavesSuch (λ r. r ≡ a)) m →
+pub in_first_of : (s : Standing) (a b : Recovered) (m : Standing) → ChangesStoreOnly s s → InStore s (CrashLeavesSuch (λ r. r ≡ a)) m →
     InStore s (CrashLeavesSuch (IsOldOrNew a b)) m
 in_first_of s a b m h i = in_later s s (CrashLeavesSuch (λ r. r ≡ a)) (CrashLeavesSuch (IsOldOrNew a b)) m h (λ d p image l. inl (p image l)) i
 
-pub in_unmade : (s : Standing) (b : Recovered) (m : Moment) → ChangesStoreOnly s s → InStore s (CrashLeavesSuch IsUnmade) m →
+pub in_unmade : (s : Standing) (b : Recovered) (m : Standing) → ChangesStoreOnly s s → InStore s (CrashLeavesSuch IsUnmade) m →
     InStore s (CrashLeavesSuch (λ r. IsUnmade r ⊎ (r ≡ b))) m
 in_unmade s b m h i = in_later s s (CrashLeavesSuch IsUnmade) (CrashLeavesSuch (λ r. IsUnmade r ⊎ (r ≡ b))) m h (λ d p image l. inl (p image l)) i
 
-pub in_unmade_or : (s t : Standing) (a b : Recovered) (m : Moment) → ChangesStoreOnly s t → a ≡ b →
+pub in_unmade_or : (s t : Standing) (a b : Recovered) (m : Standing) → ChangesStoreOnly s t → a ≡ b →
     InStore t (CrashLeavesSuch (λ r. IsUnmade r ⊎ (r ≡ a))) m → InStore s (CrashLeavesSuch (λ r. IsUnmade r ⊎ (r ≡ b))) m
 in_unmade_or s t a b m h e i = in_later s t (CrashLeavesSuch (λ r. IsUnmade r ⊎ (r ≡ a))) (CrashLeavesSuch (λ r. IsUnmade r ⊎ (r ≡ b))) m
     h (λ d p image l. elim (p image l) [ inl q ↦ inl q | inr q ↦ inr (q ∙ e) ]) i

@@ -3,7 +3,7 @@
 ghost use Rattle.std.specs.Prelude.{◌≡◌, ◌≢◌, ◌+◌, ◌≤◌, None, [], ◌∷◌, length, take, OnOk, IfOk, IfErr, IsSome};
 ghost use Rattle.paw_base.specs.Bytes.{Bytes};
 ghost use Rattle.paw_stage.specs.declared.StageCall.TheVariants as call;
-ghost use Rattle.paw_stage.specs.Moments.{Still};
+ghost use Rattle.paw_stage.specs.Stage.{Still};
 ghost use Rattle.paw_stage.specs.Across.{FailsOnlyBy};
 ghost use Rattle.paw_stage.specs.inner.Across.{AtEachMoment};
 ghost use Rattle.paw_journal.specs.Session.{Recovered, Shown, BelongsTo, recover, is_version, stretch, header_length};

@@ -3,9 +3,9 @@
 ghost use Rattle.std.specs.Prelude.{◌≡◌, ◌+◌, ◌≤◌, [], ◌∷◌, length, IsSome, OnOk, OnErr, IfOk};
 ghost use Rattle.paw_stage.specs.declared.StageCall.TheVariants as call;
 ghost use Rattle.paw_stage.specs.Disk.{IsStable};
-ghost use Rattle.paw_stage.specs.Stage.{Unattached, WritesSome, part_of, with_written, with_store_synced};
+ghost use Rattle.paw_stage.specs.Stage.{Unattached, part_of, with_written, with_store_synced};
 ghost use Rattle.paw_stage.specs.inner.Stage.{WritesAtMost};
-ghost use Rattle.paw_stage.specs.Moments.{Still, InAttach, InWrite, InSync};
+ghost use Rattle.paw_stage.specs.Stage.{Still, InAttach, InWrite, InSync};
 ghost use Rattle.paw_stage.specs.Across.{IfTelling, FailsOnlyBy};
 ghost use Rattle.paw_stage.specs.inner.Across.{OnSuccess, AtEachMoment};
 ghost use Rattle.paw_journal.specs.inner.Store.{ChangesStoreOnly, Opens};
@@ -67,7 +67,7 @@ pub(crate) fn write<S: Stage>(stage: &mut S, at: u64, bytes: &[u8]) -> Result<()
     ensures serves { FailsOnlyBy S.Stage (call.Write ∷ []) (failed_stage_call result) stage.old stage.new }
     ensures few { IfTelling S.Stage stage.old stage.new (WritesAtMost (length bytes.now)) }
     ensures written { OnSuccess S.Stage stage.old stage.new result (λ old new. new ≡ with_written at bytes.now old) }
-    ensures part { IfTelling S.Stage stage.old stage.new (λ old new. OnErr result (WritesSome old new at bytes.now)) }
+    ensures part { IfTelling S.Stage stage.old stage.new (λ old new. OnErr result (InWrite old at (length bytes.now) new)) }
     ensures time { AtEachMoment S.Stage stage.old stage.new (λ s. InWrite s at (length bytes.now)) }
 {
     match stage.write_at(at, bytes) {

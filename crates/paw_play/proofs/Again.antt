@@ -7,7 +7,7 @@ use Rattle.paw_effects.specs.Story.{Story}
 use Rattle.paw_game.specs.Valid.{Valid}
 use Rattle.paw_stage.specs.Disk.{MayLeave, stable}
 use Rattle.paw_stage.specs.Stage.{Standing}
-use Rattle.paw_stage.specs.Moments.{Moment, moment_of, Still, InAttach}
+use Rattle.paw_stage.specs.Stage.{Still, InAttach}
 use Rattle.paw_stage.proofs.Time.{Passes_map}
 use Rattle.paw_reading.specs.Turn.{text_of}
 use Rattle.paw_journal.specs.Session.{Digests, recover}
@@ -38,7 +38,7 @@ use Rattle.paw_play.proofs.Showing.{state_kept}
 module _ (g : Story) (digests : Digests) (name : List ℕ) (st : State) (piece : List ℕ) (old : Standing) (valid : Valid g.game)
     (shows : ShowsState g.game digests (store_bytes old name) st piece) where
   -- The store is attached, and nothing was asked or shown.
-  at_attached : (m : Moment) → m.asked ≡ old.asked → m.shown ≡ old.shown → m.attached ≡ Some name →
+  at_attached : (m : Standing) → m.asked ≡ old.asked → m.shown ≡ old.shown → m.attached ≡ Some name →
       ((n : List ℕ) → n ≢ name → m.files n ≡ old.files n) → m.disk ≡ stable (store_bytes old name) →
       InPlay (from_state g st piece digests name) old m
   at_attached m asked shown attached files disk = record {
@@ -61,19 +61,19 @@ module _ (g : Story) (digests : Digests) (name : List ℕ) (st : State) (piece :
   }
 
   -- While the session is found.
-  pub in_finding : (new : Standing) (m : Moment) → new ≡ attached_to old name → Still new m → InPlay (from_state g st piece digests name) old m
+  pub in_finding : (new m : Standing) → new ≡ attached_to old name → Still new m → InPlay (from_state g st piece digests name) old m
   in_finding new m is e =
-      let k : m ≡ moment_of (attached_to old name) = e ∙ ap moment_of is in
-      at_attached m (ap (λ (q : Moment). q.asked) k) (ap (λ (q : Moment). q.shown) k)
-      (ap (λ (q : Moment). q.attached) k) (λ n ne. ap (λ (q : Moment). q.files n) k ∙ other_file old name n ne)
-      (ap (λ (q : Moment). q.disk) k)
+      let k : m ≡ attached_to old name = e ∙ is in
+      at_attached m (ap (λ (q : Standing). q.asked) k) (ap (λ (q : Standing). q.shown) k)
+      (ap (λ (q : Standing). q.attached) k) (λ n ne. ap (λ (q : Standing). q.files n) k ∙ other_file old name n ne)
+      (ap (λ (q : Standing). q.disk) k)
 
   -- Where the attach is done.
-  pub at_again_attach : (new : Standing) → new ≡ attached_to old name → InPlay (from_state g st piece digests name) old (moment_of new)
-  at_again_attach new is = in_finding new (moment_of new) is refl
+  pub at_again_attach : (new : Standing) → new ≡ attached_to old name → InPlay (from_state g st piece digests name) old new
+  at_again_attach new is = in_finding new new is refl
 
   -- Once it is found.
-  pub in_taking_up : (m : Moment) → InPlay (from_state g st piece digests name) (attached_to old name) m → InPlay (from_state g st piece digests name) old m
+  pub in_taking_up : (m : Standing) → InPlay (from_state g st piece digests name) (attached_to old name) m → InPlay (from_state g st piece digests name) old m
   in_taking_up m i = playing_from (from_state g st piece digests name) old m i
 
 -- While the session is found, where stages say what stands.
@@ -87,8 +87,8 @@ found_again s first mid last g digests name st piece valid shows is h =
 
 -- The moments from the attach of its store on, with what a stage says of the moment at which it stands.
 pub taken_up_again : {S : Type 0} (s : Ghosts S) →
-    ((x : S) (m : Moment) → s.Tells x → s.since x (s.clock x) m → m ≡ moment_of (s.standing x)) →
-    ((x : S) (t : ℕ) → s.Tells x → t ≤ s.clock x → s.since x t (moment_of (s.standing x))) →
+    ((x : S) (m : Standing) → s.Tells x → s.since x (s.clock x) m → m ≡ s.standing x) →
+    ((x : S) (t : ℕ) → s.Tells x → t ≤ s.clock x → s.since x t (s.standing x)) →
     (first mid last : S) (g : Story) (digests : Digests) (name : List ℕ) (st : State) (piece : List ℕ) →
     Valid g.game → ShowsState g.game digests (store_bytes (s.standing first) name) st piece → s.Tells mid →
     s.standing mid ≡ attached_to (s.standing first) name →

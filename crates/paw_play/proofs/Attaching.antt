@@ -3,7 +3,6 @@ use Rattle.std.proofs.Common.{◌≡◌, ◌≢◌, ℕ, List, [], ◌∷◌, Op
 use Rattle.std.proofs.Common.{inl, inr}
 use Rattle.paw_stage.specs.Disk.{MayLeave, stable}
 use Rattle.paw_stage.specs.Stage.{Standing, Files, bytes_or_none, made_if_missing, AttachesTo}
-use Rattle.paw_stage.specs.Moments.{Moment, moment_of}
 use Rattle.paw_stage.proofs.Names.{holds_same, holds_other}
 use Rattle.paw_journal.proofs.Disks.{stable_is, stable_leaves}
 use Rattle.paw_journal.specs.Session.{IsUnmade, recover, recover_by}
@@ -50,7 +49,7 @@ none_unmade image e = rw e tt
 
 -- An empty store was attached.
 pub at_new_attach : (s : PlayedSession) (old new : Standing) → new ≡ attached_to old s.name → store_bytes old s.name ≡ [] →
-    InNewSession s old (moment_of new)
+    InNewSession s old new
 at_new_attach s old new is empty = inl (record {
   asked = ap (λ (q : Standing). q.asked) is;
   shown = ap (λ (q : Standing). q.shown) is;
@@ -62,7 +61,7 @@ at_new_attach s old new is empty = inl (record {
 })
 
 -- What holds from the attached store on holds from before the attach.
-making_from : (s : PlayedSession) (old : Standing) (m : Moment) → InMaking s (attached_to old s.name) m → InMaking s old m
+making_from : (s : PlayedSession) (old m : Standing) → InMaking s (attached_to old s.name) m → InMaking s old m
 making_from s old m i = record {
   asked = i.asked;
   shown = i.shown;
@@ -71,7 +70,7 @@ making_from s old m i = record {
   leaves = i.leaves;
 }
 
-pub playing_from : (s : PlayedSession) (old : Standing) (m : Moment) → InPlay s (attached_to old s.name) m → InPlay s old m
+pub playing_from : (s : PlayedSession) (old m : Standing) → InPlay s (attached_to old s.name) m → InPlay s old m
 playing_from s old m i = record {
   taken = i.taken;
   text = i.text;
@@ -86,6 +85,6 @@ playing_from s old m i = record {
   leaves = i.leaves;
 }
 
-pub new_from : (s : PlayedSession) (old : Standing) (m : Moment) → InNewSession s (attached_to old s.name) m → InNewSession s old m
+pub new_from : (s : PlayedSession) (old m : Standing) → InNewSession s (attached_to old s.name) m → InNewSession s old m
 new_from s old m (inl i) = inl (making_from s old m i)
 new_from s old m (inr i) = inr (playing_from s old m i)

@@ -5,7 +5,7 @@ use Rattle.std.proofs.lemmas.List.{take-append-drop}
 use Rattle.paw_base.specs.declared.limits.TheConstants.{EVENT_LIMIT}
 use Rattle.paw_stage.specs.Disk.{IsStable}
 use Rattle.paw_stage.specs.Stage.{Standing}
-use Rattle.paw_stage.specs.Moments.{Moment, InShow}
+use Rattle.paw_stage.specs.Stage.{InShow}
 use Rattle.paw_stage.specs.declared.StageCall.{StageCall}
 use Rattle.paw_stage.specs.declared.StageCall.TheVariants as call
 use Rattle.paw_journal.proofs.Disks.{stable_leaves}
@@ -89,7 +89,7 @@ module _ {F : Type 0} {g : Story} {s : PlayedSession} {first kept : Standing} {n
   not_this f other e = let a : Some s.name ≡ Some f = sym b.store.attached ∙ e in other (cc)
 
   -- Inside the making.
-  pub in_making : (m : Moment) → InStore first (CrashLeavesSuch (λ r. IsUnmade r ⊎ (r ≡ Shown s.digests (seat_state 0 next) next.piece))) m → InMaking s first m
+  pub in_making : (m : Standing) → InStore first (CrashLeavesSuch (λ r. IsUnmade r ⊎ (r ≡ Shown s.digests (seat_state 0 next) next.piece))) m → InMaking s first m
   in_making m i = record {
     asked = i.asked;
     shown = i.shown;
@@ -132,7 +132,7 @@ module _ {F : Type 0} {g : Story} {s : PlayedSession} {first kept : Standing} {n
     }
 
     -- Inside the show of the first piece.
-    pub in_first_show : (m : Moment) → InShow kept next.piece m → InPlay s first m
+    pub in_first_show : (m : Standing) → InShow kept next.piece m → InPlay s first m
     in_first_show m i = subst (InPlay s first) (sym i.1) (record {
       taken = 0;
       text = take i.0 next.piece;

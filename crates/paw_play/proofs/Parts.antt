@@ -1,17 +1,17 @@
 -- The moments of a session in two parts: before its store is attached, and from then on.
-use Rattle.std.proofs.Common.{◌≡◌, ◌⊎◌, ℕ, ◌≤◌, List, refl, sym, ap, ◌∙◌, subst, arith, inl, inr}
+use Rattle.std.proofs.Common.{◌≡◌, ◌⊎◌, ℕ, ◌≤◌, List, refl, sym, ◌∙◌, subst, arith, inl, inr}
 use Rattle.paw_stage.specs.Stage.{Standing, Unattached, made_if_missing}
-use Rattle.paw_stage.specs.Moments.{Moment, moment_of, InAttach}
+use Rattle.paw_stage.specs.Stage.{InAttach}
 use Rattle.paw_stage.specs.Across.{EachMoment, InTwoParts, first_alone, both}
 use Rattle.paw_stage.specs.declared.Stage.{Ghosts}
 use Rattle.paw_stage.proofs.Time.{Passes_map, Passes_on}
 use Rattle.paw_play.specs.Play.{NotYet}
 
 -- Calls up to a turn, at which such a moment stands, and calls from there on.
-two_parts : {S : Type 0} (g : Ghosts S) (old mid new : S) (Before After : Moment → Type 0) →
-    ((m : Moment) → g.since mid (g.clock mid) m → m ≡ moment_of (g.standing mid)) →
-    g.since mid (g.clock mid) (moment_of (g.standing mid)) → After (moment_of (g.standing mid)) →
-    EachMoment g old mid (λ m. Before m ⊎ (m ≡ moment_of (g.standing mid))) → EachMoment g mid new After →
+two_parts : {S : Type 0} (g : Ghosts S) (old mid new : S) (Before After : Standing → Type 0) →
+    ((m : Standing) → g.since mid (g.clock mid) m → m ≡ g.standing mid) →
+    g.since mid (g.clock mid) (g.standing mid) → After (g.standing mid) →
+    EachMoment g old mid (λ m. Before m ⊎ (m ≡ g.standing mid)) → EachMoment g mid new After →
     InTwoParts g old new Before After
 two_parts g old mid new Before After only counts turned h k =
     both (g.clock mid) h.later k.later
@@ -38,7 +38,7 @@ two_parts g old mid new Before After only counts turned h k =
     })
 
 -- Calls that belong to the first part come before.
-pub then_two_parts : {S : Type 0} (g : Ghosts S) (old mid new : S) (Before After : Moment → Type 0) → EachMoment g old mid Before →
+pub then_two_parts : {S : Type 0} (g : Ghosts S) (old mid new : S) (Before After : Standing → Type 0) → EachMoment g old mid Before →
     InTwoParts g mid new Before After → InTwoParts g old new Before After
 then_two_parts g old mid new Before After h (first_alone k) = first_alone (Passes_on _ _ _ _ _ _ Before Before h k (λ m i. i))
 then_two_parts g old mid new Before After h (both turn low high all k) =
@@ -47,33 +47,33 @@ then_two_parts g old mid new Before After h (both turn low high all k) =
     (Passes_map _ _ _ _ Before (λ m. Before m ⊎ g.since new turn m) h (λ m i. inl i)) k (λ m i. i))
 
 -- A weaker word for the second part.
-pub map_two_parts : {S : Type 0} (g : Ghosts S) (old new : S) (Before After Later : Moment → Type 0) → ((m : Moment) → After m → Later m) →
+pub map_two_parts : {S : Type 0} (g : Ghosts S) (old new : S) (Before After Later : Standing → Type 0) → ((m : Standing) → After m → Later m) →
     InTwoParts g old new Before After → InTwoParts g old new Before Later
 map_two_parts g old new Before After Later f (first_alone k) = first_alone k
 map_two_parts g old new Before After Later f (both turn low high all k) = both turn low high (λ m is. f m (all m is)) k
 
 -- ---- before the store is attached ----
 
-pub not_yet : (name : List ℕ) (old : Standing) (m : Moment) → m ≡ moment_of old → NotYet name old m
+pub not_yet : (name : List ℕ) (old m : Standing) → m ≡ old → NotYet name old m
 not_yet name old m e = subst (NotYet name old) (sym e) (record { asked = refl; shown = refl; files = inl refl; store = inl (refl, refl) })
 
-made_yet : (name : List ℕ) (old : Standing) (m : Moment) →
-    m ≡ record (moment_of old) { files = made_if_missing name (old.files name) old.files } → NotYet name old m
+made_yet : (name : List ℕ) (old m : Standing) →
+    m ≡ record old { files = made_if_missing name (old.files name) old.files } → NotYet name old m
 made_yet name old m e = subst (NotYet name old) (sym e) (record { asked = refl; shown = refl; files = inr refl; store = inl (refl, refl) })
 
 -- Inside the attach, or at its end.
-in_attach : (old new : Standing) (name : List ℕ) (m : Moment) → InAttach old new name m → NotYet name old m ⊎ (m ≡ moment_of new)
+in_attach : (old new : Standing) (name : List ℕ) (m : Standing) → InAttach old new name m → NotYet name old m ⊎ (m ≡ new)
 in_attach old new name m (inl e) = inl (not_yet name old m e)
 in_attach old new name m (inr (inl e)) = inl (made_yet name old m e)
 in_attach old new name m (inr (inr e)) = inr e
 
-unattached_yet : (old new : Standing) (name : List ℕ) (m : Moment) → Unattached old new → m ≡ moment_of new → NotYet name old m
-unattached_yet old new name m (inl is) e = not_yet name old m (e ∙ ap moment_of is)
+unattached_yet : (old new : Standing) (name : List ℕ) (m : Standing) → Unattached old new → m ≡ new → NotYet name old m
+unattached_yet old new name m (inl is) e = not_yet name old m (e ∙ is)
 unattached_yet old new name m (inr is) e =
-    subst (NotYet name old) (sym (e ∙ ap moment_of is)) (record { asked = refl; shown = refl; files = inl refl; store = inr refl })
+    subst (NotYet name old) (sym (e ∙ is)) (record { asked = refl; shown = refl; files = inl refl; store = inr refl })
 
 -- Inside an attach that failed.
-in_failed_attach : (old new : Standing) (name : List ℕ) (m : Moment) → Unattached old new → InAttach old new name m → NotYet name old m
+in_failed_attach : (old new : Standing) (name : List ℕ) (m : Standing) → Unattached old new → InAttach old new name m → NotYet name old m
 in_failed_attach old new name m left i = elim (in_attach old new name m i) [
   | inl n ↦ n
   | inr e ↦ unattached_yet old new name m left e
@@ -82,7 +82,7 @@ in_failed_attach old new name m left i = elim (in_attach old new name m i) [
 -- ---- an attach, and what comes after it ----
 
 -- An attach that failed, and nothing more.
-pub attach_failed : {S : Type 0} (g : Ghosts S) (old new : S) (name : List ℕ) (After : Moment → Type 0) →
+pub attach_failed : {S : Type 0} (g : Ghosts S) (old new : S) (name : List ℕ) (After : Standing → Type 0) →
     Unattached (g.standing old) (g.standing new) →
     EachMoment g old new (InAttach (g.standing old) (g.standing new) name) → InTwoParts g old new (NotYet name (g.standing old)) After
 attach_failed g old new name After left h =
@@ -91,9 +91,9 @@ attach_failed g old new name After left h =
 
 -- An attach by which the second part begins, with what a stage says of the moment at which it stands.
 pub then_attached : {S : Type 0} (g : Ghosts S) →
-    ((s : S) (m : Moment) → g.Tells s → g.since s (g.clock s) m → m ≡ moment_of (g.standing s)) →
-    ((s : S) (t : ℕ) → g.Tells s → t ≤ g.clock s → g.since s t (moment_of (g.standing s))) →
-    (old mid new : S) (name : List ℕ) (After : Moment → Type 0) → g.Tells mid → After (moment_of (g.standing mid)) →
+    ((s : S) (m : Standing) → g.Tells s → g.since s (g.clock s) m → m ≡ g.standing s) →
+    ((s : S) (t : ℕ) → g.Tells s → t ≤ g.clock s → g.since s t (g.standing s)) →
+    (old mid new : S) (name : List ℕ) (After : Standing → Type 0) → g.Tells mid → After (g.standing mid) →
     EachMoment g old mid (InAttach (g.standing old) (g.standing mid) name) → EachMoment g mid new After →
     InTwoParts g old new (NotYet name (g.standing old)) After
 then_attached g only counts old mid new name After now turned h k =

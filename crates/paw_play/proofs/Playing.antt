@@ -8,7 +8,7 @@ use Rattle.std.specs.List.{concat}
 use Rattle.paw_base.specs.declared.limits.TheConstants.{EVENT_LIMIT}
 use Rattle.paw_stage.specs.Disk.{MayLeave, IsStable}
 use Rattle.paw_stage.specs.Stage.{Standing, AsksTo}
-use Rattle.paw_stage.specs.Moments.{Moment, moment_of, InAsk, InShow}
+use Rattle.paw_stage.specs.Stage.{InAsk, InShow}
 use Rattle.paw_stage.specs.declared.StageCall.TheVariants as call
 use Rattle.paw_stage.specs.declared.StageCall.{StageCall}
 use Rattle.paw_stage.specs.declared.Asked.{Asked}
@@ -81,7 +81,7 @@ agrees_now g s first now seat n w seated image may = (
 
 -- At a prompt.
 pub at_prompt : {F : Type 0} (g : Story) (s : PlayedSession) (first now : Standing) (seat : PlayerView F) (n : ℕ) →
-    IsPlaying g s first now seat n → IsSeated seat → InPlay s first (moment_of now)
+    IsPlaying g s first now seat n → IsSeated seat → InPlay s first now
 at_prompt g s first now seat n w seated = record {
   taken = n;
   text = concat w.walking.pieces;
@@ -97,10 +97,10 @@ at_prompt g s first now seat n w seated = record {
 }
 
 -- Inside an ask that takes a line.
-line_asked : {F : Type 0} (g : Story) (s : PlayedSession) (first now : Standing) (seat : PlayerView F) (n : ℕ) →
+line_asked : {F : Type 0} (g : Story) (s : PlayedSession) (first now : Standing) (seat : PlayerView F) (n : ℕ) (left : List (List ℕ)) →
     IsPlaying g s first now seat n → IsSeated seat → suc n ≤ length first.lines → s.before + suc n ≤ EVENT_LIMIT →
-    InPlay s first (record (moment_of now) { asked = now.asked + 1 })
-line_asked g s first now seat n w seated there few = record {
+    InPlay s first (record now { lines = left; asked = now.asked + 1 })
+line_asked g s first now seat n left w seated there few = record {
   taken = suc n;
   text = concat w.walking.pieces;
   last = [];
@@ -122,15 +122,16 @@ is_there g s first now mid seat n line w e =
 -- Inside an ask.
 pub in_ask : {F : Type 0} {g : Story} {s : PlayedSession} {first now : Standing} {seat : PlayerView F} {n : ℕ} (w : IsPlaying g s first now seat n)
     (mid : Standing)
-    (a : Asked) (into : List ℕ) → IsSeated seat → s.before + suc n ≤ EVENT_LIMIT → AsksTo now mid a into → (m : Moment) → InAsk now a m → InPlay s first m
-in_ask {F} {g} {s} {first} {now} {seat} {n} w mid (asked.Line k) into seated few asks m (inl e) =
+    (a : Asked) (into : List ℕ) → IsSeated seat → s.before + suc n ≤ EVENT_LIMIT → AsksTo now mid a into → (m : Standing) → InAsk now mid m → InPlay s first m
+in_ask {F} {g} {s} {first} {now} {seat} {n} w mid a into seated few asks m (inl e) =
     subst (InPlay s first) (sym e) (at_prompt g s first now seat n w seated)
 in_ask {F} {g} {s} {first} {now} {seat} {n} w mid (asked.Line k) into seated few asks m (inr e) =
-    subst (InPlay s first) (sym e) (line_asked g s first now seat n w seated (is_there g s first now mid seat n asks.0 w asks.1) few)
-in_ask {F} {g} {s} {first} {now} {seat} {n} w mid asked.End into seated few asks m e =
-    subst (InPlay s first) (sym e) (at_prompt g s first now seat n w seated)
-in_ask {F} {g} {s} {first} {now} {seat} {n} w mid asked.Failed into seated few asks m e =
-    subst (InPlay s first) (sym e) (at_prompt g s first now seat n w seated)
+    subst (InPlay s first) (sym (e ∙ asks.3))
+    (line_asked g s first now seat n mid.lines w seated (is_there g s first now mid seat n asks.0 w asks.1) few)
+in_ask {F} {g} {s} {first} {now} {seat} {n} w mid asked.End into seated few asks m (inr e) =
+    subst (InPlay s first) (sym (e ∙ asks.1)) (at_prompt g s first now seat n w seated)
+in_ask {F} {g} {s} {first} {now} {seat} {n} w mid asked.Failed into seated few asks m (inr e) =
+    subst (InPlay s first) (sym (e ∙ asks)) (at_prompt g s first now seat n w seated)
 
 -- ---- the store after a commit ----
 
@@ -210,7 +211,7 @@ module _ {F : Type 0} {g : Story} {s : PlayedSession} {most n events : ℕ} {fir
   digests_still = ap (λ (q : Standing). kept_digests q.disk.bytes) t.took ∙ w.digests
 
   -- Inside the commit.
-  pub in_commit : (m : Moment) → InStore mid
+  pub in_commit : (m : Standing) → InStore mid
       (CrashLeavesSuch (IsOldOrNew (recover mid.disk.bytes)
       (Shown (kept_digests mid.disk.bytes) (seat_state events next) next.piece))) m → InPlay s first m
   in_commit m i = record {
@@ -311,7 +312,7 @@ module _ {F : Type 0} {g : Story} {s : PlayedSession} {most n events : ℕ} {fir
       }
 
       -- Inside the show of its piece.
-      pub in_show : (m : Moment) → InShow kept next.piece m → InPlay s first m
+      pub in_show : (m : Standing) → InShow kept next.piece m → InPlay s first m
       in_show m i = subst (InPlay s first) (sym i.1) (record {
         taken = suc n;
         text = concat w.walking.pieces ++ take i.0 next.piece;

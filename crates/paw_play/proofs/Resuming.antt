@@ -7,7 +7,7 @@ use Rattle.paw_game.specs.Game.{GameLists}
 use Rattle.paw_world.specs.World.{World}
 use Rattle.paw_phrase.specs.Pending.{PendingLine}
 use Rattle.paw_stage.specs.Stage.{Standing}
-use Rattle.paw_stage.specs.Moments.{Moment, InShow}
+use Rattle.paw_stage.specs.Stage.{InShow}
 use Rattle.paw_stage.specs.declared.StageCall.TheVariants as call
 use Rattle.paw_journal.proofs.Disks.{stable_leaves}
 use Rattle.paw_effects.specs.declared.act.Prompt.{Prompt}
@@ -160,7 +160,7 @@ module _ {F : Type 0} {g : Story} {name piece : List ℕ} {r : Restored} {first 
   asked_is new text e = ap (λ (q : Standing). q.asked) e ∙ omega arith
 
   -- Inside the show of the piece.
-  pub in_again_show : (m : Moment) → InShow first piece m → InPlay (read_session g name piece r first) first m
+  pub in_again_show : (m : Standing) → InShow first piece m → InPlay (read_session g name piece r first) first m
   in_again_show m i = subst (InPlay (read_session g name piece r first) first) (sym i.1) (record {
     taken = 0;
     text = take i.0 piece;

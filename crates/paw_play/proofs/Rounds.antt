@@ -8,7 +8,6 @@ use Rattle.std.proofs.lemmas.List.Elements.{All-append, All-map, All-take}
 use Rattle.paw_base.specs.declared.limits.TheConstants.{EVENT_LIMIT}
 use Rattle.paw_stage.specs.Disk.{MayLeave}
 use Rattle.paw_stage.specs.Stage.{Standing, Files, Unattached, bytes_or_none}
-use Rattle.paw_stage.specs.Moments.{Moment}
 use Rattle.paw_stage.specs.declared.StageCall.{StageCall}
 use Rattle.paw_stage.specs.declared.StageCall.TheVariants as call
 use Rattle.paw_stage.specs.Across.{IsOneOf}
@@ -55,13 +54,13 @@ attached_asked : (old new : Standing) (name : List ℕ) → new ≡ attached_to 
 attached_asked old new name e = ap (λ (q : Standing). q.asked) e ∙ omega arith
 
 -- Before the attach a crash leaves what the file had.
-files_left : (old : Standing) (name left : List ℕ) (m : Moment) → NotYet name old m → left ≡ bytes_or_none (m.files name) → left ≡ store_bytes old name
+files_left : (old : Standing) (name left : List ℕ) (m : Standing) → NotYet name old m → left ≡ bytes_or_none (m.files name) → left ≡ store_bytes old name
 files_left old name left m n e = elim n.files [
   | inl same ↦ e ∙ ap (λ (f : Files). bytes_or_none (f name)) same
   | inr made ↦ e ∙ ap (λ (f : Files). bytes_or_none (f name)) made ∙ attached_bytes old name
 ]
 
-not_yet_left : (r : Round) (bytes : List ℕ) (m : Moment) → BeginsOver bytes r → NotYet r.name r.old m → MayBeLeft r.name m r.left → r.left ≡ bytes
+not_yet_left : (r : Round) (bytes : List ℕ) (m : Standing) → BeginsOver bytes r → NotYet r.name r.old m → MayBeLeft r.name m r.left → r.left ≡ bytes
 not_yet_left r bytes m begins n (inr apart) = files_left r.old r.name r.left m n apart.1 ∙ begins.has
 not_yet_left r bytes m begins n (inl is) = elim n.store [
   | inl before ↦ begins.settled r.left (inl (sym before.0 ∙ is.0, subst (λ d. MayLeave d r.left) before.1 is.1))
@@ -69,7 +68,7 @@ not_yet_left r bytes m begins n (inl is) = elim n.store [
 ]
 
 -- Of the attached store a crash leaves what the disk may leave.
-store_left : (name left : List ℕ) (m : Moment) → m.attached ≡ Some name → MayBeLeft name m left → MayLeave m.disk left
+store_left : (name left : List ℕ) (m : Standing) → m.attached ≡ Some name → MayBeLeft name m left → MayLeave m.disk left
 store_left name left m is (inl may) = may.1
 store_left name left m is (inr apart) = absurd (apart.0 is)
 
@@ -81,13 +80,13 @@ KeptOf s old stop left = (n : ℕ) × AreKept old stop n × (n ≤ length old.li
 
 module _ (s : PlayedSession) (old : Standing) where
   -- Of one that a crash cut off all that were taken, or all but the last.
-  kept_up : (m : Moment) (n : ℕ) (text left : List ℕ) → n ≤ length old.lines → s.before + n ≤ EVENT_LIMIT → m.asked ≡ old.asked + n →
+  kept_up : (m : Standing) (n : ℕ) (text left : List ℕ) → n ≤ length old.lines → s.before + n ≤ EVENT_LIMIT → m.asked ≡ old.asked + n →
       IsUpToDateWith s old.lines n text left → KeptOf s old (cut_at m) left
   kept_up m zero text left there few asked kept = (0, inl asked, there, few, kept.0)
   kept_up m (suc n) text left there few asked (inl kept) = (suc n, inl asked, there, few, kept.0)
   kept_up m (suc n) text left there few asked (inr kept) = (n, inr asked, omega (arith, there), omega (arith, few), kept.0)
 
-  cut_keeps : (m : Moment) (left : List ℕ) → InPlay s old m → MayBeLeft s.name m left → KeptOf s old (cut_at m) left
+  cut_keeps : (m : Standing) (left : List ℕ) → InPlay s old m → MayBeLeft s.name m left → KeptOf s old (cut_at m) left
   cut_keeps m left i may = kept_up m i.taken i.text left i.there i.few i.asked (i.leaves left (store_left s.name left m i.attached may))
 
   -- Of a round that ended by itself, all lines but those that are lost by its end.
@@ -119,7 +118,7 @@ no_writing c (inr (inl e)) = rw e (λ rest. rest)
 no_writing c (inr (inr h)) = absurd h
 
 module _ (g : Story) (seed : ℕ) (r : Round) (begins : BeginsOver [] r) (made : ¬ IsUnmade (recover r.left)) where
-  first_cut : (m : Moment) → (NotYet r.name r.old m ⊎ InNewSession (session_begun g seed r.name) r.old m) → MayBeLeft r.name m r.left →
+  first_cut : (m : Standing) → (NotYet r.name r.old m ⊎ InNewSession (session_begun g seed r.name) r.old m) → MayBeLeft r.name m r.left →
       KeptOf (session_begun g seed r.name) r.old (cut_at m) r.left
   first_cut m (inl n) may = absurd (made (empty_unmade r.left (not_yet_left r [] m begins n may)))
   first_cut m (inr (inl i)) may = elim (i.leaves r.left (store_left r.name r.left m i.attached may)) [
@@ -167,7 +166,7 @@ module _ (g : Story) (seed : ℕ) (es : List (List ℕ)) (bytes : List ℕ) (r :
   more_stand stop left k =
       (k.0, k.1, later_stands g seed es r.old.lines stands.digests r.name k.0 left stands.belongs k.2 k.3 k.4)
 
-  later_cut : (m : Moment) → (NotYet r.name r.old m ⊎ InPlay (from_lines g seed es stands.digests r.name) r.old m) → MayBeLeft r.name m r.left →
+  later_cut : (m : Standing) → (NotYet r.name r.old m ⊎ InPlay (from_lines g seed es stands.digests r.name) r.old m) → MayBeLeft r.name m r.left →
       StandsBehind g seed es r.old (cut_at m) r.left
   later_cut m (inl n) may = (0, inl (n.asked ∙ omega arith), none_more r.left (not_yet_left r bytes m begins n may))
   later_cut m (inr i) may = more_stand (cut_at m) r.left (cut_keeps (from_lines g seed es stands.digests r.name) r.old m r.left i may)

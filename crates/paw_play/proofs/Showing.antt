@@ -1,5 +1,5 @@
 -- What the bytes of a store show.
-use Rattle.std.proofs.Common.{◌≡◌, ℕ, ◌+◌, ◌*◌, ◌<◌, List, [], Option, Some, None, refl, sym, ap, ◌∙◌, subst, length}
+use Rattle.std.proofs.Common.{◌≡◌, ℕ, ◌+◌, List, [], Option, Some, None, refl, sym, ap, ◌∙◌, subst, length}
 use Rattle.std.proofs.Common.{take, arith}
 use Rattle.std.specs.Prelude.{IfNone}
 use Rattle.paw_game.specs.Game.{GameLists}

@@ -8,8 +8,7 @@ use Rattle.std.specs.List.{concat}
 use Rattle.paw_base.specs.declared.limits.TheConstants.{STEP_LIMIT}
 use Rattle.paw_base.specs.inner.Steps.{KeptSteps}
 use Rattle.paw_base.specs.inner.Steps.{kept_steps}
-use Rattle.paw_stage.specs.Stage.{Standing, ShowsPart, with_shown}
-use Rattle.paw_stage.specs.Moments.{Moment, moment_of, InShow}
+use Rattle.paw_stage.specs.Stage.{Standing, InShow, with_shown}
 use Rattle.paw_effects.specs.declared.act.Prompt.{Prompt}
 use Rattle.paw_reading.specs.declared.places.Frame.{Frame}
 use Rattle.paw_reading.specs.Run.{Run, Step as Read}
@@ -125,30 +124,17 @@ past_part n (x ∷ xs) ys = let k = past_part n xs ys in (suc k.0, ap (λ zs. x 
 
 module _ (old : Standing) (text more : List ℕ) where
   -- A part of the first was shown.
-  pub part_before : (new : Standing) → ShowsPart text old new → ShowsPart (text ++ more) old new
-  part_before new h = let k = part_of h.0 text more in (k.0, h.1 ∙ ap (λ t. with_shown t old) k.1)
-
-  pub moment_before : (m : Moment) → InShow old text m → InShow old (text ++ more) m
-  moment_before m i =
-      let k = part_of i.0 text more in (k.0, i.1 ∙ ap (λ t. record (moment_of old) { shown = old.shown ++ t }) k.1)
+  pub part_before : (m : Standing) → InShow old text m → InShow old (text ++ more) m
+  part_before m i = let k = part_of i.0 text more in (k.0, i.1 ∙ ap (λ t. with_shown t old) k.1)
 
   -- The first was shown, and the second or a part of it.
   pub both_shown : (mid new : Standing) → mid ≡ with_shown text old → new ≡ with_shown more mid → new ≡ with_shown (text ++ more) old
   both_shown mid new e f = f ∙ ap (with_shown more) e ∙ ap (λ t. record old { shown = t }) (append_assoc old.shown text more)
 
-  pub part_after : (mid new : Standing) → mid ≡ with_shown text old → ShowsPart more mid new → ShowsPart (text ++ more) old new
-  part_after mid new e h =
-      let k = past_part h.0 text more in (
-        k.0,
-        h.1 ∙ ap (with_shown (take h.0 more)) e ∙ ap (λ t. record old { shown = t }) (append_assoc old.shown text (take h.0 more))
-            ∙ ap (λ t. with_shown t old) k.1,
-      )
-
-  pub moment_after : (mid : Standing) (m : Moment) → mid ≡ with_shown text old → InShow mid more m → InShow old (text ++ more) m
-  moment_after mid m e i =
+  pub part_after : (mid m : Standing) → mid ≡ with_shown text old → InShow mid more m → InShow old (text ++ more) m
+  part_after mid m e i =
       let k = past_part i.0 text more in (
         k.0,
-        i.1 ∙ ap (λ (q : Standing). record (moment_of q) { shown = q.shown ++ take i.0 more }) e
-            ∙ ap (λ t. record (moment_of old) { shown = t }) (append_assoc old.shown text (take i.0 more))
-            ∙ ap (λ t. record (moment_of old) { shown = old.shown ++ t }) k.1,
+        i.1 ∙ ap (with_shown (take i.0 more)) e ∙ ap (λ t. record old { shown = t }) (append_assoc old.shown text (take i.0 more))
+            ∙ ap (λ t. with_shown t old) k.1,
       )

@@ -6,7 +6,6 @@ use Rattle.std.specs.Prelude.{MatchBool, MatchOption}
 use Rattle.paw_base.specs.declared.limits.TheConstants.{EVENT_LIMIT}
 use Rattle.paw_stage.specs.Disk.{MayLeave, IsStable}
 use Rattle.paw_stage.specs.Stage.{Standing}
-use Rattle.paw_stage.specs.Moments.{Moment}
 use Rattle.paw_stage.specs.declared.StageCall.TheVariants as call
 use Rattle.paw_reading.specs.Reading.{closes_piece}
 use Rattle.paw_journal.specs.Session.{IsUnmade, recover}
@@ -33,7 +32,7 @@ IsUpToDateWith s lines (suc n) text bytes = AgreesWith s lines (suc n) text byte
 -- A moment at which a session is played. Since the call began n lines were taken, and a text was shown, which begins
 -- with the text for all of them but the last. Whatever a crash leaves of the store keeps all these lines, or all but
 -- the last, and the text shown is a first part of the text for the lines that are kept. No other file has changed.
-pub record InPlay (s : PlayedSession) (old : Standing) (m : Moment) : Type 0 where
+pub record InPlay (s : PlayedSession) (old m : Standing) : Type 0 where
   pub taken : ℕ
   pub text : Text
   pub last : Text
@@ -48,7 +47,7 @@ pub record InPlay (s : PlayedSession) (old : Standing) (m : Moment) : Type 0 whe
 
 -- A moment at which a session is made: whatever a crash leaves of the store is no session, or keeps no lines yet.
 -- Nothing was asked or shown, and no other file has changed.
-pub record InMaking (s : PlayedSession) (old : Standing) (m : Moment) : Type 0 where
+pub record InMaking (s : PlayedSession) (old m : Standing) : Type 0 where
   pub asked : m.asked ≡ old.asked
   pub shown : m.shown ≡ old.shown
   pub attached : m.attached ≡ Some s.name
@@ -56,7 +55,7 @@ pub record InMaking (s : PlayedSession) (old : Standing) (m : Moment) : Type 0 w
   pub leaves : (image : Bytes) → MayLeave m.disk image → IsUnmade (recover image) ⊎ KeptBy s old.lines 0 image
 
 -- A moment of a new session once its store is attached: it is being made, or it is played.
-abbrev pub InNewSession : PlayedSession → Standing → Moment → Type 0
+abbrev pub InNewSession : PlayedSession → Standing → Standing → Type 0
 InNewSession s old m = InMaking s old m ⊎ InPlay s old m
 
 -- The store is attached, its file has its bytes, and no other file has changed.

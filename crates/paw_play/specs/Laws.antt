@@ -7,7 +7,6 @@ use Rattle.paw_effects.specs.Story.{Story}
 use Rattle.paw_base.specs.declared.limits.TheConstants.{EVENT_LIMIT}
 use Rattle.paw_stage.specs.Disk.{MayLeave}
 use Rattle.paw_stage.specs.Stage.{Standing, bytes_or_none}
-use Rattle.paw_stage.specs.Moments.{Moment, moment_of}
 use Rattle.paw_stage.specs.declared.StageCall.TheVariants as call
 use Rattle.paw_effects.specs.declared.act.Prompt.{Prompt}
 use Rattle.paw_effects.specs.Standing.{AreBytes}
@@ -82,7 +81,7 @@ GoingOnIsTheReading =
 -- How a round of play stops: it is cut off at a moment, by a crash or right after a call that failed; or it ends this
 -- way, and then this stands.
 pub data RoundStop : Type 0 where
-  cut_at : Moment → RoundStop
+  cut_at : Standing → RoundStop
   came_to : Standing → PlayEnd → RoundStop
 
 -- A round: a session is played in the file of this name, from what stood at first until it stops; these bytes are then
@@ -95,14 +94,14 @@ pub record Round : Type 0 where
 
 -- A crash at this moment may leave these bytes of a file: where the file is the attached one, any that it may leave of
 -- the store; otherwise those that the file has.
-abbrev pub MayBeLeft : Name → Moment → Bytes → Type 0
+abbrev pub MayBeLeft : Name → Standing → Bytes → Type 0
 MayBeLeft name m bytes = ((m.attached ≡ Some name) × MayLeave m.disk bytes)
     ⊎ ((m.attached ≢ Some name) × (bytes ≡ bytes_or_none (m.files name)))
 
 -- A round begins over these bytes: its file has them, and a crash before it would leave no others. Its lines are bytes.
 pub record BeginsOver (bytes : Bytes) (r : Round) : Type 0 where
   pub has : store_bytes r.old r.name ≡ bytes
-  pub settled : (image : Bytes) → MayBeLeft r.name (moment_of r.old) image → image ≡ bytes
+  pub settled : (image : Bytes) → MayBeLeft r.name r.old image → image ≡ bytes
   pub lines : All AreBytes r.old.lines
 
 -- Play ended with the store at rest: no write and no sync of it failed.
@@ -113,12 +112,12 @@ AtRest o = Unit {0}
 
 -- A round stops: it is cut off at one of these moments, where a crash may leave these bytes of the file; or it ends in
 -- one of these ways, with the store at rest and these bytes in the file.
-abbrev pub StopsWith : (Moment → Type 0) → (Standing → PlayEnd → Type 0) → Name → Bytes → RoundStop → Type 0
+abbrev pub StopsWith : (Standing → Type 0) → (Standing → PlayEnd → Type 0) → Name → Bytes → RoundStop → Type 0
 StopsWith Inside Comes name left (cut_at m) = Inside m × MayBeLeft name m left
 StopsWith Inside Comes name left (came_to new o) = Comes new o × AtRest o × (left ≡ store_bytes new name)
 
 -- A round is played with these moments once its store is attached, and with one of these ends.
-abbrev pub PlaysUntil : (Moment → Type 0) → (Standing → PlayEnd → Type 0) → Round → Type 0
+abbrev pub PlaysUntil : (Standing → Type 0) → (Standing → PlayEnd → Type 0) → Round → Type 0
 PlaysUntil Inside Comes r = StopsWith (λ m. NotYet r.name r.old m ⊎ Inside m) Comes r.name r.left r.stop
 
 -- A round in which a session is resumed.

@@ -2,7 +2,6 @@
 use Rattle.std.specs.Prelude.{take, ◌-◌, ◌≡◌, ◌≢◌, ◌⊎◌, ℕ, suc, ◌<◌, ◌≤◌, [], length, None, false, Some}
 use Rattle.paw_base.specs.Bytes.{Bytes, Name, Text, zeros}
 use Rattle.paw_stage.specs.Stage.{Standing, Unattached, file_bytes, made_if_missing, with_store_opened}
-use Rattle.paw_stage.specs.Moments.{Moment}
 use Rattle.paw_stage.specs.Across.{IsOneOf}
 use Rattle.paw_stage.specs.declared.StageCall.{StageCall}
 use Rattle.paw_stage.specs.declared.StageCall.TheVariants as call
@@ -62,7 +61,7 @@ attached_to old name = with_store_opened name old
 
 -- A moment at which the store isn't attached yet: nothing was asked or shown, and no file has changed, except that the
 -- store's file may be there now, empty.
-pub record NotYet (name : Name) (old : Standing) (m : Moment) : Type 0 where
+pub record NotYet (name : Name) (old m : Standing) : Type 0 where
   pub asked : m.asked ≡ old.asked
   pub shown : m.shown ≡ old.shown
   pub files : (m.files ≡ old.files) ⊎ (m.files ≡ made_if_missing name (old.files name) old.files)

@@ -7,7 +7,7 @@ ghost use Rattle.paw_game.specs.Image.{image};
 ghost use Rattle.paw_stage.specs.Disk.{IsStable};
 ghost use Rattle.paw_stage.specs.Across.{IfTelling, EachMoment, InTwoParts, FailsOnlyBy};
 ghost use Rattle.paw_stage.specs.inner.Across.{AtEachMoment};
-ghost use Rattle.paw_stage.specs.Moments.{InShow};
+ghost use Rattle.paw_stage.specs.Stage.{InShow};
 ghost use Rattle.paw_routines.specs.Routines.{HaveAnswers};
 ghost use Rattle.paw_state.specs.State.{State};
 ghost use Rattle.paw_journal.specs.Session.{Digests, kept_digests};

@@ -3,12 +3,11 @@
 ghost use Rattle.std.specs.Prelude.{◌≡◌, ◌+◌, ◌<◌, ◌≤◌, ◌^◌, ℕ, suc, [], ◌∷◌, length, None, IfSome, OnErr, IsErr};
 ghost use Rattle.paw_base.specs.declared.limits.TheConstants.{EVENT_LIMIT, READ_LIMIT};
 ghost use Rattle.paw_routines.specs.Routines.{HaveAnswers};
-ghost use Rattle.paw_stage.specs.Stage.{Standing, ShowsPart, failed_in, with_shown};
+ghost use Rattle.paw_stage.specs.Stage.{Standing, InShow, failed_in, with_shown};
 ghost use Rattle.paw_stage.specs.Across.{IfTelling, FailsOnlyBy};
 ghost use Rattle.paw_stage.specs.inner.Across.{OnSuccess, AtEachMoment};
 ghost use Rattle.paw_stage.specs.declared.StageCall.TheVariants as call;
 ghost use Rattle.paw_reading.specs.Turn.{reading};
-ghost use Rattle.paw_stage.specs.Moments.{InShow};
 ghost use Rattle.paw_turn.specs.inner.Player.{IsSeated};
 ghost use Rattle.paw_play.specs.Walk.{EndingOf, Walks};
 ghost use Rattle.paw_play.specs.inner.Telling.{seat_text, with_shown_steps};
@@ -53,7 +52,7 @@ fn show_last<P: Preface, S: Stage, T: Tables, F: Fn(u8, u8) -> u8>(
     ensures shown { OnSuccess S.Stage stage.old stage.new result (λ old new.
         new ≡ with_shown (seat_text P.telling player.now) old) }
     ensures part { IfTelling S.Stage stage.old stage.new (λ old new.
-        OnErr result (ShowsPart (seat_text P.telling player.now) old new)) }
+        OnErr result (InShow old (seat_text P.telling player.now) new)) }
     ensures time { AtEachMoment S.Stage stage.old stage.new (λ s. InShow s (seat_text P.telling player.now)) }
 {
     match show(stage, preface.text(player.steps())) {

@@ -1,55 +1,80 @@
 -- The moments of one call more in a record of calls.
-use Rattle.std.proofs.Common.{◌≡◌, ◌⊎◌, ℕ, zero, suc, ◌≤◌, List, [], ◌∷◌, ◌++◌, length, take, drop, inl, inr, refl, sym}
+use Rattle.std.proofs.Common.{◌≡◌, ◌≢◌, ◌⊎◌, ℕ, zero, suc, ◌≤◌, List, [], ◌∷◌, ◌++◌, length, take, drop, inl, inr, refl, sym}
 use Rattle.std.proofs.Common.{ap, ◌∙◌, subst, arith, append-nil}
 use Rattle.std.proofs.Common.{length-append}
-use Rattle.std.specs.Prelude.{Some}
+use Rattle.std.specs.Prelude.{Option, Some, None, Bool, true, false, if◌then◌else◌}
+use Rattle.std.specs.Str.{bytes_eq}
+use Rattle.std.proofs.lemmas.Slice.Eq.{bytes_eq-Decides}
 use Rattle.std.proofs.Math.Seq.{take-length}
-use Rattle.paw_stage.specs.Stage.{Standing}
-use Rattle.paw_stage.specs.Moments.{Moment, moment_of, Passes}
-use Rattle.paw_stage.specs.inner.Done.{DoneCall, fresh, standing_after, after_call_of, after}
+use Rattle.paw_stage.specs.Disk.{Disk, disk_written, stable}
+use Rattle.paw_stage.specs.Stage.{Standing, Saves, bytes_or_none}
+use Rattle.paw_stage.specs.Moments.{Passes}
+use Rattle.paw_stage.specs.inner.Done.{DoneCall, fresh, standing_after, after_call_of, after, is_attached, file_replaced}
 use Rattle.paw_stage.specs.inner.Replay.{MayStand, StandsInside, StoodInside, since_of}
 use Rattle.paw_stage.specs.declared.log.CallKind.{CallKind}
 use Rattle.paw_stage.specs.declared.log.CallKind.TheVariants as kind
 use Rattle.paw_stage.proofs.Logs.{after-push}
 
 -- What stands before a call is inside it.
-begins : (k : CallKind) (name bytes : List ℕ) (s : Standing) (m : Moment) → m ≡ moment_of s → MayStand k name bytes s m
+begins : (k : CallKind) (name bytes : List ℕ) (s m : Standing) → m ≡ s → MayStand k name bytes s m
 begins kind.Add name bytes s m e = inl e
 begins kind.Load name bytes s m e = e
 begins kind.Save name bytes s m e = inl e
-begins kind.Attach name bytes s m e = inr (inl e)
+begins kind.Attach name bytes s m e = inl e
 begins kind.Read name bytes s m e = e
 begins (kind.Write at) name bytes s m e = inl e
 begins kind.Sync name bytes s m e = inl e
 begins kind.Take name bytes s m e = inl e
 begins kind.End name bytes s m e = e
-begins kind.Show name bytes s m e = (0, e ∙ ap (λ t. record (moment_of s) { shown = t }) (sym (append-nil s.shown)))
+begins kind.Show name bytes s m e = (0, e ∙ ap (λ t. record s { shown = t }) (sym (append-nil s.shown)))
+
+-- The disk of a saved file's store.
+not_attached : (a : Option (List ℕ)) (name : List ℕ) (x y : Disk) → a ≢ Some name → (if is_attached a name then x else y) ≡ y
+not_attached None name x y ne = refl
+not_attached (Some n) name x y ne = other (bytes_eq n name) (λ e. ne (ap Some ((bytes_eq-Decides n name).0 e)))
+  where
+    other : (b : Bool) → (b ≡ true → ⊥) → (if b then x else y) ≡ y
+    other true h = absurd (h refl)
+    other false h = refl
+
+attached_yes : (a : Option (List ℕ)) (name : List ℕ) (x y : Disk) → a ≡ Some name → (if is_attached a name then x else y) ≡ x
+attached_yes a name x y e = ap (λ o. if is_attached o name then x else y) e ∙ ap (λ b. if b then x else y) ((bytes_eq-Decides name name).1 refl)
+
+pub saves : (s new : Standing) (name : List ℕ) (bytes : Option (List ℕ)) → new ≡ file_replaced name bytes s → Saves s new name bytes
+saves s new name bytes e =
+    record {
+      disk = (file_replaced name bytes s).disk;
+      apart = λ ne. not_attached s.attached name (stable (bytes_or_none bytes)) s.disk ne;
+      store = λ h. ap (λ d. d.bytes) (attached_yes s.attached name (stable (bytes_or_none bytes)) s.disk h);
+      stands = e;
+    }
 
 -- What stands after a call is inside it.
-ends : (k : CallKind) (name bytes : List ℕ) (s : Standing) (m : Moment) → m ≡ moment_of (after_call_of k name bytes s) → MayStand k name bytes s m
+ends : (k : CallKind) (name bytes : List ℕ) (s m : Standing) → m ≡ after_call_of k name bytes s → MayStand k name bytes s m
 ends kind.Add name bytes s m e = inr e
 ends kind.Load name bytes s m e = e
-ends kind.Save name bytes s m e = inr (Some bytes, e)
+ends kind.Save name bytes s m e = inr (Some bytes, saves s m name (Some bytes) e)
 ends kind.Attach name bytes s m e = inr (inr e)
 ends kind.Read name bytes s m e = e
-ends (kind.Write at) name bytes s m e = inr (bytes, omega arith, e)
+ends (kind.Write at) name bytes s m e =
+    inr (disk_written at (length bytes) bytes s.disk, length bytes, inr (bytes, omega arith, refl), omega arith, e)
 ends kind.Sync name bytes s m e = inr e
 ends kind.Take name bytes s m e = inr e
 ends kind.End name bytes s m e = e
-ends kind.Show name bytes s m e = (length bytes, e ∙ ap (λ t. record (moment_of s) { shown = s.shown ++ t }) (sym (take-length bytes)))
+ends kind.Show name bytes s m e = (length bytes, e ∙ ap (λ t. record s { shown = s.shown ++ t }) (sym (take-length bytes)))
 
-split : (s : Standing) (ds : List DoneCall) (d : DoneCall) (m : Moment) → StoodInside s (ds ++ d ∷ []) m → StoodInside s ds m ⊎ StandsInside (after s ds) d m
+split : (s : Standing) (ds : List DoneCall) (d : DoneCall) (m : Standing) → StoodInside s (ds ++ d ∷ []) m → StoodInside s ds m ⊎ StandsInside (after s ds) d m
 split s [] d m (inl h) = inr h
 split s [] d m (inr h) = absurd h
 split s (x ∷ ds) d m (inl h) = inl (inl h)
 split s (x ∷ ds) d m (inr h) = elim (split (standing_after s x) ds d m h) [ inl k ↦ inl (inr k) | inr k ↦ inr k ]
 
-first : (s : Standing) (ds : List DoneCall) (d : DoneCall) (m : Moment) → StoodInside s ds m → StoodInside s (ds ++ d ∷ []) m
+first : (s : Standing) (ds : List DoneCall) (d : DoneCall) (m : Standing) → StoodInside s ds m → StoodInside s (ds ++ d ∷ []) m
 first s [] d m h = absurd h
 first s (x ∷ ds) d m (inl h) = inl h
 first s (x ∷ ds) d m (inr h) = inr (first (standing_after s x) ds d m h)
 
-last : (s : Standing) (ds : List DoneCall) (d : DoneCall) (m : Moment) → StandsInside (after s ds) d m → StoodInside s (ds ++ d ∷ []) m
+last : (s : Standing) (ds : List DoneCall) (d : DoneCall) (m : Standing) → StandsInside (after s ds) d m → StoodInside s (ds ++ d ∷ []) m
 last s [] d m h = inl h
 last s (x ∷ ds) d m h = inr (last (standing_after s x) ds d m h)
 
@@ -65,7 +90,7 @@ take_push (suc t) (x ∷ ds) d h =
     let k : (take t (ds ++ d ∷ []) ≡ take t ds) × (drop t (ds ++ d ∷ []) ≡ drop t ds ++ d ∷ []) = take_push t ds d (omega arith) in (ap (λ l. x ∷ l) k.0, k.1)
 
 -- What stood inside the last call stood since each time up to it.
-since_each : (ds : List DoneCall) (d : DoneCall) (m : Moment) → StandsInside (after fresh ds) d m → (u : ℕ) → u ≤ length ds → since_of (ds ++ d ∷ []) u m
+since_each : (ds : List DoneCall) (d : DoneCall) (m : Standing) → StandsInside (after fresh ds) d m → (u : ℕ) → u ≤ length ds → since_of (ds ++ d ∷ []) u m
 since_each ds d m h u early = inr (let q = take_push u ds d early in
     subst (λ l. StoodInside (after fresh l) (drop u (ds ++ d ∷ [])) m) (sym q.0)
     (subst (λ l. StoodInside (after fresh (take u ds)) l m) (sym q.1)
@@ -79,7 +104,7 @@ passes ds d =
       later = omega (arith, length-append ds (d ∷ []));
       nothing_else = λ t m low h. elim h [
         | inl k ↦
-            let j = ends d.kind d.name d.bytes (after fresh ds) m (subst (λ s. m ≡ moment_of s) (after-push fresh ds d) k) in
+            let j = ends d.kind d.name d.bytes (after fresh ds) m (subst (λ s. m ≡ s) (after-push fresh ds d) k) in
             inr (since_each ds d m j, j)
         | inr k ↦ let q = take_push t ds d low in
             elim (split (after fresh (take t ds)) (drop t ds) d m
@@ -94,7 +119,7 @@ passes ds d =
           (elim h [
             | inl k ↦ last (after fresh (take t ds)) (drop t ds) d m
                 (begins d.kind d.name d.bytes (after (after fresh (take t ds)) (drop t ds)) m
-                (subst (λ s. m ≡ moment_of s) (sym (after_split fresh t ds)) k))
+                (subst (λ s. m ≡ s) (sym (after_split fresh t ds)) k))
             | inr k ↦ first (after fresh (take t ds)) (drop t ds) d m k
           ])));
     }

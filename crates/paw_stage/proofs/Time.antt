@@ -1,10 +1,11 @@
 -- The moments of calls that follow each other.
-use Rattle.std.proofs.Common.{ℕ, inl, inr, arith}
-use Rattle.paw_stage.specs.Moments.{Moment, Passes}
+use Rattle.std.proofs.Common.{◌≡◌, ℕ, inl, inr, sym, ◌∙◌, arith}
+use Rattle.paw_stage.specs.Stage.{Standing}
+use Rattle.paw_stage.specs.Moments.{Passes}
 
 -- A weaker statement of what stands inside a call.
-pub Passes_map : (b n : ℕ) (past since : ℕ → Moment → Type 0) (P Q : Moment → Type 0) → Passes b n past since P →
-    ((m : Moment) → P m → Q m) → Passes b n past since Q
+pub Passes_map : (b n : ℕ) (past since : ℕ → Standing → Type 0) (P Q : Standing → Type 0) → Passes b n past since P →
+    ((m : Standing) → P m → Q m) → Passes b n past since Q
 Passes_map b n past since P Q h f = record {
   later = h.later;
   nothing_else = λ t m low now. elim (h.nothing_else t m low now) [ inl q ↦ inl q | inr q ↦ inr (q.0, f m q.1) ];
@@ -12,8 +13,8 @@ Passes_map b n past since P Q h f = record {
 }
 
 -- Two calls, one after the other.
-pub Passes_on : (b n n' : ℕ) (past since since' : ℕ → Moment → Type 0) (P Q : Moment → Type 0) →
-    Passes b n past since P → Passes n n' since since' Q → ((m : Moment) → Q m → P m) → Passes b n' past since' P
+pub Passes_on : (b n n' : ℕ) (past since since' : ℕ → Standing → Type 0) (P Q : Standing → Type 0) →
+    Passes b n past since P → Passes n n' since since' Q → ((m : Standing) → Q m → P m) → Passes b n' past since' P
 Passes_on b n n' past since since' P Q h k f = record {
   later = omega (arith, h.later, k.later);
   nothing_else = λ t m low now. elim (k.nothing_else t m (omega (arith, h.later)) now) [
@@ -27,5 +28,19 @@ Passes_on b n n' past since since' P Q h k f = record {
 }
 
 -- No time passed.
-pub Passes_none : (b : ℕ) (since : ℕ → Moment → Type 0) (P : Moment → Type 0) → Passes b b since since P
+pub Passes_none : (b : ℕ) (since : ℕ → Standing → Type 0) (P : Standing → Type 0) → Passes b b since since P
 Passes_none b since P = record { later = omega arith; nothing_else = λ t m low now. inl now; keeps = λ t m low past. past }
+
+-- The same moments, once each is mapped: so is what stands inside the call.
+pub Passes_image : (b n : ℕ) (past since : ℕ → Standing → Type 0) (P : Standing → Type 0) (f g : Standing → Standing) →
+    ((s : Standing) → g s ≡ f s) → Passes b n past since P →
+    Passes b n (λ t x. (s : Standing) × past t s × (x ≡ f s)) (λ t x. (s : Standing) × since t s × (x ≡ g s))
+    (λ x. (s : Standing) × P s × (x ≡ f s))
+Passes_image b n past since P f g same h = record {
+  later = h.later;
+  nothing_else = λ t x low now. elim (h.nothing_else t now.0 low now.1) [
+    | inl p ↦ inl (now.0, p, now.2 ∙ same now.0)
+    | inr p ↦ inr (λ u early. (now.0, p.0 u early, now.2), (now.0, p.1, now.2 ∙ same now.0))
+  ];
+  keeps = λ t x low old. (old.0, h.keeps t old.0 low old.1, old.2 ∙ sym (same old.0));
+}

@@ -3,7 +3,7 @@
 use Rattle.std.specs.Prelude.{◌≡◌, ◌↔◌, ◌⊎◌, ◌≤◌, ℕ, List, [], ◌∷◌, Option, IfSome}
 use Rattle.paw_stage.specs.declared.StageCall.{StageCall}
 use Rattle.paw_stage.specs.Stage.{Standing, CountsFailure}
-use Rattle.paw_stage.specs.Moments.{Moment, Moments}
+use Rattle.paw_stage.specs.Moments.{Moments}
 use Rattle.paw_stage.specs.declared.Stage.{Ghosts}
 
 -- The value x is one of these.
@@ -24,12 +24,12 @@ abbrev pub IfTelling : {S : Type 0} → Ghosts S → S → S → (Standing → S
 IfTelling g old new Holds = g.Tells old → Holds (g.standing old) (g.standing new)
 
 -- The moments of the calls are those before them, and others for which `Inside` holds.
-abbrev pub EachMoment : {S : Type 0} → Ghosts S → S → S → (Moment → Type 0) → Type 0
+abbrev pub EachMoment : {S : Type 0} → Ghosts S → S → S → (Standing → Type 0) → Type 0
 EachMoment g old new Inside = Moments g.clock g.since old new Inside
 
 -- Calls in two parts, of which the second begins once a store is attached. `After` holds for each moment since the
 -- second part began, and `Before` for each other moment of the calls. There may be no second part.
-pub data InTwoParts {S : Type 0} (g : Ghosts S) (old new : S) (Before After : Moment → Type 0) : Type 0 where
+pub data InTwoParts {S : Type 0} (g : Ghosts S) (old new : S) (Before After : Standing → Type 0) : Type 0 where
   first_alone : EachMoment g old new Before → InTwoParts g old new Before After
-  both : (mid : ℕ) → g.clock old ≤ mid → mid ≤ g.clock new → ((m : Moment) → g.since new mid m → After m) →
+  both : (mid : ℕ) → g.clock old ≤ mid → mid ≤ g.clock new → ((m : Standing) → g.since new mid m → After m) →
       EachMoment g old new (λ m. Before m ⊎ g.since new mid m) → InTwoParts g old new Before After

@@ -6,7 +6,7 @@ use Rattle.std.specs.declared.alloc.Global.{Global}
 use Rattle.std.specs.Str.{bytes_eq}
 use Rattle.paw_base.specs.Bytes.{Bytes, Line, Lines, Name, Text}
 use Rattle.paw_base.specs.declared.limits.TheConstants.{LINE_LIMIT}
-use Rattle.paw_stage.specs.Disk.{Disk, stable, disk_written, IsInWrite}
+use Rattle.paw_stage.specs.Disk.{Disk, MayLeave, IsInWrite, stable, disk_written}
 use Rattle.paw_stage.specs.declared.StageCall.{StageCall}
 use Rattle.paw_stage.specs.declared.StageCall.TheVariants as call
 use Rattle.paw_stage.specs.declared.LoadRefusal.{LoadRefusal}
@@ -38,9 +38,9 @@ abbrev pub store_holding : Option Name → Bytes → Files → Files
 store_holding None bytes files = files
 store_holding (Some name) bytes files = file_holding name (Some bytes) files
 
--- What stands at a stage: the files, the lines that are left (the next one first), the number of lines taken, all text
--- shown, the name of the attached store, its bytes with what a crash may leave of them, and the number of bytes written
--- to stores.
+-- What stands at a stage, between its calls or at a moment inside one of them: the files, the lines that are left (the
+-- next one first), the number of lines taken, all text shown, the name of the attached store, its bytes with what a
+-- crash may leave of them, and the number of bytes written to stores.
 pub record Standing : Type 0 where
   pub files : Files
   pub lines : Lines
@@ -82,6 +82,10 @@ failed_ask (asked.Line n) = None
 failed_ask asked.End = None
 failed_ask asked.Failed = Some call.Ask
 
+-- What stands at a moment of a call that changes nothing.
+abbrev pub Still : Standing → Standing → Type 0
+Still old m = m ≡ old
+
 -- The first n bytes are a line, cut to at most 255 bytes.
 pub record IsCut (line : Line) (bytes : Bytes) (n : ℕ) : Type 0 where
   pub short : n ≤ LINE_LIMIT
@@ -94,6 +98,10 @@ AsksTo old new (asked.Line n) into =
     × (new ≡ record old { lines = new.lines; asked = old.asked + 1 })
 AsksTo old new asked.End into = (old.lines ≡ []) × (new ≡ old)
 AsksTo old new asked.Failed into = new ≡ old
+
+-- What stands at a moment of an ask: what stood before it, or what stands after it.
+abbrev pub InAsk : Standing → Standing → Standing → Type 0
+InAsk old new m = (m ≡ old) ⊎ (m ≡ new)
 
 -- What a load answers: the bytes of the file of this name, or the first `most + 1` of them where it has more. Memory is
 -- never lacking for a file that is missing.
@@ -111,10 +119,14 @@ pub record Saves (old new : Standing) (name : Name) (bytes : Option Bytes) : Typ
   pub store : old.attached ≡ Some name → disk.bytes ≡ bytes_or_none bytes
   pub stands : new ≡ record old { files = file_holding name bytes old.files; disk = disk }
 
--- What a save leaves. Where it failed, nothing changed, or the file holds any bytes, or it is gone.
+-- What stands at a moment of a save: nothing changed, or the file holds any bytes, or it is gone.
+abbrev pub InSave : Standing → Name → Standing → Type 0
+InSave old name m = (m ≡ old) ⊎ ((left : Option Bytes) × Saves old m name left)
+
+-- What a save leaves. Where it failed, that is what stands at one of its moments.
 abbrev pub SavesTo : {A : Type 0} → Standing → Standing → Name → Bytes → Result A Failed → Type 0
 SavesTo old new name bytes (Ok done) = Saves old new name (Some bytes)
-SavesTo old new name bytes (Err e) = (new ≡ old) ⊎ ((left : Option Bytes) × Saves old new name left)
+SavesTo old new name bytes (Err e) = InSave old name new
 
 -- What stands once the file of this name is the attached store. A missing file is made empty; the bytes of the store
 -- are stable.
@@ -134,6 +146,12 @@ abbrev pub AttachesTo : Standing → Standing → Name → Result ℕ Failed →
 AttachesTo old new name (Ok n) = (n ≡ length (file_bytes old name)) × (new ≡ with_store_opened name old)
 AttachesTo old new name (Err e) = Unattached old new
 
+-- What stands at a moment of an attach: what stood before it, or what stands after it, or what stood before it with the
+-- file made, empty, where it was missing.
+abbrev pub InAttach : Standing → Standing → Name → Standing → Type 0
+InAttach old new name m =
+    (m ≡ old) ⊎ (m ≡ record old { files = made_if_missing name (old.files name) old.files }) ⊎ (m ≡ new)
+
 -- What stands once the store's bytes are those of this disk, and n more bytes were written.
 abbrev pub wrote : Standing → Disk → ℕ → Standing
 wrote old d n = record old { files = store_holding old.attached d.bytes old.files; disk = d; written = old.written + n }
@@ -142,26 +160,17 @@ wrote old d n = record old { files = store_holding old.attached d.bytes old.file
 abbrev pub with_written : ℕ → Bytes → Standing → Standing
 with_written at bytes s = wrote s (disk_written at (length bytes) bytes s.disk) (length bytes)
 
--- What stands once the store is synced.
-abbrev pub with_store_synced : Standing → Standing
-with_store_synced s = record s { disk = stable s.disk.bytes }
+-- What stands at a moment of a write of n bytes: nothing changed, or some of them were written and may be any bytes. As
+-- many bytes, or fewer, count as written.
+abbrev pub InWrite : Standing → ℕ → ℕ → Standing → Type 0
+InWrite old at n m =
+    (m ≡ old)
+    ⊎ ((disk : Disk) × (count : ℕ) × IsInWrite at n old.disk disk × (count ≤ n) × (m ≡ wrote old disk count))
 
--- What a write of n bytes leaves where it failed in the middle.
-pub record WritesPart (old new : Standing) (at n : ℕ) : Type 0 where
-  pub disk : Disk
-  pub count : ℕ
-  pub inside : IsInWrite at n old.disk disk
-  pub no_more : count ≤ n
-  pub stands : new ≡ wrote old disk count
-
--- What a write of these bytes that failed leaves: nothing changed, or it failed in the middle.
-abbrev pub WritesSome : Standing → Standing → ℕ → Bytes → Type 0
-WritesSome old new at bytes = (new ≡ old) ⊎ WritesPart old new at (length bytes)
-
--- What a write of these bytes leaves.
+-- What a write of these bytes leaves. Where it failed, that is what stands at one of its moments.
 abbrev pub WritesTo : {A : Type 0} → Standing → Standing → ℕ → Bytes → Result A Failed → Type 0
 WritesTo old new at bytes (Ok done) = new ≡ with_written at bytes old
-WritesTo old new at bytes (Err e) = WritesSome old new at bytes
+WritesTo old new at bytes (Err e) = InWrite old at (length bytes) new
 
 -- At most n bytes of the store, from an offset on.
 abbrev pub part_of : Standing → ℕ → ℕ → Bytes
@@ -172,6 +181,16 @@ abbrev pub ReadsTo : {A : Type 0} → Standing → ℕ → ℕ → Bytes → Res
 ReadsTo s at n given (Ok done) = given ≡ part_of s at n
 ReadsTo s at n given (Err e) = Unit {0}
 
+-- What stands once the store is synced.
+abbrev pub with_store_synced : Standing → Standing
+with_store_synced s = record s { disk = stable s.disk.bytes }
+
+-- What stands at a moment of a sync: a crash leaves nothing of the store that it couldn't leave before.
+pub record InSync (old m : Standing) : Type 0 where
+  pub disk : Disk
+  pub leaves : (image : Bytes) → MayLeave disk image → MayLeave old.disk image
+  pub stands : m ≡ record old { disk = disk }
+
 -- What a sync leaves. Where it failed, nothing changed.
 abbrev pub SyncsTo : {A : Type 0} → Standing → Standing → Result A Failed → Type 0
 SyncsTo old new (Ok done) = new ≡ with_store_synced old
@@ -181,11 +200,11 @@ SyncsTo old new (Err e) = new ≡ old
 abbrev pub with_shown : Text → Standing → Standing
 with_shown text s = record s { shown = s.shown ++ text }
 
--- A first part of this text was shown.
-abbrev pub ShowsPart : Text → Standing → Standing → Type 0
-ShowsPart text old new = (n : ℕ) × (new ≡ with_shown (take n text) old)
+-- What stands at a moment of a show: a first part of the text was shown.
+abbrev pub InShow : Standing → Text → Standing → Type 0
+InShow old text m = (n : ℕ) × (m ≡ with_shown (take n text) old)
 
--- What a show leaves.
+-- What a show leaves. Where it failed, that is what stands at one of its moments.
 abbrev pub ShowsTo : {A : Type 0} → Standing → Standing → Text → Result A Failed → Type 0
 ShowsTo old new text (Ok done) = new ≡ with_shown text old
-ShowsTo old new text (Err e) = ShowsPart text old new
+ShowsTo old new text (Err e) = InShow old text new

@@ -76,8 +76,8 @@ pub trait Stage {
     ghost use Rattle.paw_stage.specs.Disk.{IsStable};
     ghost use Rattle.paw_stage.specs.Stage.{Standing, file_bytes, CountsFailure, failed_in, failed_load, failed_ask};
     ghost use Rattle.paw_stage.specs.Stage.{LoadsTo, SavesTo, AttachesTo, ReadsTo, WritesTo, SyncsTo, AsksTo, ShowsTo};
-    ghost use Rattle.paw_stage.specs.Moments.{Moment, Moments, moment_of, Still};
-    ghost use Rattle.paw_stage.specs.Moments.{InAsk, InShow, InSave, InAttach, InWrite, InSync};
+    ghost use Rattle.paw_stage.specs.Stage.{Still, InAsk, InShow, InSave, InAttach, InWrite, InSync};
+    ghost use Rattle.paw_stage.specs.Moments.{Moments};
 
     /// Whether the stage reports what stands at it. The clauses on what stands hold only of a stage that does; one over
     /// a real system reports nothing but its counts. No call changes whether a stage reports.
@@ -93,8 +93,8 @@ pub trait Stage {
     /// The time: a number that never falls. One clock runs for files, store, lines and text.
     ghost clock: { Self → ℕ };
 
-    /// The moments since a time, those inside calls among them.
-    ghost since: { Self → ℕ → Moment → Type 0 };
+    /// What stood at the moments since a time, those inside calls among them.
+    ghost since: { Self → ℕ → Standing → Type 0 };
 
     /// Gives the whole file of a name, or its first `most + 1` bytes where it is longer, so that a caller sees that
     /// it is too long.
@@ -164,7 +164,8 @@ pub trait Stage {
         ensures tells { Tells self.old ↔ Tells self.new }
         ensures counts_failure { CountsFailure (failed_ask result) (failures self.old) (failures self.new) }
         ensures answer { Tells self.old → AsksTo (standing self.old) (standing self.new) result into.new }
-        ensures time { Tells self.old → Moments clock since self.old self.new (InAsk (standing self.old) result) };
+        ensures time { Tells self.old →
+            Moments clock since self.old self.new (InAsk (standing self.old) (standing self.new)) };
 
     /// Shows a text after the text shown before. After Failed a first part of the text was shown, maybe nothing.
     fn show(&mut self, text: &[u8]) -> Result<(), Failed>
@@ -174,10 +175,10 @@ pub trait Stage {
         ensures time { Tells self.old → Moments clock since self.old self.new (InShow (standing self.old) text.now) };
 
     /// Since now there is no moment but this one.
-    ghost only_now: { (s : Self) (m : Moment) → Tells s → since s (clock s) m → m ≡ moment_of (standing s) };
+    ghost only_now: { (s : Self) (m : Standing) → Tells s → since s (clock s) m → m ≡ standing s };
 
     /// This moment is one of those since any earlier time.
-    ghost counts_now: { (s : Self) (t : ℕ) → Tells s → t ≤ clock s → since s t (moment_of (standing s)) };
+    ghost counts_now: { (s : Self) (t : ℕ) → Tells s → t ≤ clock s → since s t (standing s) };
 
     /// While a store is attached, the file of its name holds the store's bytes.
     ghost files_hold: { (s : Self) (name : List ℕ) → Tells s → (standing s).attached ≡ Some name →

@@ -4,7 +4,6 @@ ghost use Rattle.std.specs.Prelude.{◌≡◌, ◌≤◌, ◌+◌, ◌↔◌, []
 ghost use Rattle.std.specs.Prelude.{IsSome};
 ghost use Rattle.std.specs.Prelude.{None};
 ghost use Rattle.std.specs.Option.{option_map};
-ghost use Rattle.std.proofs.Common.{inl, refl};
 ghost use Rattle.paw_stage.specs.declared.StageCall.TheVariants as call;
 ghost use Rattle.paw_stage.specs.declared.LoadRefusal.TheVariants as refusal;
 ghost use Rattle.paw_stage.specs.declared.Asked.TheVariants as asked;
@@ -12,13 +11,13 @@ ghost use Rattle.paw_stage.specs.Disk.{MayLeave, IsStable};
 ghost use Rattle.paw_stage.specs.Stage.{CountsFailure, failed_in, failed_load, failed_ask, IsCut};
 ghost use Rattle.paw_stage.specs.inner.Stage.{IfAttached};
 ghost use Rattle.paw_stage.specs.Stage.{LoadsTo, SavesTo, AttachesTo, ReadsTo, WritesTo, SyncsTo, AsksTo, ShowsTo};
-ghost use Rattle.paw_stage.specs.Moments.{Still, InAsk, InShow, InSave, InAttach, InWrite, InSync};
+ghost use Rattle.paw_stage.specs.Stage.{Still, InAsk, InShow, InSave, InAttach, InWrite, InSync};
 ghost use Rattle.paw_stage.specs.inner.Failures.{count_of};
 ghost use Rattle.paw_stage.specs.inner.Crash.{bytes_after_crash, HasNoStore};
 ghost use Rattle.paw_stage.specs.inner.Done.{loaded_file, saved_file, attached_store, read_store};
 ghost use Rattle.paw_stage.specs.inner.Done.{wrote_store, synced_store, taken_line};
 ghost use Rattle.paw_stage.specs.inner.Done.{end_done, shown_text, call_at, calls_made, right_after};
-ghost use Rattle.paw_stage.specs.inner.Memory.{empty, standing_of, clock_of, moments_of, only_moment, AtEachMoment};
+ghost use Rattle.paw_stage.specs.inner.Memory.{empty, standing_of, clock_of, moments_of, only_moment, now_is_moment, AtEachMoment};
 ghost use Rattle.paw_stage.specs.inner.Memory.{can_note, call_recorded, failure_recorded, Notes, found_none};
 ghost use Rattle.paw_stage.specs.inner.Memory.{line_taken, with_file, with_line_left};
 ghost use Rattle.paw_stage.specs.inner.Filed.{file_holds};
@@ -29,7 +28,6 @@ use paw_base::fault::NoRoom;
 use paw_base::limits::LINE_LIMIT;
 use paw_base::lists::Rows;
 use std::alloc::Global;
-use std::collections::VecDeque;
 use std::marker::Model;
 
 // A line that is left.
@@ -43,17 +41,27 @@ type Line = Rows<u8>;
 /// from the spare bytes. Exactly where either is too small the call is Failed, and then only its own count changes.
 #[derive(Drop)]
 pub struct MemoryStage {
-    lines: VecDeque<Line>,
+    lines: Vec<Line>,
+    next: usize,
     log: Log,
     counts: FailureCounts,
 }
 
 impl Model for MemoryStage {
+    ghost use Rattle.std.specs.Prelude.{◌≤◌, length, take, drop};
     ghost use Rattle.paw_stage.specs.inner.Memory.{Memory};
 
     ghost Value = { Memory };
 
-    ghost view = { λ s. record { lines = s.lines.items; log = s.log; counts = s.counts } };
+    // The next line is the first that wasn't taken.
+    ghost view = { λ s. record {
+      taken = take s.next s.lines.items;
+      lines = drop s.next s.lines.items;
+      log = s.log;
+      counts = s.counts;
+    } };
+
+    ghost invariant = { λ s. s.next ≤ length s.lines.items };
 }
 
 impl MemoryStage {
@@ -62,7 +70,8 @@ impl MemoryStage {
         ensures value { IfOk result (λ s. s ≡ empty calls bytes) }
     {
         Ok(MemoryStage {
-            lines: VecDeque::new(alloc),
+            lines: Vec::new(alloc),
+            next: 0,
             log: Log::new(alloc, calls as usize, bytes as usize)?,
             counts: FailureCounts::none(),
         })
@@ -82,7 +91,7 @@ impl MemoryStage {
         ensures err { OnErr result (self.new ≡ self.old) }
     {
         let line = Line::from_slice(alloc, line)?;
-        self.lines.push_back(line).map_err(|_| NoRoom)
+        self.lines.push(line).map_err(|_| NoRoom)
     }
 
     /// The kind of the call of this number in the record, counted from 0, and the name handed to it, which is empty
@@ -260,7 +269,7 @@ impl Stage for MemoryStage {
         ensures counts_failure { CountsFailure (failed_ask result) (count_of self.old.counts)
             (count_of self.new.counts) }
         ensures answer { AsksTo (standing_of self.old) (standing_of self.new) result into.new }
-        ensures time { AtEachMoment self.old self.new (λ s. InAsk s result) }
+        ensures time { AtEachMoment self.old self.new (λ s. InAsk s (standing_of self.new)) }
 
         // It fails exactly where there is no room, and then leaves no trace but its count.
         ensures exact { (result ≡ asked.Failed) ↔ IsFalse (can_note taken_line self.old) }
@@ -268,19 +277,21 @@ impl Stage for MemoryStage {
         ensures noted { (n : ℕ) → result ≡ asked.Line n → self.new ≡ line_taken self.old }
         ensures noted_end { result ≡ asked.End → self.new ≡ call_recorded end_done self.old }
     {
-        let kind = if self.lines.is_empty() {
-            CallKind::End
-        } else {
+        let kind = if self.next < self.lines.len() {
             CallKind::Take
+        } else {
+            CallKind::End
         };
         if !self.log.add(kind, &[], &[]) {
             self.counts.raise(StageCall::Ask);
             return Asked::Failed;
         }
-        match self.lines.pop_front() {
-            None => Asked::End,
-            Some(line) => Asked::Line(copy_cut(line.rows.as_slice(), into)),
-        }
+        let Some(line) = self.lines.get(self.next) else {
+            return Asked::End;
+        };
+        let n = copy_cut(line.rows.as_slice(), into);
+        self.next += 1;
+        Asked::Line(n)
     }
 
     fn show(&mut self, text: &[u8]) -> Result<(), Failed>
@@ -299,7 +310,7 @@ impl Stage for MemoryStage {
 
     ghost only_now = { λ s m _ h. only_moment s m h };
 
-    ghost counts_now = { λ s t _ _. inl refl };
+    ghost counts_now = { λ s t _ _. now_is_moment s t };
 
     ghost files_hold = { λ s name _ h. file_holds s name h };
 }

@@ -1,18 +1,17 @@
 // A stage in memory of which some calls are made to fail.
 
 ghost use Rattle.std.specs.Prelude.{◌≡◌, ◌≤◌, ◌+◌, ◌↔◌, ℕ, length, IsTrue, IsSome};
-ghost use Rattle.std.proofs.Common.{inl, refl};
 ghost use Rattle.paw_stage.specs.declared.StageCall.TheVariants as call;
 ghost use Rattle.paw_stage.specs.declared.Asked.TheVariants as asked;
 ghost use Rattle.paw_stage.specs.Disk.{IsStable};
 ghost use Rattle.paw_stage.specs.Stage.{CountsFailure, failed_in, failed_load, failed_ask};
 ghost use Rattle.paw_stage.specs.Stage.{LoadsTo, SavesTo, AttachesTo, ReadsTo, WritesTo, SyncsTo, AsksTo, ShowsTo};
-ghost use Rattle.paw_stage.specs.Moments.{Still, InAsk, InShow, InSave, InAttach, InWrite, InSync};
+ghost use Rattle.paw_stage.specs.Stage.{Still, InAsk, InShow, InSave, InAttach, InWrite, InSync};
 ghost use Rattle.paw_stage.specs.inner.Failures.{no_failures};
 ghost use Rattle.paw_stage.specs.inner.Done.{saved_file, attached_store, read_store};
 ghost use Rattle.paw_stage.specs.inner.Done.{wrote_store, synced_store, taken_line};
 ghost use Rattle.paw_stage.specs.inner.Done.{end_done, shown_text};
-ghost use Rattle.paw_stage.specs.inner.Memory.{clock_of, moments_of, only_moment, call_recorded, line_taken};
+ghost use Rattle.paw_stage.specs.inner.Memory.{clock_of, moments_of, only_moment, now_is_moment, call_recorded, line_taken};
 ghost use Rattle.paw_stage.specs.inner.Filed.{file_holds};
 ghost use Rattle.paw_stage.specs.inner.Refusing.{failures_of, standing_of, AtEachMoment};
 ghost use Rattle.paw_stage.specs.inner.Refusing.{call_refused, passed_on, FailsBelow, CannotPass, Forwards};
@@ -183,7 +182,7 @@ impl<R: Refusals + Drop> Stage for RefusingStage<R> {
     fn ask(&mut self, into: &mut [u8; LINE_LIMIT]) -> Asked
         ensures counts_failure { CountsFailure (failed_ask result) (failures_of self.old) (failures_of self.new) }
         ensures answer { AsksTo (standing_of self.old) (standing_of self.new) result into.new }
-        ensures time { AtEachMoment self.old self.new (λ s. InAsk s result) }
+        ensures time { AtEachMoment self.old self.new (λ s. InAsk s (standing_of self.new)) }
 
         // It fails exactly where the rule refuses it, or where there is no room below.
         ensures exact { (result ≡ asked.Failed) ↔ CannotPass R.refuses taken_line self.old }
@@ -215,7 +214,7 @@ impl<R: Refusals + Drop> Stage for RefusingStage<R> {
 
     ghost only_now = { λ s m _ h. only_moment s.inner m h };
 
-    ghost counts_now = { λ s t _ _. inl refl };
+    ghost counts_now = { λ s t _ _. now_is_moment s.inner t };
 
     ghost files_hold = { λ s name _ h. file_holds s.inner name h };
 }

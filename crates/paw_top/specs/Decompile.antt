@@ -3,7 +3,7 @@ use Rattle.std.specs.Prelude.{◌≡◌}
 use Rattle.paw_base.specs.Bytes.{Name, Text}
 use Rattle.paw_game.specs.Game.{GameLists}
 use Rattle.paw_print.specs.Canonical.{canonical_of}
-use Rattle.paw_stage.specs.Stage.{Standing, with_shown, ShowsPart}
+use Rattle.paw_stage.specs.Stage.{Standing, with_shown, InShow}
 use Rattle.paw_stage.specs.declared.StageCall.TheVariants as call
 use Rattle.paw_play.specs.ImageFiles.{Holds}
 use Rattle.paw_top.specs.Opens.{Unopened}
@@ -21,7 +21,7 @@ pub data TellsOf (told : GameLists → Text) (at : MemoryAt) (name : Name) (old 
   -- The file gives no game; nothing is changed.
   unopened : (o : Outcome) → Unopened name old new o → TellsOf told at name old new o
   -- The text couldn't be shown: a first part of it was.
-  unshown : (g : GameLists) → Holds old name g → ShowsPart (told g) old new →
+  unshown : (g : GameLists) → Holds old name g → InShow old (told g) new →
       TellsOf told at name old new (outcome.Outside call.Show)
   -- Memory was lacking for the text; nothing is changed.
   untold : new ≡ old → TellsOf told at name old new (outcome.Memory at)

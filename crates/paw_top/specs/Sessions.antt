@@ -4,7 +4,6 @@ use Rattle.paw_base.specs.Bytes.{Name, RoutineAnswers, Seed}
 use Rattle.paw_game.specs.Game.{GameLists}
 use Rattle.paw_effects.specs.Story.{story_of}
 use Rattle.paw_stage.specs.Stage.{Standing}
-use Rattle.paw_stage.specs.Moments.{Moment}
 use Rattle.paw_play.specs.Keeping.{InNewSession, InPlay}
 use Rattle.paw_play.specs.Play.{NewSession, PlaysAgain, GoesOn, NotYet, store_bytes}
 use Rattle.paw_play.specs.Played.{PlayedSession, GoesOnFrom, session_begun}
@@ -39,7 +38,7 @@ pub record ResumesIn (answers : RoutineAnswers) (name store : Name) (old new : S
 
 -- A way to say that moments come in two parts: of the first kind until some time, and of the second from then on.
 abbrev pub TwoParts : Type 1
-TwoParts = (Moment → Type 0) → (Moment → Type 0) → Type 0
+TwoParts = (Standing → Type 0) → (Standing → Type 0) → Type 0
 
 -- The moments of a new session in an empty store: until the store is attached, and from then on.
 abbrev pub NewAtEachMoment : TwoParts → RoutineAnswers → Name → Name → Seed → Standing → Type 0

@@ -1,7 +1,7 @@
 -- How showing the text of a command ends, and commands that only show something of a file.
 use Rattle.std.specs.Prelude.{◌≡◌, ◌≤◌, ◌<◌, ℕ, length, Some, None}
 use Rattle.paw_base.specs.Bytes.{Bytes, Name, Text}
-use Rattle.paw_stage.specs.Stage.{Standing, with_shown, ShowsPart}
+use Rattle.paw_stage.specs.Stage.{Standing, with_shown, InShow}
 use Rattle.paw_stage.specs.declared.StageCall.TheVariants as call
 use Rattle.paw_stage.specs.Across.{IsOneOf}
 use Rattle.paw_wrap.specs.FirstFit.{first_fit}
@@ -15,7 +15,7 @@ use Rattle.paw_top.specs.declared.outcome.MemoryAt.TheVariants as memory
 -- The whole text was shown; or a first part of it was, and the call failed. All else stays, every file included.
 abbrev pub Shows : Text → Standing → Standing → Outcome → Type 0
 Shows text old new outcome.Done = new ≡ with_shown text old
-Shows text old new (outcome.Outside call.Show) = ShowsPart text old new
+Shows text old new (outcome.Outside call.Show) = InShow old text new
 Shows text old new _ = ⊥
 
 -- ---- a text in columns ----
@@ -37,7 +37,7 @@ pub data Wraps (width : ℕ) (name : Name) (old new : Standing) : Outcome → Ty
   -- The file couldn't be loaded; nothing is changed.
   unloaded : new ≡ old → Wraps width name old new (outcome.Outside call.Load)
   -- The text couldn't be shown: a first part of it was.
-  unshown : (text : Text) → HoldsText old name text → ShowsPart (first_fit width text).bytes old new →
+  unshown : (text : Text) → HoldsText old name text → InShow old (first_fit width text).bytes new →
       Wraps width name old new (outcome.Outside call.Show)
   -- Memory was lacking for the load; nothing is changed.
   without_memory : (at : MemoryAt) → IsOneOf load_memory at → new ≡ old → Wraps width name old new (outcome.Memory at)

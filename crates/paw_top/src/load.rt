@@ -1,7 +1,7 @@
 // Loading a file.
 
 ghost use Rattle.std.specs.Prelude.{◌≢◌, IfOk, IfErr};
-ghost use Rattle.paw_stage.specs.Moments.{Still};
+ghost use Rattle.paw_stage.specs.Stage.{Still};
 ghost use Rattle.paw_stage.specs.Across.{IfTelling, FailsOnlyBy, IsOneOf};
 ghost use Rattle.paw_stage.specs.inner.Across.{AtEachMoment};
 ghost use Rattle.paw_stage.specs.Loads.{load_calls};

@@ -2,7 +2,6 @@
 use Rattle.std.proofs.Common.{◌≡◌, ℕ, ◌+◌, ◌<◌, ◌≤◌, List, [], ◌++◌, Some, length, drop, refl, sym, ap, ◌∙◌, subst}
 use Rattle.std.proofs.Common.{arith, append-nil}
 use Rattle.std.specs.Prelude.{◌-◌, All}
-use Rattle.std.specs.Option.{option_map_or}
 use Rattle.std.proofs.lemmas.List.{drop_all}
 use Rattle.paw_base.specs.declared.limits.TheConstants.{EVENT_LIMIT}
 use Rattle.paw_stage.specs.Disk.{IsStable}
@@ -28,7 +27,6 @@ use Rattle.paw_play.specs.Play as of
 use Rattle.paw_play.proofs.Standing.{begun_stands, later_stands, again_goes_on}
 use Rattle.paw_gen.specs.Trial.{trial_lines}
 use Rattle.paw_trial.specs.declared.TrialEnd.{TrialEnd}
-use Rattle.paw_trial.specs.declared.TrialEnd.TheVariants as end
 use Rattle.paw_trial.specs.Trial.{trial_story, trial_reading}
 use Rattle.paw_trial.specs.inner.Trial.{trial_end, TrialStopsAs}
 use Rattle.paw_trial.specs.declared.setup.Half.{Half}

@@ -5,7 +5,6 @@ use Rattle.paw_base.specs.Bytes.{Bytes, Lines, Name, Seed, Text, Texts}
 use Rattle.paw_base.specs.declared.limits.TheConstants.{PIECE_LIMIT}
 use Rattle.paw_stage.specs.Disk.{Disk, MayLeave}
 use Rattle.paw_stage.specs.Stage.{Standing, file_bytes}
-use Rattle.paw_stage.specs.Moments.{Moment}
 use Rattle.paw_stage.specs.declared.StageCall.{StageCall}
 use Rattle.paw_stage.specs.declared.StageCall.TheVariants as call
 use Rattle.paw_effects.specs.Story.{Story}
@@ -75,7 +74,7 @@ TakesUp g room seat bytes (Some s) = ShowsSome g bytes × ((seed : Seed) (es : L
     × (take PIECE_LIMIT room.piece ≡ last_piece (pieces_of (reading g seed es))))
 
 -- At a moment only the attached store may differ from what stood, and this holds of whatever a crash leaves of it.
-abbrev pub InFile : (Bytes → Type 0) → Standing → Moment → Type 0
+abbrev pub InFile : (Bytes → Type 0) → Standing → Standing → Type 0
 InFile Left old m = InStore old (λ (d : Disk). (image : Bytes) → MayLeave d image → Left image) m
 
 -- The bytes are those of one session or of another.
@@ -97,7 +96,7 @@ pub record IsAside (name : Name) (old new : Standing) : Type 0 where
 -- A moment at which a session is asked for something: only the file of its name may differ from what stood, and
 -- whatever a crash leaves of that is of the session before; or the store is attached, and it is of the session after,
 -- or of one that is made.
-pub record InAnswer (g : Story) (seed : Seed) (name : Name) (before after : NamedSession) (old : Standing) (m : Moment)
+pub record InAnswer (g : Story) (seed : Seed) (name : Name) (before after : NamedSession) (old m : Standing)
     : Type 0 where
   pub asked : m.asked ≡ old.asked
   pub shown : m.shown ≡ old.shown

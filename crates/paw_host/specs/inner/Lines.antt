@@ -5,7 +5,6 @@ use Rattle.paw_effects.specs.Story.{Story}
 use Rattle.paw_effects.specs.Standing.{AreBytes}
 use Rattle.paw_stage.specs.Disk.{IsStable}
 use Rattle.paw_stage.specs.Stage.{Standing}
-use Rattle.paw_stage.specs.Moments.{Moment}
 use Rattle.paw_stage.specs.declared.StageCall.{StageCall}
 use Rattle.paw_host.specs.Names.{Request, is_name, store_name}
 use Rattle.paw_host.specs.Replies.{Sessions, reply_to, sessions_with, sessions_after}
@@ -50,7 +49,7 @@ pub record IsDone (g : Story) (after : Sessions) (request : Option Request) (old
 
 -- A moment at which a line's request is carried out.
 pub record InWork (g : Story) (seed : Seed) (before after : Sessions) (request : Option Request) (old : Standing)
-    (m : Moment) : Type 0 where
+    (m : Standing) : Type 0 where
   pub asked : m.asked ≡ old.asked
   pub shown : m.shown ≡ old.shown
   pub files : (f : Name) → IsNotFor request f → m.files f ≡ old.files f
@@ -78,7 +77,7 @@ AnswersRequest g seed sessions request text old new =
     (text ≡ reply_to g seed sessions request) × IsDone g (sessions_with g seed sessions request) request old new
 
 -- A moment at which a line's request is carried out.
-abbrev pub Doing : Story → Seed → Sessions → Option Request → Standing → Moment → Type 0
+abbrev pub Doing : Story → Seed → Sessions → Option Request → Standing → Standing → Type 0
 Doing g seed sessions request old m = InWork g seed sessions (sessions_with g seed sessions request) request old m
 
 -- A fact about each host that waits for a line and has answered n of the lines that there were when it started.

@@ -6,7 +6,7 @@ use Rattle.paw_stage.specs.declared.StageCall.{StageCall}
 use Rattle.paw_stage.specs.declared.StageCall.TheVariants as call
 use Rattle.paw_stage.specs.Disk.{IsStable}
 use Rattle.paw_stage.specs.Stage.{Standing}
-use Rattle.paw_stage.specs.Moments.{Moment, Still}
+use Rattle.paw_stage.specs.Stage.{Still}
 use Rattle.paw_stage.specs.Across.{FailsOnlyBy, IfTelling, EachMoment}
 use Rattle.paw_stage.specs.inner.Across.{AtEachMoment}
 use Rattle.paw_journal.specs.declared.store.Attached.{Attached}
@@ -38,6 +38,6 @@ pub record LeavesStage {S : Type 0} (g : Ghosts S) (calls : List StageCall) (fai
 
 -- What calls promise: `Done` of what they gave, and `Inside` of each moment of them, at which a crash may come.
 pub record DoneWithMoments {S : Type 0} (g : Ghosts S) (old new : S) (Done : Type 0)
-    (Inside : Moment → Type 0) : Type 0 where
+    (Inside : Standing → Type 0) : Type 0 where
   pub meaning : Done
   pub any_moment : EachMoment g old new Inside

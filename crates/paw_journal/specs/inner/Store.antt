@@ -3,7 +3,6 @@ use Rattle.std.specs.Prelude.{◌≡◌, ◌≢◌, ◌⊎◌, ℕ, ◌-◌, ◌
 use Rattle.paw_base.specs.Bytes.{Bytes, Name, Text}
 use Rattle.paw_stage.specs.Disk.{Disk, MayLeave, stable}
 use Rattle.paw_stage.specs.Stage.{Standing, file_bytes, with_store_opened}
-use Rattle.paw_stage.specs.Moments.{Moment}
 use Rattle.paw_journal.specs.declared.layout.Slot.{Slot}
 use Rattle.paw_journal.specs.declared.store.Attached.{Attached}
 use Rattle.paw_journal.specs.Session.{Digests, Recovered, IsUnmade, recover, recover_by, kept_digests}
@@ -21,7 +20,7 @@ pub record ChangesStoreOnly (old new : Standing) : Type 0 where
       new.files n ≡ Some new.disk.bytes
 
 -- At a moment inside a call that moves the attached store alone, all else is as it was, and this holds of the disk.
-pub record InStore (old : Standing) (Inside : Disk → Type 0) (m : Moment) : Type 0 where
+pub record InStore (old : Standing) (Inside : Disk → Type 0) (m : Standing) : Type 0 where
   pub asked : m.asked ≡ old.asked
   pub shown : m.shown ≡ old.shown
   pub attached : m.attached ≡ old.attached
@@ -59,33 +58,33 @@ LaysSlots bytes old new = HoldsStable (old.disk.bytes ++ bytes ++ bytes) new
 -- ---- at a moment inside a call that moves the attached store alone ----
 
 -- A crash leaves no session.
-abbrev pub LeavesUnmade : Standing → Moment → Type 0
+abbrev pub LeavesUnmade : Standing → Standing → Type 0
 LeavesUnmade old m = InStore old (CrashLeavesSuch IsUnmade) m
 
 -- A crash leaves no session, or one that shows this.
-abbrev pub LeavesUnmadeOr : Recovered → Standing → Moment → Type 0
+abbrev pub LeavesUnmadeOr : Recovered → Standing → Standing → Type 0
 LeavesUnmadeOr made old m = InStore old (CrashLeavesSuch (IsUnmadeOr made)) m
 
 -- A crash leaves no session, or the one that is made with these digests, this state and this piece.
-abbrev pub LeavesMade : Digests → Bytes → Text → Standing → Moment → Type 0
+abbrev pub LeavesMade : Digests → Bytes → Text → Standing → Standing → Type 0
 LeavesMade digests state piece old m = LeavesUnmadeOr (session_shown digests state piece) old m
 
 -- A crash leaves no session, or the one that stands there once it is marked.
-abbrev pub LeavesMarked : Standing → Moment → Type 0
+abbrev pub LeavesMarked : Standing → Standing → Type 0
 LeavesMarked old m = LeavesUnmadeOr (recover (with_made_mark old.disk.bytes)) old m
 
 -- A crash leaves what the session showed before.
-abbrev pub LeavesSame : Standing → Moment → Type 0
+abbrev pub LeavesSame : Standing → Standing → Type 0
 LeavesSame old m = InStore old (CrashLeavesSuch (λ r. r ≡ recover old.disk.bytes)) m
 
 -- A crash leaves what the one slot shows, or the other.
-abbrev pub LeavesSlot : Slot → Standing → Moment → Type 0
+abbrev pub LeavesSlot : Slot → Standing → Standing → Type 0
 LeavesSlot which old m =
     InStore old
     (CrashLeavesSuch (IsOldOrNew (shown_by (1 - slot_number which) old) (shown_by (slot_number which) old))) m
 
 -- A crash leaves what the session showed before, or this state and this piece, with the digests that it has.
-abbrev pub LeavesOldOr : Bytes → Text → Standing → Moment → Type 0
+abbrev pub LeavesOldOr : Bytes → Text → Standing → Standing → Type 0
 LeavesOldOr state piece old m =
     InStore old
     (CrashLeavesSuch

@@ -7,7 +7,6 @@ use Rattle.std.specs.Fn.{Shared}
 use Rattle.paw_base.specs.declared.limits.TheConstants.{EVENT_LIMIT}
 use Rattle.paw_stage.specs.Disk.{IsStable}
 use Rattle.paw_stage.specs.Stage.{Standing}
-use Rattle.paw_stage.specs.Moments.{Moment}
 use Rattle.paw_stage.specs.declared.StageCall.TheVariants as call
 use Rattle.paw_game.specs.Game.{GameLists}
 use Rattle.paw_routines.specs.Routines.{AreAnswersOf, HaveAnswers}
@@ -222,6 +221,6 @@ abbrev pub Writes : {F : Type 0} → ℕ → PlayerView F → Standing → Stand
 Writes events seat old new = new.disk.bytes ≡ session_committed (seat_base events seat) seat.piece old.disk.bytes
 
 -- A moment at which a crash leaves what the session showed before, or the player.
-abbrev pub InCommit : {F : Type 0} → ℕ → PlayerView F → Standing → Moment → Type 0
+abbrev pub InCommit : {F : Type 0} → ℕ → PlayerView F → Standing → Standing → Type 0
 InCommit events seat old m =
     InStore old (CrashLeavesSuch (IsOldOrNew (recover old.disk.bytes) (shown_then events seat old))) m

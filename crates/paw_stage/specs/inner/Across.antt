@@ -2,7 +2,6 @@
 -- those of specs/Across.antt.
 use Rattle.std.specs.Prelude.{Result, OnOk}
 use Rattle.paw_stage.specs.Stage.{Standing}
-use Rattle.paw_stage.specs.Moments.{Moment}
 use Rattle.paw_stage.specs.declared.Stage.{Ghosts}
 use Rattle.paw_stage.specs.Across.{IfTelling, EachMoment}
 
@@ -11,5 +10,5 @@ abbrev pub OnSuccess : {S A E : Type 0} → Ghosts S → S → S → Result A E 
 OnSuccess g old new result Holds = IfTelling g old new (λ before after. OnOk result (Holds before after))
 
 -- Where the stage reports what stands at it, `Inside` holds for each moment of the calls, by what stood before.
-abbrev pub AtEachMoment : {S : Type 0} → Ghosts S → S → S → (Standing → Moment → Type 0) → Type 0
+abbrev pub AtEachMoment : {S : Type 0} → Ghosts S → S → S → (Standing → Standing → Type 0) → Type 0
 AtEachMoment g old new Inside = g.Tells old → EachMoment g old new (Inside (g.standing old))

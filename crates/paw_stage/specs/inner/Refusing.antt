@@ -10,7 +10,6 @@ use Rattle.paw_stage.specs.declared.LoadRefusal.{LoadRefusal}
 use Rattle.paw_stage.specs.declared.LoadRefusal.TheVariants as refusal
 use Rattle.paw_stage.specs.declared.failures.FailureCounts.{FailureCounts}
 use Rattle.paw_stage.specs.Stage.{Standing}
-use Rattle.paw_stage.specs.Moments.{Moment}
 use Rattle.paw_stage.specs.inner.Failures.{count_of, failure_counted}
 use Rattle.paw_stage.specs.inner.Done.{DoneCall, loaded_file}
 use Rattle.paw_stage.specs.inner.Memory as memory
@@ -31,7 +30,7 @@ abbrev pub standing_of : {R : Type 0} → Refusing R → Standing
 standing_of s = memory.standing_of s.inner
 
 -- The moments of a call: those of the stage below.
-abbrev pub AtEachMoment : {R : Type 0} → Refusing R → Refusing R → (Standing → Moment → Type 0) → Type 0
+abbrev pub AtEachMoment : {R : Type 0} → Refusing R → Refusing R → (Standing → Standing → Type 0) → Type 0
 AtEachMoment old new Inside = memory.AtEachMoment old.inner new.inner Inside
 
 -- The stage after a call that was made to fail. It isn't passed on. Then the rule is the later one.

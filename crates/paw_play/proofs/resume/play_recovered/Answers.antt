@@ -1,6 +1,7 @@
 use Rattle.std.proofs.Common.{◌≡◌, ◌-◌, refl, sym, subst, Some, None, arith}
 use Rattle.paw_base.specs.declared.limits.TheConstants.{EVENT_LIMIT}
-use Rattle.paw_stage.specs.Moments.{Passes, InShow}
+use Rattle.paw_stage.specs.Stage.{InShow}
+use Rattle.paw_stage.specs.Moments.{Passes}
 use Rattle.paw_stage.proofs.Time.{Passes_map, Passes_on}
 use Rattle.paw_routines.specs.Routines.{AreAnswersOf, HaveAnswers}
 use Rattle.paw_effects.specs.Story.{story_of}

@@ -1,12 +1,11 @@
 use Rattle.std.proofs.Common.{◌≡◌, ◌<◌, ◌++◌, ◌∙◌, List, ℕ, refl, ap, subst, length, arith, length-append}
 use Rattle.std.specs.Prelude.{Result, Ok, Err, OnOk, OnErr}
-use Rattle.paw_stage.specs.Stage.{Standing, ShowsPart, failed_in, with_shown}
-use Rattle.paw_stage.specs.Moments.{InShow}
+use Rattle.paw_stage.specs.Stage.{Standing, InShow, failed_in, with_shown}
 use Rattle.paw_stage.specs.declared.StageCall.TheVariants as call
 use Rattle.paw_stage.proofs.Time.{Passes_map, Passes_on}
 use Rattle.paw_play.specs.inner.Telling.{preface}
 use Rattle.paw_journal.proofs.Serving.{serves_then}
-use Rattle.paw_play.proofs.Telling.{part_before, moment_before, both_shown, part_after, moment_after}
+use Rattle.paw_play.proofs.Telling.{part_before, both_shown, part_after}
 use Rattle.paw_play.proofs.walk.show_last.Goals as goal
 
 -- What follows from what an answer means.
@@ -29,7 +28,7 @@ pub returns-in-Err-clause-part : goal.returns-in-Err-clause-part
 returns-in-Err-clause-part g c = λ tells.
     let is = c.text.ensures.text ∙ ap (preface g.P.Preface.telling) c.steps.ensures.value in
     part_before (g.S.Stage.standing c.args.stage.now) _ c.args.player.now.piece (g.S.Stage.standing c.show.new.stage)
-    (subst (λ t. ShowsPart t (g.S.Stage.standing c.args.stage.now) (g.S.Stage.standing c.show.new.stage)) is (c.in-Err.ensures.part tells))
+    (subst (λ t. InShow (g.S.Stage.standing c.args.stage.now) t (g.S.Stage.standing c.show.new.stage)) is (c.in-Err.ensures.part tells))
 
 pub returns-in-Err-clause-time : goal.returns-in-Err-clause-time
 returns-in-Err-clause-time g c = λ tells.
@@ -37,7 +36,7 @@ returns-in-Err-clause-time g c = λ tells.
     let is : c.text.result.now ≡ before = c.text.ensures.text ∙ ap (preface g.P.Preface.telling) c.steps.ensures.value in
     let old : Standing = g.S.Stage.standing c.args.stage.now in
     Passes_map _ _ _ _ _ (InShow old (before ++ c.args.player.now.piece)) (c.in-Err.ensures.time tells)
-    (λ m i. moment_before old before c.args.player.now.piece m (subst (λ t. InShow old t m) is i))
+    (λ m i. part_before old before c.args.player.now.piece m (subst (λ t. InShow old t m) is i))
 
 pub returns-in-Err-clause-serves : goal.returns-in-Err-clause-serves
 returns-in-Err-clause-serves g c = c.in-Err.ensures.serves
@@ -68,7 +67,7 @@ returns-in-Ok-clause-part g c = λ tells.
     let new : Standing = g.S.Stage.standing c.show-in-Ok.new.stage in
     let e = c.in-Ok.ensures.shown tells ∙ ap (λ t. with_shown t (g.S.Stage.standing c.args.stage.now)) is in
     of_err c.show-in-Ok.result
-    (λ h. part_after (g.S.Stage.standing c.args.stage.now) _ _ mid new e (subst (λ t. ShowsPart t mid new) c.piece.ensures.value h))
+    (λ h. part_after (g.S.Stage.standing c.args.stage.now) _ _ mid new e (subst (λ t. InShow mid t new) c.piece.ensures.value h))
     (c.show-in-Ok.ensures.part (c.show.ensures.serves.tells.0 tells))
 
 pub returns-in-Ok-clause-time : goal.returns-in-Ok-clause-time
@@ -81,6 +80,6 @@ returns-in-Ok-clause-time g c = λ tells.
     let e = c.in-Ok.ensures.shown tells ∙ ap (λ t. with_shown t old) is in
     Passes_on _ _ _ _ _ _ (InShow old (before ++ piece)) _
     (Passes_map _ _ _ _ _ (InShow old (before ++ piece)) (c.in-Ok.ensures.time tells)
-    (λ m i. moment_before old before piece m (subst (λ t. InShow old t m) is i)))
+    (λ m i. part_before old before piece m (subst (λ t. InShow old t m) is i)))
     (c.show-in-Ok.ensures.time (c.show.ensures.serves.tells.0 tells))
-    (λ m i. moment_after old before piece mid m e (subst (λ t. InShow mid t m) c.piece.ensures.value i))
+    (λ m i. part_after old before piece mid m e (subst (λ t. InShow mid t m) c.piece.ensures.value i))

@@ -1,7 +1,6 @@
-use Rattle.std.proofs.Common.{◌≡◌, ℕ, List, refl, sym, subst, inl, inr, Some, None}
+use Rattle.std.proofs.Common.{◌≡◌, ◌∙◌, ℕ, List, refl, sym, subst, inl, inr, Some, None}
 use Rattle.paw_stage.specs.declared.StageCall.TheVariants as call
-use Rattle.paw_stage.specs.Stage.{Standing}
-use Rattle.paw_stage.specs.Moments.{moment_of}
+use Rattle.paw_stage.specs.Stage.{Standing, InAsk}
 use Rattle.paw_stage.specs.Across.{EachMoment}
 use Rattle.paw_stage.proofs.Time.{Passes_map, Passes_on}
 use Rattle.paw_routines.specs.Routines.{AreAnswersOf}
@@ -88,14 +87,16 @@ returns-in-Ok-show-clause-meaning g c = λ tells X answers first start n small b
 -- No line came, and nothing changed.
 waits : (g : Over) (c : After-ask g) (tells : g.S.Stage.Tells c.args.stage.now) (X : List (List ℕ)) (first : Sessions) (start : Standing) (n : ℕ)
     → IsServing (story_of c.args.self.now.player.game X) c.args.hosted.now.seed first start (g.S.Stage.standing c.args.stage.now) n
-    → EachMoment g.S.Stage c.args.stage.now c.ask.new.self (λ m. m ≡ moment_of (g.S.Stage.standing c.args.stage.now))
+    → g.S.Stage.standing c.ask.new.self ≡ g.S.Stage.standing c.args.stage.now
+    → EachMoment g.S.Stage c.args.stage.now c.ask.new.self (InAsk (g.S.Stage.standing c.args.stage.now) (g.S.Stage.standing c.ask.new.self))
     → EachMoment g.S.Stage c.args.stage.now c.ask.new.self (InHost (story_of c.args.self.now.player.game X) c.args.hosted.now.seed first start)
-waits g c tells X first start n s time =
+waits g c tells X first start n s same time =
     let story = story_of c.args.self.now.player.game X in
     let seed = c.args.hosted.now.seed in
     let old = g.S.Stage.standing c.args.stage.now in
     let holds : FilesHold old = λ name e. g.met.S.Stage.files_hold c.args.stage.now name tells e in
-    Passes_map _ _ _ _ _ (InHost story seed first start) time (λ m e. still_at_prompt story seed first start old n s holds m e)
+    Passes_map _ _ _ _ _ (InHost story seed first start) time (λ m i. still_at_prompt story seed first start old n s holds m
+    (elim i [ inl e ↦ e | inr e ↦ e ∙ same ]))
 
 -- A line came, and what it asks for is done.
 works : (g : Over) (c : After-reply g) (tells : g.S.Stage.Tells c.args.stage.now) (X : List (List ℕ))
@@ -112,7 +113,7 @@ works g c tells X answers first start n s =
     let holds : FilesHold old = λ name e. g.met.S.Stage.files_hold c.args.stage.now name tells e in
     Passes_on _ _ _ _ _ _ (InHost story seed first start) _
     (Passes_map _ _ _ _ _ (InHost story seed first start) (c.in-Line.ensures.time tells)
-    (in_ask story seed first start old mid n a.0 s holds a.1 a.3 c.in-Line.n))
+    (in_ask story seed first start old mid n a.0 s holds a.1 a.3))
     (c.reply.ensures.any_moment asked X answers _ s.may (mid_stores story seed first start old mid n a.0 s holds a.1 a.3))
     (in_doing story seed first start old mid n a.0 s holds a.1 a.3 _ (cut_request a.0 _ _ _ a.2 refl))
 
@@ -139,11 +140,13 @@ shows g c tells X answers first start n s worked =
 
 pub returns-in-End-clause-any_moment : goal.returns-in-End-clause-any_moment
 returns-in-End-clause-any_moment g c = λ tells X answers first start n small bytes s.
-    waits g (goal.at.returns-in-End-clause-any_moment g c).After-ask tells X first start n s (c.in-End.ensures.time tells)
+    waits g (goal.at.returns-in-End-clause-any_moment g c).After-ask tells X first start n s (c.in-End.ensures.answer tells).1
+    (c.in-End.ensures.time tells)
 
 pub returns-in-Failed-clause-any_moment : goal.returns-in-Failed-clause-any_moment
 returns-in-Failed-clause-any_moment g c = λ tells X answers first start n small bytes s.
-    waits g (goal.at.returns-in-Failed-clause-any_moment g c).After-ask tells X first start n s (c.in-Failed.ensures.time tells)
+    waits g (goal.at.returns-in-Failed-clause-any_moment g c).After-ask tells X first start n s (c.in-Failed.ensures.answer tells)
+    (c.in-Failed.ensures.time tells)
 
 pub returns-in-Err-clause-any_moment : goal.returns-in-Err-clause-any_moment
 returns-in-Err-clause-any_moment g c = λ tells X answers first start n small bytes s.

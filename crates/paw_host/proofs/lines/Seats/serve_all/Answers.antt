@@ -1,7 +1,6 @@
 use Rattle.std.proofs.Common.{◌≡◌, ◌+◌, suc, None, Some, refl, sym, subst, arith}
 use Rattle.paw_base.specs.declared.limits.TheConstants.{EVENT_LIMIT}
 use Rattle.paw_stage.proofs.Time.{Passes_on, Passes_none}
-use Rattle.paw_stage.specs.Moments.{moment_of}
 use Rattle.paw_journal.proofs.Serving.{serves_none, serves_then}
 use Rattle.paw_routines.specs.Routines.{AreAnswersOf}
 use Rattle.paw_effects.specs.Story.{story_of}
@@ -72,7 +71,7 @@ returns-in-Some-clause-meaning g c = λ tells X answers first b.
     (ends_inside _ _ _ _ (InHost story seed first start) _ passes
     (g.met.S.Stage.counts_now c.serve.new.stage (g.S.Stage.clock c.args.stage.now) (c.serve.ensures.serves.tells.0 here) passes.later)
     (λ past. at_first story seed first start b (c.requires.synced tells) holds _
-    (g.met.S.Stage.only_now c.args.stage.now (moment_of (g.S.Stage.standing c.serve.new.stage)) tells past)))
+    (g.met.S.Stage.only_now c.args.stage.now (g.S.Stage.standing c.serve.new.stage) tells past)))
 
 pub returns-clause-meaning : goal.returns-clause-meaning
 returns-clause-meaning g c = λ tells X answers first b.

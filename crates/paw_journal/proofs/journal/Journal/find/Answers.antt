@@ -1,6 +1,6 @@
 use Rattle.std.proofs.Common.{◌≡◌, ◌∙◌, ap, sym, subst}
 use Rattle.std.proofs.lemmas.Result.{err_from_is_err_and}
-use Rattle.paw_stage.specs.Moments.{Still}
+use Rattle.paw_stage.specs.Stage.{Still}
 use Rattle.paw_stage.specs.Across.{EachMoment}
 use Rattle.paw_journal.specs.Session.{BelongsTo, recover, slot_shows, slot, kept_digests}
 use Rattle.paw_journal.specs.inner.Session.{session_shown}

@@ -8,12 +8,14 @@ pub returns-clause-time : goal.returns-clause-time
 returns-clause-time c =
     let kept = rw c.as_bytes.ensures.value at (c.if-not-add.ensures.kept refl) in
     passed c.args.self.now
-    (the_view (record { lines = c.self.inside.lines; log = c.add.new.self; counts = c.self.inside.counts }))
-    c.self.inside.log (loaded_file c.args.name.now) (ap (λ m. m.log) (sym c.self.view_is)) kept
+    (the_view (record { lines = c.self.inside.lines; next = c.self.inside.next; log = c.add.new.self; counts = c.self.inside.counts }))
+    c.self.inside.log (loaded_file c.args.name.now) refl (ap (λ m. m.log) (sym c.self.view_is)) kept
+    (ap (λ m. m.taken) c.self.view_is) (ap (λ m. m.lines) c.self.view_is)
 
 pub returns-in_default-clause-time : goal.returns-in_default-clause-time
 returns-in_default-clause-time c =
     let kept = rw c.as_bytes.ensures.value at (c.if-not-add.ensures.kept refl) in
     passed c.args.self.now
-    (the_view (record { lines = c.self.inside.lines; log = c.add.new.self; counts = c.raise-in_default.new.self }))
-    c.self.inside.log (loaded_file c.args.name.now) (ap (λ m. m.log) (sym c.self.view_is)) kept
+    (the_view (record { lines = c.self.inside.lines; next = c.self.inside.next; log = c.add.new.self; counts = c.raise-in_default.new.self }))
+    c.self.inside.log (loaded_file c.args.name.now) refl (ap (λ m. m.log) (sym c.self.view_is)) kept
+    (ap (λ m. m.taken) c.self.view_is) (ap (λ m. m.lines) c.self.view_is)

@@ -6,5 +6,6 @@ use Rattle.paw_stage.proofs.memory.MemoryStageStage.read_at.Goals as goal
 
 pub returns-clause-time : goal.returns-clause-time
 returns-clause-time c = passed c.args.self.now
-    (the_view (record { lines = c.self.inside.lines; log = c.add.new.self; counts = c.self.inside.counts }))
-    c.self.inside.log read_store (ap (λ m. m.log) (sym c.self.view_is)) (c.if-not-add.ensures.kept refl)
+    (the_view (record { lines = c.self.inside.lines; next = c.self.inside.next; log = c.add.new.self; counts = c.self.inside.counts }))
+    c.self.inside.log read_store refl (ap (λ m. m.log) (sym c.self.view_is))
+    (c.if-not-add.ensures.kept refl) (ap (λ m. m.taken) c.self.view_is) (ap (λ m. m.lines) c.self.view_is)
