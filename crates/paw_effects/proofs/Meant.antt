@@ -43,7 +43,8 @@ all_low : below (λ code. same (is_test (meaning_of code)) (nat_lt code INVEN)) 
 unfolding meanings meaning_of below same
 all_low = refl
 
-low_is : (code : ℕ) → IsPlainCode code → is_test (meaning_of code) ≡ nat_lt code INVEN
+-- A code tests exactly where it comes before the first action.
+pub low_is : (code : ℕ) → IsPlainCode code → is_test (meaning_of code) ≡ nat_lt code INVEN
 unfolding meanings
 low_is code is =
     equal (is_test (meaning_of code)) (nat_lt code INVEN) (each_plain (λ k. same (is_test (meaning_of k)) (nat_lt k INVEN)) all_low code is)

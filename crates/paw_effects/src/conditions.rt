@@ -12,9 +12,9 @@ use crate::chance::roll;
 use crate::indirect::as_plain;
 use crate::presence::{is_present, named_place};
 use paw_base::codes::{
-    ABSENT, ADJECT1, ADJECT2, ADVERB, AT, ATGT, ATLT, CARRIED, CHANCE, EQ, GT, ISAT, ISNOTAT, LT,
-    MOVE, NOTAT, NOTCARR, NOTEQ, NOTSAME, NOTWORN, NOTZERO, NOUN2, PREP, PRESENT, QUIT, SAME,
-    TIMEOUT, WORN, ZERO,
+    ABSENT, ADJECT1, ADJECT2, ADVERB, AT, ATGT, ATLT, CARRIED, CHANCE, EQ, GT, INVEN, ISAT,
+    ISNOTAT, LT, MOVE, NOTAT, NOTCARR, NOTEQ, NOTSAME, NOTWORN, NOTZERO, NOUN2, PREP, PRESENT,
+    QUIT, SAME, TIMEOUT, WORN, ZERO,
 };
 use paw_base::flags::{
     ADJECTIVE_FLAG, ADVERB_FLAG, LOCATION_FLAG, PREPOSITION_FLAG, SECOND_ADJECTIVE_FLAG,
@@ -22,7 +22,7 @@ use paw_base::flags::{
 };
 use paw_base::parts::Condact;
 use paw_base::places::{CARRIED_PLACE, WORN_PLACE};
-use paw_base::rows::acts;
+use paw_base::rows::plain_code;
 use paw_game::tables::Tables;
 use paw_world::world::World;
 
@@ -51,12 +51,13 @@ fn moves<T: Tables>(tables: &T, world: &mut World, f: u8) -> bool
     }
 }
 
-/// Whether a condact tests; otherwise it acts. An indirect one is what the plain one is.
+/// Whether a condact tests; otherwise it acts. An indirect one is what the plain one is. The codes of conditions come
+/// before the first action.
 pub fn is_condition(c: Condact) -> bool
     requires code { IsCode c.code }
     ensures value { result ≡ is_condition c }
 {
-    !acts(c.code)
+    plain_code(c.code) < INVEN
 }
 
 /// What a condition of this game answers in this world, which it may change. An indirect one takes the value of its
