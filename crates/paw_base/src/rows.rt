@@ -4,7 +4,7 @@ ghost use Rattle.std.specs.Prelude.{◌≡◌, ◌+◌, ℕ, true, SomeIff, IfSo
 ghost use Rattle.std.specs.List.{position};
 ghost use Rattle.paw_base.specs.Condacts.{param_count, name_of, capitals, code_named, may_be_indirect, plain_code};
 ghost use Rattle.paw_base.specs.Condacts.{plain_line, indirect_line};
-ghost use Rattle.paw_base.specs.inner.Condacts.{IsCode, IsPlainCode, HasName, is_act, is_plain, before_space};
+ghost use Rattle.paw_base.specs.inner.Condacts.{IsCode, IsPlainCode, HasName, is_plain, before_space};
 ghost use Rattle.paw_base.specs.inner.Condacts.{condact_row_of, row_of_line};
 ghost use Rattle.paw_base.specs.inner.Condacts.{filled_up};
 
@@ -240,14 +240,6 @@ pub fn plain_code(code: u8) -> u8
     } else {
         code - INDIRECT
     }
-}
-
-/// Whether the condact of a code acts; otherwise it tests.
-pub fn acts(code: u8) -> bool
-    requires code { IsCode code }
-    ensures value { result ≡ is_act code }
-{
-    CONDACTS[plain_code(code) as usize].3
 }
 
 /// The code of the condact with this name, in any case of letters; None where there is none.
