@@ -1,5 +1,6 @@
 // The commands, over stages in memory.
 
+mod bounds;
 mod calls;
 mod commands;
 mod games;

@@ -11,8 +11,6 @@ mod prints;
 mod reached;
 mod sets;
 mod sums;
-#[cfg(test)]
-mod tests;
 mod texts;
 pub mod verdict;
 

@@ -42,8 +42,8 @@ fn join(alloc: Global, parts: &[&str]) -> Result<Vec<u8>, AllocError> {
     Ok(text)
 }
 
-// A stage with a source, and these lines.
-fn stage_of(alloc: Global, source: &[u8], lines: &str) -> Result<MemoryStage, NoRoom> {
+/// A stage with a source, and these lines.
+pub(crate) fn stage_of(alloc: Global, source: &[u8], lines: &str) -> Result<MemoryStage, NoRoom> {
     let mut stage = MemoryStage::new(alloc, 1_000, 100_000)?;
     stage.add_file("source", source)?;
     for line in lines.lines() {
@@ -52,8 +52,12 @@ fn stage_of(alloc: Global, source: &[u8], lines: &str) -> Result<MemoryStage, No
     Ok(stage)
 }
 
-// Compiles the source as the file `game`; how many bytes were shown by then.
-fn compiles(rt: &impl Abort, alloc: Global, stage: &mut MemoryStage) -> Result<usize, Fail> {
+/// Compiles the source as the file `game`; how many bytes were shown by then.
+pub(crate) fn compiles(
+    rt: &impl Abort,
+    alloc: Global,
+    stage: &mut MemoryStage,
+) -> Result<usize, Fail> {
     let outcome = settle_and_run(rt, alloc, stage, "compile\nsource\ngame")?;
     assert_eq!(rt; outcome, Outcome::Done);
     Ok(stage.shown().len())
