@@ -66,8 +66,9 @@ impl Steps {
         requires count { self.old.count < 4294967295 }
         ensures value { self.new ≡ with_step_noted row self.old }
     {
-        keep(&mut self.rows, self.count as usize, row);
-        self.count += 1;
+        let count = self.count;
+        keep(&mut self.rows, count as usize, row);
+        self.count = count + 1;
     }
 
     /// The steps that are kept: the first 1,000.
