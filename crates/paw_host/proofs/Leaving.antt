@@ -10,10 +10,11 @@ use Rattle.paw_stage.specs.Stage.{Standing, with_store_opened}
 use Rattle.paw_journal.specs.Journal.{writing_calls}
 use Rattle.paw_journal.specs.inner.Journal.{IsAtRest}
 use Rattle.paw_journal.specs.inner.Store.{ChangesStoreOnly}
+use Rattle.paw_journal.specs.inner.Calls.{ReadsStore}
 use Rattle.paw_journal.proofs.Moved.{beside_none, beside_same}
 use Rattle.paw_journal.proofs.Serving.{serves_among, serves_none, serves_then}
 use Rattle.paw_host.specs.inner.Answers.{IsAside, answer_calls}
-use Rattle.paw_host.specs.inner.Store.{IsAttachedStable, LeavesStage, ReadsOnly}
+use Rattle.paw_host.specs.inner.Store.{IsAttachedStable, LeavesStage}
 use Rattle.paw_host.proofs.Calls.{reads_kept}
 use Rattle.paw_host.proofs.Reaching.{attached_still, aside_beside}
 
@@ -24,7 +25,7 @@ leaves_none g calls Left s left = record { serves = serves_none g calls s; besid
 
 -- Calls that read and change nothing are among those that may also write.
 pub leaves_read : {S : Type 0} (g : Ghosts S) (failed : Option StageCall) (Left : Standing → Standing → Type 0) (old new : S) →
-    ReadsOnly g failed old new → (g.Tells old → Left (g.standing old) (g.standing new)) →
+    ReadsStore g failed old new → (g.Tells old → Left (g.standing old) (g.standing new)) →
     LeavesStage g (call.Read ∷ writing_calls) failed ChangesStoreOnly Left old new
 leaves_read g failed Left old new reads left = record {
   serves = serves_among g (call.Read ∷ []) (call.Read ∷ writing_calls) failed old new reads_kept reads.serves;

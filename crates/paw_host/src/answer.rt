@@ -15,6 +15,7 @@ ghost use Rattle.paw_turn.specs.inner.Parts.{IsStanding, prompt_at};
 ghost use Rattle.paw_turn.specs.declared.Step.TheVariants as step;
 ghost use Rattle.paw_journal.specs.Journal.{writing_calls};
 ghost use Rattle.paw_journal.specs.inner.Store.{ChangesStoreOnly};
+ghost use Rattle.paw_journal.specs.inner.Calls.{ReadsStore};
 ghost use Rattle.paw_journal.specs.inner.Journal.{IsAtRest, KeptIn, failed_stage_call};
 ghost use Rattle.paw_play.specs.Stands.{Stands};
 ghost use Rattle.paw_play.specs.inner.OnTheWay.{EachStory};
@@ -27,7 +28,6 @@ ghost use Rattle.paw_host.specs.inner.Answers.{answer_calls, LeavesBegun};
 ghost use Rattle.paw_host.specs.inner.Seats.{AreDigestsOf, IsHosted, IsPrepared, MayTake, PlaysAnew};
 ghost use Rattle.paw_host.specs.inner.Seats.{StandsAfter, StaysSeated};
 ghost use Rattle.paw_host.specs.inner.Store.{DoneWithMoments, IsAttachedAtRest, IsAttachedStable, LeavesStage};
-ghost use Rattle.paw_host.specs.inner.Store.{ReadsOnly};
 ghost use Rattle.paw_host.specs.declared.reply.TheConstants.{REPLY_LIMIT};
 
 use crate::reply::Reply;
@@ -140,7 +140,7 @@ fn resume_player<S: Stage, T: Tables, F: Fn(u8, u8) -> u8>(
     requires store { IsAttachedAtRest S.Stage at stage.old }
     ensures stays { StaysSeated player.old player.new }
     ensures opened { IfOk result (λ found. IfSome found (λ s. StandsAfter s.events player.new)) }
-    ensures reads { ReadsOnly S.Stage (failed_stage_call result) stage.old stage.new }
+    ensures reads { ReadsStore S.Stage (failed_stage_call result) stage.old stage.new }
     ensures kept { S.Tells stage.old →
         IfOk result (λ found. IfSome found (λ s. KeptIn s.journal room.new (S.standing stage.new))) }
     ensures meaning { IfTelling S.Stage stage.old stage.new (λ old new.

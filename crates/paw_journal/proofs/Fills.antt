@@ -1,19 +1,24 @@
 -- The slot that isn't in use, and what a crash leaves while it is written.
 use Rattle.std.proofs.Common.{◌≡◌, ℕ, ◌+◌, ◌-◌, ◌*◌, ◌%◌, ◌≤◌, ◌<◌, List, length, refl, sym, ap, subst, ◌∙◌, arith}
 use Rattle.std.proofs.Common.{get_or, ◌⊎◌, inl}
+use Rattle.std.specs.Prelude.{Result, Ok}
+use Rattle.paw_stage.specs.declared.Stage.{Ghosts}
+use Rattle.paw_stage.specs.declared.StageCall.{StageCall}
 use Rattle.paw_stage.specs.Disk.{Disk, put_at, stable, IsStable, disk_written}
 use Rattle.paw_stage.specs.Stage.{Standing, wrote}
 use Rattle.paw_stage.specs.Stage.{InWrite, InSync}
-use Rattle.paw_stage.specs.Moments.{Passes}
-use Rattle.paw_stage.proofs.Time.{Passes_on}
 use Rattle.paw_journal.specs.Session.{recover, recover_by, is_version, slot, slot_in_use, kept_digests, session_length}
 use Rattle.paw_journal.specs.Session.{header_length, slot_length}
-use Rattle.paw_journal.specs.inner.Store.{ChangesStoreOnly, InStore, CrashLeavesSuch, LeavesSame}
-use Rattle.paw_journal.specs.inner.Steps.{IsMade, IsSpare, IsWithin, IsFilling, IsStillFilling, start_of}
+use Rattle.paw_journal.specs.declared.layout.Slot.{Slot}
+use Rattle.paw_journal.specs.inner.Room.{slot_number}
+use Rattle.paw_journal.specs.inner.Store.{ChangesStoreOnly, InStore, CrashLeavesSuch}
+use Rattle.paw_journal.specs.inner.Steps.{IsMade, IsSpare, IsWithin, IsFilling, FillsPart, LeavesFirst, start_of}
+use Rattle.paw_journal.specs.inner.Calls.{WritesStore}
 use Rattle.paw_journal.proofs.Parts.{stretch_same}
 use Rattle.paw_journal.proofs.Puts.{stretch_put, stretch_long, put_nothing, put_between}
 use Rattle.paw_journal.proofs.Recovers.{recover_is, recover_by_same, same_digests}
 use Rattle.paw_journal.proofs.Disks.{within_stable, within_long, within_same, put_within}
+use Rattle.paw_journal.proofs.Calls.{writes_then}
 use Rattle.paw_journal.proofs.Moved.{IsMoved, beside_none, moved_wrote, in_moved_write, in_moved_sync}
 
 -- Writing one slot changes nothing of what the other shows.
@@ -69,12 +74,15 @@ pub in_filling_sync : (k : ℕ) (s t : Standing) (m : Standing) → IsFilling k 
 in_filling_sync k s t m h w = in_moved_sync _ _ s t (λ r. r ≡ recover s.disk.bytes) m (moved k s t h)
     (λ d i. filling k s.disk.bytes d h.low h.made.long h.other i) w
 
--- The moments of what is written to such a slot, and then of what follows.
-pub parts_on : (k : ℕ) (s t : Standing) (x y z : ℕ) (p q r : ℕ → Standing → Type 0) → IsStillFilling k s t →
-    ((first : Standing) → IsFilling k first s → Passes x y p q (LeavesSame first)) →
-    ((first : Standing) → IsFilling k first t → Passes y z q r (LeavesSame first)) →
-    (first : Standing) → IsFilling k first s → Passes x z p r (LeavesSame first)
-parts_on k s t x y z p q r keeps one two first h = Passes_on _ _ _ _ _ _ _ _ (one first h) (two first (keeps first h)) (λ m i. i)
+-- Something is written to such a slot, and then more.
+pub parts_then : {S A B : Type 0} {g : Ghosts S} {x : A} {result : Result B StageCall} {which : Slot} {one two : List ℕ → List ℕ}
+    {old mid new : S} → WritesStore g (Ok x) (FillsPart which one) (LeavesFirst (slot_number which)) old mid →
+    WritesStore g result (FillsPart which two) (LeavesFirst (slot_number which)) mid new →
+    WritesStore g result (FillsPart which (λ b. two (one b))) (LeavesFirst (slot_number which)) old new
+parts_then {two = two} h k =
+    writes_then h k
+    (λ tells p q. record { filling = λ first f. q.filling first (p.filling first f); written = q.written ∙ ap two p.written })
+    (λ tells m i. i) (λ tells p b m i first f. i first (p.filling first f))
 
 -- The bytes of the slot itself.
 pub wrote_slot : (k at a : ℕ) (new : List ℕ) (t u : Standing) → k < 2 → length t.disk.bytes ≡ session_length →

@@ -4,6 +4,7 @@ pub mod Puts
 pub mod Recovers
 pub mod Disks
 pub mod Moved
+pub mod Calls
 pub mod Applies
 pub mod Changing
 pub mod Kept

@@ -2,25 +2,27 @@
 use Rattle.std.proofs.Common.{◌≡◌, ℕ, suc, ◌+◌, ◌≤◌, ◌<◌, max, false, List, [], ◌∷◌, ◌++◌, length, take, drop, refl}
 use Rattle.std.proofs.Common.{sym, ap, subst, ◌∙◌, arith, get_or, inl}
 use Rattle.std.proofs.Common.{inr, ◌⊎◌, append_assoc}
-use Rattle.std.specs.Prelude.{replicate}
+use Rattle.std.specs.Prelude.{replicate, Result, Ok}
 use Rattle.std.proofs.lemmas.Bool.{cases_eq}
 use Rattle.std.proofs.lemmas.Bool.Decides.{nat_tests}
 use Rattle.std.proofs.lemmas.List.{length-append, length-drop, length-replicate, take_all, take_at, drop_at, ext_get_or}
-use Rattle.paw_stage.specs.Disk.{Range, Disk, is_dirty, IsInWrite, put_at, IsStable, disk_written}
-use Rattle.paw_stage.specs.Stage.{Standing, wrote, with_written}
+use Rattle.paw_stage.specs.declared.Stage.{Ghosts}
+use Rattle.paw_stage.specs.declared.StageCall.{StageCall}
+use Rattle.paw_stage.specs.Disk.{Range, Disk, is_dirty, IsInWrite, put_at, stable, IsStable, disk_written}
+use Rattle.paw_stage.specs.Stage.{Standing, wrote, with_written, with_store_synced}
 use Rattle.paw_stage.specs.Stage.{InWrite, InSync}
-use Rattle.paw_stage.specs.Moments.{Passes}
-use Rattle.paw_stage.proofs.Time.{Passes_map, Passes_on}
 use Rattle.paw_base.specs.declared.layout.TheConstants.{VERSION}
 use Rattle.paw_journal.specs.Session.{Digests, IsUnmade, recover, session_mark, zeros, made_mark, session_length}
 use Rattle.paw_journal.specs.Session.{made_header}
 use Rattle.paw_journal.specs.inner.Session.{digests_of}
 use Rattle.paw_journal.specs.inner.Store.{ChangesStoreOnly, InStore, CrashLeavesSuch, LeavesUnmade}
-use Rattle.paw_journal.specs.inner.Steps.{IsBlank, IsWithin}
+use Rattle.paw_journal.specs.inner.Steps.{IsBlank, IsWithin, LaysBlank}
+use Rattle.paw_journal.specs.inner.Calls.{WritesStore}
+use Rattle.paw_journal.proofs.Calls.{writes_then, writes_weaker}
 use Rattle.paw_journal.proofs.Parts.{put_below, put_end}
 use Rattle.paw_journal.proofs.Recovers.{unmade}
 use Rattle.paw_journal.proofs.Disks.{within_long, within_same}
-use Rattle.paw_journal.proofs.Moved.{beside_none, beside_on, beside_wrote, in_write, in_sync, in_later, moved_none}
+use Rattle.paw_journal.proofs.Moved.{beside_none, beside_wrote, written_synced, in_write, in_sync, in_later, moved_none}
 use Rattle.paw_journal.proofs.Moved.{moved_wrote, in_moved_write, in_moved_sync}
 
 -- A store that can't be longer than one byte holds no session.
@@ -169,37 +171,54 @@ in_marked x c s t m long h e w =
     (moved_wrote 0 1 0 1 c (x ∷ []) s s t (moved_none 0 1 s h) (omega arith) (omega arith) (omega arith) (omega arith) e)
     (λ d i. marking s.disk.bytes d long i) w
 
--- Bytes are written at the end of such a store.
-pub blank_end : (at : ℕ) (new : List ℕ) (s t : Standing) (n c : ℕ) → IsBlank s.disk.bytes s.disk → 1 ≤ at →
-    at ≡ length s.disk.bytes → t ≡ wrote s (disk_written at n new s.disk) c → IsBlank t.disk.bytes t.disk
-blank_end at new s t n c h low e w = blank_now _ t.disk (blank_wrote at new s t n c h low (omega arith) w)
+-- ---- calls ----
 
-pub end_length : (at : ℕ) (new : List ℕ) (s t : Standing) (n c : ℕ) → at ≡ length s.disk.bytes →
-    t ≡ wrote s (disk_written at n new s.disk) c → length t.disk.bytes ≡ at + length new
-end_length at new s t n c e w = ap (λ x. length x.disk.bytes) w
-    ∙ (ap length (put_end at new s.disk.bytes (sym e))
-    ∙ (length-append s.disk.bytes new ∙ ap (λ k. k + length new) (sym e)))
+-- A call of which no crash leaves a session was done, and then another.
+pub unmade_then : {S A B : Type 0} {g : Ghosts S} {x : A} {result : Result B StageCall} {P Q R : Standing → Standing → Type 0}
+    {old mid new : S} → WritesStore g (Ok x) P LeavesUnmade old mid → WritesStore g result Q LeavesUnmade mid new →
+    (g.Tells old → P (g.standing old) (g.standing mid) → Q (g.standing mid) (g.standing new) → R (g.standing old) (g.standing new)) →
+    WritesStore g result R LeavesUnmade old new
+unmade_then h k post =
+    writes_then h k post (λ tells m i. i)
+    (λ tells p beside m. in_later _ _ (CrashLeavesSuch IsUnmade) (CrashLeavesSuch IsUnmade) m beside (λ d q. q))
 
--- Bytes are written at the end of such a store, and then others after these.
-module _ (a b : ℕ) (bytes : List ℕ) (s t : Standing) (blank : IsBlank s.disk.bytes s.disk) (low : 1 ≤ a)
-    (at : a ≡ length s.disk.bytes) (first : t ≡ with_written a bytes s) (next : b ≡ a + length bytes)
+-- A store that was empty, once its first byte was written.
+pub begun_blank : (s t u : Standing) → length s.disk.bytes ≡ 0 → t ≡ with_written 0 (0 ∷ []) s → u ≡ with_store_synced t → LaysBlank (0 ∷ []) s u
+begun_blank s t u n w q = subst (λ d. IsBlank (0 ∷ []) d) (sym (written_synced 0 (0 ∷ []) s t u w q)) (begun s.disk.bytes n)
   where
-    between : IsBlank t.disk.bytes t.disk
-    between = blank_end a bytes s t _ _ blank low at first
+    begun : (bytes : List ℕ) → length bytes ≡ 0 → IsBlank (0 ∷ []) (stable (put_at 0 (0 ∷ []) bytes))
+    begun [] n = record { bytes = refl; long = omega arith; blank = refl; clean = refl }
+    begun (x ∷ bytes) n = absurd (omega arith)
 
-    end : b ≡ length t.disk.bytes
-    end = next ∙ sym (end_length a bytes s t _ _ at first)
+-- Bytes are written at the end of a store of which no crash leaves a session.
+pub appends : {S A : Type 0} {g : Ghosts S} {result : Result A StageCall} (at : ℕ) (bytes : List ℕ) {old new : S} →
+    WritesStore g result (λ s t. t ≡ with_written at bytes s) (λ s. InWrite s at (length bytes)) old new → 1 ≤ at →
+    (g.Tells old → IsBlank (g.standing old).disk.bytes (g.standing old).disk) →
+    (g.Tells old → at ≡ length (g.standing old).disk.bytes) →
+    WritesStore g result (λ s. LaysBlank (s.disk.bytes ++ bytes) s) LeavesUnmade old new
+appends {g = g} at bytes {old = old} {new = new} call low blank end =
+    writes_weaker call
+    (λ tells w. blank_end at bytes (g.standing old) (g.standing new) (length bytes) (length bytes) (blank tells) low (end tells) w)
+    (λ tells m. in_blank_write at (length bytes) (g.standing old) (g.standing old) m (beside_none (g.standing old)) (blank tells) low
+    (omega (arith, end tells)))
+  where
+    blank_end : (at : ℕ) (new : List ℕ) (s t : Standing) (n c : ℕ) → IsBlank s.disk.bytes s.disk → 1 ≤ at →
+        at ≡ length s.disk.bytes → t ≡ wrote s (disk_written at n new s.disk) c → IsBlank (s.disk.bytes ++ new) t.disk
+    blank_end at new s t n c h low e w =
+        subst (λ l. IsBlank l t.disk) (put_end at new s.disk.bytes (sym e)) (blank_wrote at new s t n c h low (omega (arith, e)) w)
 
-    -- The moments of both writes.
-    pub in_both_writes : (x y z : ℕ) (p q r : ℕ → Standing → Type 0) → Passes x y p q (InWrite s a (length bytes)) →
-        Passes y z q r (InWrite t b (length bytes)) → Passes x z p r (LeavesUnmade s)
-    in_both_writes x y z p q r one two =
-        Passes_on _ _ _ _ _ _ _ _
-        (Passes_map _ _ _ _ _ _ one (λ m. in_blank_write a _ s s m (beside_none s) blank low (omega (arith, at)))) two
-        (λ m. in_blank_write b _ s t m (beside_wrote _ _ _ _ first) between (omega (arith, low, next)) (omega (arith, end)))
-
-    -- A moment of the sync after them.
-    pub in_sync_behind : (u m : Standing) → u ≡ with_written b bytes t → InSync u m → LeavesUnmade s m
-    in_sync_behind u m second w =
-        in_blank_sync s u m (beside_on s t u (beside_wrote _ _ _ _ first) (beside_wrote _ _ _ _ second))
-        (blank_end b bytes t u _ _ between (omega (arith, low, next)) end second) w
+-- And again.
+pub appends_twice : {S A B : Type 0} {g : Ghosts S} {x : A} {result : Result B StageCall} (a b : ℕ) (bytes : List ℕ) {old mid new : S} →
+    WritesStore g (Ok x) (λ s t. t ≡ with_written a bytes s) (λ s. InWrite s a (length bytes)) old mid →
+    WritesStore g result (λ s t. t ≡ with_written b bytes s) (λ s. InWrite s b (length bytes)) mid new → 1 ≤ a →
+    (g.Tells old → IsBlank (g.standing old).disk.bytes (g.standing old).disk) →
+    (g.Tells old → a ≡ length (g.standing old).disk.bytes) → b ≡ a + length bytes →
+    WritesStore g result (λ s. LaysBlank (s.disk.bytes ++ bytes ++ bytes) s) LeavesUnmade old new
+appends_twice {g = g} a b bytes {old = old} {new = new} one two low blank end next =
+    let first = appends a bytes one low blank end in
+    unmade_then first
+    (appends b bytes two (omega (arith, low, next)) (λ later. blank_now _ _ (first.post (first.serves.tells.1 later)))
+    (λ later.
+    let tells = first.serves.tells.1 later in
+    omega (arith, next, end tells, ap length (first.post tells).bytes, length-append (g.standing old).disk.bytes bytes)))
+    (λ tells p q. subst (λ l. IsBlank l (g.standing new).disk) (ap (λ l. l ++ bytes) p.bytes) q)

@@ -1,8 +1,8 @@
 -- Calls that move a stretch of the attached store alone.
 use Rattle.std.proofs.Common.{◌≡◌, ℕ, ◌+◌, ◌≤◌, List, length, inl, inr, refl, sym, ap, subst, ◌∙◌}
 use Rattle.std.specs.Prelude.{Option, Some}
-use Rattle.paw_stage.specs.Disk.{Disk, MayLeave, IsInWrite, IsStable, disk_written, stable}
-use Rattle.paw_stage.specs.Stage.{Standing, Files, InWrite, InSync, store_holding, wrote}
+use Rattle.paw_stage.specs.Disk.{Disk, MayLeave, IsInWrite, IsStable, disk_written, put_at, stable}
+use Rattle.paw_stage.specs.Stage.{Standing, Files, InWrite, InSync, store_holding, wrote, with_written, with_store_synced}
 use Rattle.paw_stage.proofs.Names.{held_other, holds_same}
 use Rattle.paw_journal.specs.Session.{Recovered}
 use Rattle.paw_journal.specs.inner.Steps.{IsWithin}
@@ -32,6 +32,11 @@ beside_part s t at n (inr q) = beside_wrote s t q.0 q.1 q.4
 pub beside_sync : (s t : Standing) → t ≡ record s { disk = stable s.disk.bytes } → ChangesStoreOnly s t
 beside_sync s t e = subst (λ x. ChangesStoreOnly s x) (sym e)
     (record { lines = refl; asked = refl; shown = refl; attached = refl; files = λ n ne. refl; file = λ n a h. h })
+
+-- What was written and synced lasts.
+pub written_synced : (at : ℕ) (new : List ℕ) (s t u : Standing) → t ≡ with_written at new s → u ≡ with_store_synced t →
+    u.disk ≡ stable (put_at at new s.disk.bytes)
+written_synced at new s t u w q = ap (λ x. x.disk) q ∙ ap (λ x. stable x.disk.bytes) w
 
 pub beside_same : (s t : Standing) → t ≡ s → ChangesStoreOnly s t
 beside_same s t e = subst (λ x. ChangesStoreOnly s x) (sym e) (beside_none s)

@@ -2,16 +2,13 @@
 use Rattle.std.proofs.Common.{◌≡◌, ◌≢◌, ℕ, ◌+◌, ◌-◌, ◌*◌, ◌≤◌, ◌<◌, List, ◌∷◌, ◌++◌, length, take, drop, refl, sym, ap}
 use Rattle.std.proofs.Common.{subst, ◌∙◌, arith, get_or, append_assoc}
 use Rattle.std.proofs.Common.{inl, inr, ◌⊎◌}
-use Rattle.std.specs.Prelude.{Bool, true, false, not, replicate, Option, Some, IsSome}
+use Rattle.std.specs.Prelude.{Bool, true, false, not, replicate, Option, Some}
 use Rattle.std.specs.Str.{bytes_eq}
 use Rattle.std.proofs.lemmas.List.{length-append, take_at, take_all, drop_at}
 use Rattle.std.proofs.lemmas.Slice.Eq.{bytes_eq-Decides}
 use Rattle.paw_base.specs.declared.layout.TheConstants.{PIECE_LENGTH_AT}
-use Rattle.paw_stage.specs.Disk.{Disk, IsStable, stable}
+use Rattle.paw_stage.specs.Disk.{Disk, stable}
 use Rattle.paw_stage.specs.Stage.{Standing}
-use Rattle.paw_stage.specs.Stage.{Still}
-use Rattle.paw_stage.specs.Moments.{Passes}
-use Rattle.paw_stage.proofs.Time.{Passes_on}
 use Rattle.paw_journal.specs.declared.drafting.SlotState.{SlotState}
 use Rattle.paw_journal.specs.declared.layout.Slot.{Slot}
 use Rattle.paw_journal.specs.declared.layout.Slot.TheVariants as which
@@ -22,7 +19,7 @@ use Rattle.paw_journal.specs.Session.{slot_in_use, kept_digests, piece_length, s
 use Rattle.paw_journal.specs.Session.{session_length, slot_length, zeros, made_mark}
 use Rattle.paw_journal.specs.Session.{made_header, made_slot, made_session}
 use Rattle.paw_journal.specs.inner.Store.{ChangesStoreOnly, InStore, CrashLeavesSuch, IsOldOrNew}
-use Rattle.paw_journal.specs.inner.Steps.{Introduces}
+use Rattle.paw_journal.specs.inner.Steps.{Introduces, MakesSession}
 use Rattle.paw_journal.specs.declared.layout.TheConstants.{BASE_AT, PIECE_AT}
 use Rattle.paw_base.specs.declared.layout.TheConstants.{VERSION}
 use Rattle.paw_journal.specs.Session.{base_length}
@@ -30,7 +27,6 @@ use Rattle.paw_journal.proofs.Recovers.{recover_is, recover_made, both_digests}
 use Rattle.paw_journal.proofs.Makes.{AreLong, length_zeros, length_header}
 use Rattle.paw_journal.proofs.Kept.{IsKept, kept_is, kept_shows}
 use Rattle.paw_journal.proofs.Slots.{state_stays, piece_stays}
-use Rattle.paw_journal.proofs.Disks.{stable_is}
 use Rattle.paw_journal.proofs.Moved.{in_later}
 
 length_head : length (0 ∷ 0 ∷ VERSION ∷ zeros 61) ≡ 64
@@ -168,11 +164,6 @@ introduced_shows k digests held bytes h e =
     ∙ (recover_made k bytes h.made
     ∙ (ap (λ d. slot_shows d (slot k bytes)) (sym h.digests) ∙ ap (slot_shows digests) (sym e)))
 
--- Two calls that change nothing.
-pub still_on : (b n n' : ℕ) (past since since' : ℕ → Standing → Type 0) (s t : Standing) → t ≡ s →
-    Passes b n past since (Still s) → Passes n n' since since' (Still t) → Passes b n' past since' (Still s)
-still_on b n n' past since since' s t e h k = Passes_on b n n' past since since' (Still s) (Still t) h k (λ m q. q ∙ e)
-
 -- What a crash leaves of one of two sessions, in other words.
 pub in_either : (s t : Standing) (a b x y : Recovered) (m : Standing) → ChangesStoreOnly s t → a ≡ x → b ≡ y →
     InStore t (CrashLeavesSuch (IsOldOrNew a b)) m → InStore s (CrashLeavesSuch (IsOldOrNew x y)) m
@@ -276,20 +267,16 @@ made_slots digests state piece room f g n m few =
     }
 
 -- And it is kept.
-pub made_keeps : (digests : Digests) (state piece bytes : List ℕ) (room : Room) (s t : Standing) → IsAtRest s →
-    t.attached ≡ s.attached → t.disk ≡ stable bytes → bytes ≡ made_session digests state piece → room.state ≡ state →
-    room.piece ≡ piece → room.first ≡ Some (record { records = 0; state = state }) →
+pub made_keeps : (digests : Digests) (state piece : List ℕ) (room : Room) (s t : Standing) → IsAtRest t → MakesSession digests state piece s t →
+    room.state ≡ state → room.piece ≡ piece → room.first ≡ Some (record { records = 0; state = state }) →
     room.second ≡ Some (record { records = 0; state = state }) → AreLong digests → length state ≡ base_length →
-    length piece ≤ 65535 → piece_length state ≡ length piece → KeptIn (record { slot = which.First }) room t
-made_keeps digests state piece bytes room s t r a d b e f one two n m few names =
-    let h : t.disk.bytes ≡ made_session digests state piece = ap (λ x. x.bytes) d ∙ b in
-    let k : kept_digests t.disk.bytes ≡ digests = ap kept_digests h ∙ session_digests digests state piece n in
-    record {
-      rests = record { attached = subst (λ x. IsSome x) (sym a) r.attached; stable = subst (λ x. IsStable x) (sym d) (stable_is bytes) };
-      chosen = ap slot_in_use h;
-      shown = ap recover h ∙ (session_shows digests state piece n m few names
-          ∙ (ap (λ x. Shown x (take state_length state) piece) (sym k)
-          ∙ (ap (λ x. Shown (kept_digests t.disk.bytes) (take state_length x) piece) (sym e)
-          ∙ ap (Shown (kept_digests t.disk.bytes) (take state_length room.state)) (sym f))));
-      slots = subst (KeepsSlots room) (sym h) (made_slots digests state piece room one two n m few);
-    }
+    length piece ≤ 65535 → KeptIn (record { slot = which.First }) room t
+made_keeps digests state piece room s t rests made e f one two n m few = record {
+  rests = rests;
+  chosen = ap slot_in_use made.exact;
+  shown = made.shown
+      ∙ (ap (λ x. Shown x (take state_length state) piece) (sym made.digests)
+      ∙ (ap (λ x. Shown (kept_digests t.disk.bytes) (take state_length x) piece) (sym e)
+      ∙ ap (Shown (kept_digests t.disk.bytes) (take state_length room.state)) (sym f)));
+  slots = subst (KeepsSlots room) (sym made.exact) (made_slots digests state piece room one two n m few);
+}

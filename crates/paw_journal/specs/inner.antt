@@ -5,3 +5,4 @@ pub mod Store
 pub mod Written
 pub mod Steps
 pub mod Journal
+pub mod Calls

@@ -1,19 +1,16 @@
 // The writes of a commit: the slot that isn't in use, and then the selector.
 
-ghost use Rattle.std.specs.Prelude.{◌≡◌, ◌+◌, ◌-◌, ◌≤◌, length, IsSome, OnOk};
+ghost use Rattle.std.specs.Prelude.{◌≡◌, ◌+◌, ◌≤◌, length, IsSome};
 ghost use Rattle.paw_base.specs.declared.limits.TheConstants.{PIECE_LIMIT};
 ghost use Rattle.paw_stage.specs.Disk.{put_at};
-ghost use Rattle.paw_stage.specs.Stage.{Standing};
 ghost use Rattle.paw_stage.specs.inner.Stage.{WritesAtMost};
-ghost use Rattle.paw_stage.specs.Across.{IfTelling, EachMoment, FailsOnlyBy};
-ghost use Rattle.paw_stage.specs.inner.Across.{OnSuccess, AtEachMoment};
+ghost use Rattle.paw_stage.specs.Across.{IfTelling};
 ghost use Rattle.paw_journal.specs.Session.{session_length, slot_length, slot_head};
 ghost use Rattle.paw_journal.specs.inner.Room.{slot_number};
-ghost use Rattle.paw_journal.specs.inner.Store.{ChangesStoreOnly, HoldsStable, LeavesSame, LeavesSlot};
-ghost use Rattle.paw_journal.specs.inner.Steps.{IsSpare, IsFilling, IsStillFilling, Fills};
-ghost use Rattle.paw_journal.specs.inner.Steps.{WritesSlot, Chooses};
-ghost use Rattle.paw_journal.specs.Journal.{writing_calls};
-ghost use Rattle.paw_journal.specs.inner.Journal.{IsAtRest, failed_stage_call};
+ghost use Rattle.paw_journal.specs.inner.Store.{LeavesSame, LeavesSlot};
+ghost use Rattle.paw_journal.specs.inner.Steps.{IsSpare, LeavesFirst, FillsPart, WritesSlot, Chooses};
+ghost use Rattle.paw_journal.specs.inner.Calls.{WritesStore};
+ghost use Rattle.paw_journal.specs.inner.Journal.{IsAtRest};
 
 use crate::drafting::CommitDraft;
 use crate::layout::{PIECE_AT, SELECTOR_AT, Slot};
@@ -34,11 +31,9 @@ pub(crate) fn write_slot<S: Stage>(
     requires spare { S.Tells stage.old → IsSpare (slot_number which) (S.standing stage.old).disk.bytes }
     requires inside { draft.at + length bytes.now ≤ slot_length }
     requires short { length piece.now ≤ PIECE_LIMIT }
-    ensures serves { FailsOnlyBy S.Stage writing_calls (failed_stage_call result) stage.old stage.new }
+    ensures call { WritesStore S.Stage result (WritesSlot which draft bytes.now piece.now) LeavesSame
+        stage.old stage.new }
     ensures few { IfTelling S.Stage stage.old stage.new (WritesAtMost (length bytes.now + length piece.now + 3)) }
-    ensures written { OnSuccess S.Stage stage.old stage.new result (WritesSlot which draft bytes.now piece.now) }
-    ensures beside { IfTelling S.Stage stage.old stage.new ChangesStoreOnly }
-    ensures any_moment { AtEachMoment S.Stage stage.old stage.new LeavesSame }
 {
     write_part(stage, which, draft.at, bytes)?;
     write_part(stage, which, PIECE_AT, piece)?;
@@ -63,14 +58,9 @@ fn write_part<S: Stage>(
     requires attached { S.Tells stage.old → IsSome (S.standing stage.old).attached }
     requires long { S.Tells stage.old → length (S.standing stage.old).disk.bytes ≡ session_length }
     requires inside { at + length bytes.now ≤ slot_length }
-    ensures serves { FailsOnlyBy S.Stage writing_calls (failed_stage_call result) stage.old stage.new }
+    ensures call { WritesStore S.Stage result (FillsPart which (put_at at bytes.now)) (LeavesFirst (slot_number which))
+        stage.old stage.new }
     ensures few { IfTelling S.Stage stage.old stage.new (WritesAtMost (length bytes.now)) }
-    ensures filling { OnSuccess S.Stage stage.old stage.new result (IsStillFilling (slot_number which)) }
-    ensures written { OnSuccess S.Stage stage.old stage.new result (Fills which (put_at at bytes.now)) }
-    ensures beside { IfTelling S.Stage stage.old stage.new ChangesStoreOnly }
-    ensures any_moment { S.Tells stage.old → (first : Standing) →
-        IsFilling (slot_number which) first (S.standing stage.old) →
-        EachMoment S.Stage stage.old stage.new (LeavesSame first) }
 {
     if bytes.is_empty() {
         return Ok(());
@@ -82,11 +72,8 @@ fn write_part<S: Stage>(
 pub(crate) fn choose<S: Stage>(stage: &mut S, which: Slot) -> Result<(), StageCall>
     requires rests { S.Tells stage.old → IsAtRest (S.standing stage.old) }
     requires long { S.Tells stage.old → length (S.standing stage.old).disk.bytes ≡ session_length }
-    ensures serves { FailsOnlyBy S.Stage writing_calls (failed_stage_call result) stage.old stage.new }
+    ensures call { WritesStore S.Stage result (Chooses which) (LeavesSlot which) stage.old stage.new }
     ensures few { IfTelling S.Stage stage.old stage.new (WritesAtMost 1) }
-    ensures chosen { OnSuccess S.Stage stage.old stage.new result (Chooses which) }
-    ensures beside { IfTelling S.Stage stage.old stage.new ChangesStoreOnly }
-    ensures any_moment { AtEachMoment S.Stage stage.old stage.new (LeavesSlot which) }
 {
     write(stage, SELECTOR_AT, &[which.selector()])?;
     sync(stage)

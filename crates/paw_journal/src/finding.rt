@@ -1,14 +1,11 @@
 // Reading the header of a session.
 
-ghost use Rattle.std.specs.Prelude.{◌≡◌, ◌≢◌, ◌+◌, ◌≤◌, None, [], ◌∷◌, length, take, OnOk, IfOk, IfErr, IsSome};
+ghost use Rattle.std.specs.Prelude.{◌≡◌, ◌≢◌, ◌+◌, ◌≤◌, None, length, take, OnOk, IfOk, IfErr, IsSome};
 ghost use Rattle.paw_base.specs.Bytes.{Bytes};
-ghost use Rattle.paw_stage.specs.declared.StageCall.TheVariants as call;
-ghost use Rattle.paw_stage.specs.Stage.{Still};
-ghost use Rattle.paw_stage.specs.Across.{FailsOnlyBy};
-ghost use Rattle.paw_stage.specs.inner.Across.{AtEachMoment};
 ghost use Rattle.paw_journal.specs.Session.{Recovered, Shown, BelongsTo, recover, is_version, stretch, header_length};
 ghost use Rattle.paw_journal.specs.Session.{session_length};
 ghost use Rattle.paw_journal.specs.inner.Steps.{IsHeaderOf, header_digests};
+ghost use Rattle.paw_journal.specs.inner.Calls.{ReadsStore};
 ghost use Rattle.paw_journal.specs.inner.Journal.{IsSessionRefused, refused_call, outside};
 
 use crate::layout::{
@@ -66,12 +63,10 @@ impl Header {
 pub(crate) fn read_header<S: Stage>(stage: &mut S, size: u64) -> Result<Header, JournalRefusal>
     requires attached { S.Tells stage.old → IsSome (S.standing stage.old).attached }
     requires size { S.Tells stage.old → size ≡ length (S.standing stage.old).disk.bytes }
-    ensures serves { FailsOnlyBy S.Stage (call.Read ∷ []) (refused_call result) stage.old stage.new }
-    ensures still { S.Tells stage.old → S.standing stage.new ≡ S.standing stage.old }
+    ensures call { ReadsStore S.Stage (refused_call result) stage.old stage.new }
     ensures introduced { S.Tells stage.old → IfOk result (IsHeaderOf (S.standing stage.old).disk.bytes) }
     ensures refused { S.Tells stage.old → (game rules : Bytes) →
         IfErr result (IsSessionRefused (recover (S.standing stage.old).disk.bytes) game rules) }
-    ensures time { AtEachMoment S.Stage stage.old stage.new Still }
 {
     if size != SESSION_LENGTH {
         return Err(unmade(stage, size));
@@ -88,11 +83,9 @@ fn unmade<S: Stage>(stage: &mut S, size: u64) -> JournalRefusal
     requires attached { S.Tells stage.old → IsSome (S.standing stage.old).attached }
     requires size { S.Tells stage.old → size ≡ length (S.standing stage.old).disk.bytes }
     requires other { size ≢ session_length }
-    ensures serves { FailsOnlyBy S.Stage (call.Read ∷ []) (outside result) stage.old stage.new }
-    ensures still { S.Tells stage.old → S.standing stage.new ≡ S.standing stage.old }
+    ensures call { ReadsStore S.Stage (outside result) stage.old stage.new }
     ensures refused { S.Tells stage.old → (game rules : Bytes) →
         IsSessionRefused (recover (S.standing stage.old).disk.bytes) game rules result }
-    ensures time { AtEachMoment S.Stage stage.old stage.new Still }
 {
     let mut first = [0];
     if size == 0 {

@@ -1,17 +1,14 @@
 // A session: making one, finding one, and committing to it.
 
-ghost use Rattle.std.specs.Prelude.{◌≡◌, [], ◌∷◌, length, OnOk, IfOk, IfErr};
-ghost use Rattle.paw_stage.specs.declared.StageCall.TheVariants as call;
-ghost use Rattle.paw_stage.specs.Stage.{Still};
-ghost use Rattle.paw_stage.specs.Across.{IfTelling, FailsOnlyBy};
-ghost use Rattle.paw_stage.specs.inner.Across.{OnSuccess, AtEachMoment};
+ghost use Rattle.std.specs.Prelude.{◌≡◌, length, OnOk, IfOk, IfErr};
+ghost use Rattle.paw_stage.specs.Across.{IfTelling};
 ghost use Rattle.paw_journal.specs.Session.{BelongsTo, recover, kept_digests, piece_length};
 ghost use Rattle.paw_journal.specs.inner.Session.{digests_of};
 ghost use Rattle.paw_journal.specs.inner.Written.{WritesLittle};
-ghost use Rattle.paw_journal.specs.inner.Store.{ChangesStoreOnly, LeavesMade, LeavesOldOr};
-ghost use Rattle.paw_journal.specs.inner.Steps.{HoldsMade, HoldsCommitted, ShowsIn, ShowsNext, SameDigests};
-ghost use Rattle.paw_journal.specs.Journal.{writing_calls};
-ghost use Rattle.paw_journal.specs.inner.Journal.{IsAtRest, KeptIn, IsSessionRefused, failed_stage_call, refused_call};
+ghost use Rattle.paw_journal.specs.inner.Store.{LeavesMade, LeavesOldOr};
+ghost use Rattle.paw_journal.specs.inner.Steps.{MakesSession, CommitsTo};
+ghost use Rattle.paw_journal.specs.inner.Calls.{WritesStore, ReadsStore};
+ghost use Rattle.paw_journal.specs.inner.Journal.{IsAtRest, KeptIn, IsSessionRefused, refused_call};
 
 use crate::committing::{choose, write_slot};
 use crate::drafting::SlotState;
@@ -50,19 +47,12 @@ impl Journal {
         requires attached { S.Tells stage.old → at.length ≡ length (S.standing stage.old).disk.bytes }
         requires empty { at.length ≡ 0 }
         requires piece_length { piece_length state.now ≡ length piece.now }
-        ensures serves { FailsOnlyBy S.Stage writing_calls (failed_stage_call result) stage.old stage.new }
+        ensures call { let digests = digests_of game.now rules.now in
+            WritesStore S.Stage result (MakesSession digests state.now piece.now)
+            (LeavesMade digests state.now piece.now) stage.old stage.new }
         ensures state { OnOk result (room.new.state ≡ state.now) }
         ensures piece { OnOk result (room.new.piece ≡ piece.now) }
-        ensures made { S.Tells stage.old →
-            OnOk result (HoldsMade (digests_of game.now rules.now) state.now piece.now (S.standing stage.new)) }
-        ensures shown { S.Tells stage.old →
-            OnOk result (ShowsIn (digests_of game.now rules.now) state.now piece.now (S.standing stage.new)) }
         ensures kept { S.Tells stage.old → IfOk result (λ journal. KeptIn journal room.new (S.standing stage.new)) }
-        ensures digests { S.Tells stage.old →
-            OnOk result (kept_digests (S.standing stage.new).disk.bytes ≡ digests_of game.now rules.now) }
-        ensures beside { IfTelling S.Stage stage.old stage.new ChangesStoreOnly }
-        ensures any_moment { AtEachMoment S.Stage stage.old stage.new
-            (LeavesMade (digests_of game.now rules.now) state.now piece.now) }
     {
         room.hold(state, piece);
         room.fill_new_slot();
@@ -88,14 +78,12 @@ impl Journal {
     ) -> Result<Journal, JournalRefusal>
         requires rests { S.Tells stage.old → IsAtRest (S.standing stage.old) }
         requires attached { S.Tells stage.old → at.length ≡ length (S.standing stage.old).disk.bytes }
-        ensures serves { FailsOnlyBy S.Stage (call.Read ∷ []) (refused_call result) stage.old stage.new }
-        ensures still { S.Tells stage.old → S.standing stage.new ≡ S.standing stage.old }
+        ensures call { ReadsStore S.Stage (refused_call result) stage.old stage.new }
         ensures refused { S.Tells stage.old →
             IfErr result (IsSessionRefused (recover (S.standing stage.old).disk.bytes) game.now rules.now) }
         ensures kept { S.Tells stage.old → IfOk result (λ journal. KeptIn journal room.new (S.standing stage.new)) }
         ensures belongs { S.Tells stage.old →
             OnOk result (BelongsTo game.now rules.now (kept_digests (S.standing stage.new).disk.bytes)) }
-        ensures time { AtEachMoment S.Stage stage.old stage.new Still }
     {
         let header = read_header(stage, at.length)?;
         match room.read_slot(stage, header.slot) {
@@ -136,16 +124,12 @@ impl Journal {
     ) -> Result<Journal, StageCall>
         requires kept { S.Tells stage.old → KeptIn self room.old (S.standing stage.old) }
         requires piece_length { piece_length state.now ≡ length piece.now }
-        ensures serves { FailsOnlyBy S.Stage writing_calls (failed_stage_call result) stage.old stage.new }
+        ensures call { WritesStore S.Stage result (CommitsTo state.now piece.now) (LeavesOldOr state.now piece.now)
+            stage.old stage.new }
         ensures few { IfTelling S.Stage stage.old stage.new (WritesLittle self.slot state.now piece.now) }
         ensures state { OnOk result (room.new.state ≡ state.now) }
         ensures piece { OnOk result (room.new.piece ≡ piece.now) }
-        ensures exact { OnSuccess S.Stage stage.old stage.new result (HoldsCommitted state.now piece.now) }
-        ensures shown { OnSuccess S.Stage stage.old stage.new result (ShowsNext state.now piece.now) }
         ensures kept { S.Tells stage.old → IfOk result (λ journal. KeptIn journal room.new (S.standing stage.new)) }
-        ensures digests { OnSuccess S.Stage stage.old stage.new result SameDigests }
-        ensures beside { IfTelling S.Stage stage.old stage.new ChangesStoreOnly }
-        ensures any_moment { AtEachMoment S.Stage stage.old stage.new (LeavesOldOr state.now piece.now) }
     {
         let slot = self.slot.other();
         let draft = room.draft(slot, state);

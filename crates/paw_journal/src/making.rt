@@ -1,15 +1,13 @@
 // The writes that make a session: a store with byte 0 as 0, the rest of it, and then its mark.
 
-ghost use Rattle.std.specs.Prelude.{◌≡◌, ◌+◌, ◌≤◌, [], ◌∷◌, length, IsSome, OnOk};
+ghost use Rattle.std.specs.Prelude.{◌≡◌, ◌+◌, ◌≤◌, [], ◌∷◌, length, IsSome};
 ghost use Rattle.paw_stage.specs.Disk.{put_at};
-ghost use Rattle.paw_stage.specs.Across.{IfTelling, FailsOnlyBy};
-ghost use Rattle.paw_stage.specs.inner.Across.{OnSuccess, AtEachMoment};
 ghost use Rattle.paw_journal.specs.Session.{session_length, header_length, slot_length, made_header};
-ghost use Rattle.paw_journal.specs.inner.Session.{digests_of, laid_session, with_made_mark};
-ghost use Rattle.paw_journal.specs.inner.Store.{ChangesStoreOnly, HoldsStable, LaysSlots, LeavesUnmade, LeavesMarked};
-ghost use Rattle.paw_journal.specs.inner.Steps.{IsBlank};
-ghost use Rattle.paw_journal.specs.Journal.{writing_calls};
-ghost use Rattle.paw_journal.specs.inner.Journal.{IsAtRest, failed_stage_call};
+ghost use Rattle.paw_journal.specs.inner.Session.{digests_of};
+ghost use Rattle.paw_journal.specs.inner.Store.{LaysSlots, LeavesUnmade, LeavesMarked};
+ghost use Rattle.paw_journal.specs.inner.Steps.{IsBlank, LaysBlank, LaysSession, MarksAsMade};
+ghost use Rattle.paw_journal.specs.inner.Calls.{WritesStore};
+ghost use Rattle.paw_journal.specs.inner.Journal.{IsAtRest};
 
 use crate::layout::{
     DIGEST_LENGTH, GAME_AT, HEADER_LENGTH, MADE, MARK_AT, ROUTINES_AT, SELECTOR_AT, Slot,
@@ -23,10 +21,7 @@ use paw_stage::{Stage, StageCall};
 fn write_blank_mark<S: Stage>(stage: &mut S) -> Result<(), StageCall>
     requires rests { S.Tells stage.old → IsAtRest (S.standing stage.old) }
     requires empty { S.Tells stage.old → length (S.standing stage.old).disk.bytes ≡ 0 }
-    ensures serves { FailsOnlyBy S.Stage writing_calls (failed_stage_call result) stage.old stage.new }
-    ensures blank { S.Tells stage.old → OnOk result (IsBlank (0 ∷ []) (S.standing stage.new).disk) }
-    ensures beside { IfTelling S.Stage stage.old stage.new ChangesStoreOnly }
-    ensures any_moment { AtEachMoment S.Stage stage.old stage.new LeavesUnmade }
+    ensures call { WritesStore S.Stage result (LaysBlank (0 ∷ [])) LeavesUnmade stage.old stage.new }
 {
     write(stage, MARK_AT, &[0])?;
     sync(stage)
@@ -36,11 +31,8 @@ fn write_blank_mark<S: Stage>(stage: &mut S) -> Result<(), StageCall>
 fn write_header<S: Stage>(stage: &mut S, game: &[u8; 32], rules: &[u8; 32]) -> Result<(), StageCall>
     requires attached { S.Tells stage.old → IsSome (S.standing stage.old).attached }
     requires blank { S.Tells stage.old → IsBlank (0 ∷ []) (S.standing stage.old).disk }
-    ensures serves { FailsOnlyBy S.Stage writing_calls (failed_stage_call result) stage.old stage.new }
-    ensures blank { S.Tells stage.old →
-        OnOk result (IsBlank (made_header 0 (digests_of game.now rules.now)) (S.standing stage.new).disk) }
-    ensures beside { IfTelling S.Stage stage.old stage.new ChangesStoreOnly }
-    ensures any_moment { AtEachMoment S.Stage stage.old stage.new LeavesUnmade }
+    ensures call { WritesStore S.Stage result (LaysBlank (made_header 0 (digests_of game.now rules.now))) LeavesUnmade
+        stage.old stage.new }
 {
     let header = header_of(game, rules);
     write(stage, SELECTOR_AT, &header[1..])
@@ -71,10 +63,7 @@ fn write_slots<S: Stage>(stage: &mut S, bytes: &[u8]) -> Result<(), StageCall>
     requires blank { S.Tells stage.old → IsBlank (S.standing stage.old).disk.bytes (S.standing stage.old).disk }
     requires header { S.Tells stage.old → length (S.standing stage.old).disk.bytes ≡ header_length }
     requires slot { length bytes.now ≡ slot_length }
-    ensures serves { FailsOnlyBy S.Stage writing_calls (failed_stage_call result) stage.old stage.new }
-    ensures written { OnSuccess S.Stage stage.old stage.new result (LaysSlots bytes.now) }
-    ensures beside { IfTelling S.Stage stage.old stage.new ChangesStoreOnly }
-    ensures any_moment { AtEachMoment S.Stage stage.old stage.new LeavesUnmade }
+    ensures call { WritesStore S.Stage result (LaysSlots bytes.now) LeavesUnmade stage.old stage.new }
 {
     write(stage, Slot::First.start(), bytes)?;
     write(stage, Slot::Second.start(), bytes)?;
@@ -92,11 +81,8 @@ pub(crate) fn lay_out<S: Stage>(
     requires rests { S.Tells stage.old → IsAtRest (S.standing stage.old) }
     requires empty { S.Tells stage.old → length (S.standing stage.old).disk.bytes ≡ 0 }
     requires slot { length bytes.now ≡ slot_length }
-    ensures serves { FailsOnlyBy S.Stage writing_calls (failed_stage_call result) stage.old stage.new }
-    ensures laid { OnSuccess S.Stage stage.old stage.new result
-        (λ old. HoldsStable (laid_session (digests_of game.now rules.now) bytes.now)) }
-    ensures beside { IfTelling S.Stage stage.old stage.new ChangesStoreOnly }
-    ensures any_moment { AtEachMoment S.Stage stage.old stage.new LeavesUnmade }
+    ensures call { WritesStore S.Stage result (LaysSession (digests_of game.now rules.now) bytes.now) LeavesUnmade
+        stage.old stage.new }
 {
     write_blank_mark(stage)?;
     write_header(stage, game, rules)?;
@@ -107,10 +93,7 @@ pub(crate) fn lay_out<S: Stage>(
 pub(crate) fn mark<S: Stage>(stage: &mut S) -> Result<(), StageCall>
     requires rests { S.Tells stage.old → IsAtRest (S.standing stage.old) }
     requires long { S.Tells stage.old → length (S.standing stage.old).disk.bytes ≡ session_length }
-    ensures serves { FailsOnlyBy S.Stage writing_calls (failed_stage_call result) stage.old stage.new }
-    ensures marked { OnSuccess S.Stage stage.old stage.new result (λ old. HoldsStable (with_made_mark old.disk.bytes)) }
-    ensures beside { IfTelling S.Stage stage.old stage.new ChangesStoreOnly }
-    ensures any_moment { AtEachMoment S.Stage stage.old stage.new LeavesMarked }
+    ensures call { WritesStore S.Stage result MarksAsMade LeavesMarked stage.old stage.new }
 {
     write(stage, MARK_AT, &[MADE])?;
     sync(stage)

@@ -2,10 +2,6 @@
 
 ghost use Rattle.std.specs.Prelude.{true, ◌≡◌, ◌+◌, ◌≤◌, [], ◌∷◌, ◌++◌, length, IsSome, OnOk, IfErr};
 ghost use Rattle.paw_base.specs.declared.limits.TheConstants.{PIECE_LIMIT};
-ghost use Rattle.paw_stage.specs.declared.StageCall.TheVariants as call;
-ghost use Rattle.paw_stage.specs.Stage.{Still};
-ghost use Rattle.paw_stage.specs.Across.{FailsOnlyBy};
-ghost use Rattle.paw_stage.specs.inner.Across.{AtEachMoment};
 ghost use Rattle.paw_journal.specs.Session.{Digests, slot_length, session_length, zeros, has_state, made_slot};
 ghost use Rattle.paw_base.specs.declared.layout.TheConstants.{VERSION};
 ghost use Rattle.paw_journal.specs.inner.Session.{IsDamagedAt};
@@ -13,6 +9,7 @@ ghost use Rattle.paw_journal.specs.inner.Room.{kept_slot, kept_of, with_slot_kep
 ghost use Rattle.paw_journal.specs.inner.Room.{slot_with_records};
 ghost use Rattle.paw_journal.specs.inner.Room.{HasReadSlot, ShowsSlot, KeepsRead};
 ghost use Rattle.paw_journal.specs.inner.Steps.{Drafts};
+ghost use Rattle.paw_journal.specs.inner.Calls.{ReadsStore};
 ghost use Rattle.paw_journal.specs.inner.Journal.{failed_stage_call};
 
 use crate::drafting::{CommitDraft, SlotState, draft_over};
@@ -200,12 +197,10 @@ impl Room {
     ) -> Result<(), StageCall>
         requires attached { S.Tells stage.old → IsSome (S.standing stage.old).attached }
         requires whole { S.Tells stage.old → length (S.standing stage.old).disk.bytes ≡ session_length }
-        ensures serves { FailsOnlyBy S.Stage (call.Read ∷ []) (failed_stage_call result) stage.old stage.new }
-        ensures still { S.Tells stage.old → S.standing stage.new ≡ S.standing stage.old }
+        ensures call { ReadsStore S.Stage (failed_stage_call result) stage.old stage.new }
         ensures same { self.new ≡ record self.old { slot = self.new.slot } }
         ensures read { S.Tells stage.old → OnOk result (HasReadSlot which (S.standing stage.old) self.new) }
         ensures length { length self.new.slot ≡ slot_length }
-        ensures time { AtEachMoment S.Stage stage.old stage.new Still }
     {
         // The memory was taken by `new`.
         self.slot.resize(SLOT_LENGTH, 0).unwrap();

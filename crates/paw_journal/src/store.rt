@@ -5,10 +5,11 @@ ghost use Rattle.paw_stage.specs.declared.StageCall.TheVariants as call;
 ghost use Rattle.paw_stage.specs.Disk.{IsStable};
 ghost use Rattle.paw_stage.specs.Stage.{Unattached, part_of, with_written, with_store_synced};
 ghost use Rattle.paw_stage.specs.inner.Stage.{WritesAtMost};
-ghost use Rattle.paw_stage.specs.Stage.{Still, InAttach, InWrite, InSync};
+ghost use Rattle.paw_stage.specs.Stage.{InAttach, InWrite, InSync};
 ghost use Rattle.paw_stage.specs.Across.{IfTelling, FailsOnlyBy};
-ghost use Rattle.paw_stage.specs.inner.Across.{OnSuccess, AtEachMoment};
-ghost use Rattle.paw_journal.specs.inner.Store.{ChangesStoreOnly, Opens};
+ghost use Rattle.paw_stage.specs.inner.Across.{AtEachMoment};
+ghost use Rattle.paw_journal.specs.inner.Store.{Opens};
+ghost use Rattle.paw_journal.specs.inner.Calls.{WritesStore, ReadsStore};
 ghost use Rattle.paw_journal.specs.inner.Journal.{IsAtRest, failed_stage_call};
 
 use paw_stage::{Stage, StageCall};
@@ -46,10 +47,8 @@ pub fn attach<S: Stage>(stage: &mut S, name: &str) -> Result<Attached, StageCall
 pub(crate) fn read<S: Stage>(stage: &mut S, at: u64, into: &mut [u8]) -> Result<(), StageCall>
     requires attached { S.Tells stage.old → IsSome (S.standing stage.old).attached }
     requires within { S.Tells stage.old → at + length into.old ≤ length (S.standing stage.old).disk.bytes }
-    ensures serves { FailsOnlyBy S.Stage (call.Read ∷ []) (failed_stage_call result) stage.old stage.new }
-    ensures still { S.Tells stage.old → S.standing stage.new ≡ S.standing stage.old }
+    ensures call { ReadsStore S.Stage (failed_stage_call result) stage.old stage.new }
     ensures read { S.Tells stage.old → OnOk result (into.new ≡ part_of (S.standing stage.old) at (length into.old)) }
-    ensures time { AtEachMoment S.Stage stage.old stage.new Still }
 {
     match stage.read_at(at, into) {
         Ok(_) => Ok(()),
@@ -64,11 +63,11 @@ pub(crate) fn read<S: Stage>(stage: &mut S, at: u64, into: &mut [u8]) -> Result<
 pub(crate) fn write<S: Stage>(stage: &mut S, at: u64, bytes: &[u8]) -> Result<(), StageCall>
     requires attached { S.Tells stage.old → IsSome (S.standing stage.old).attached }
     requires within { S.Tells stage.old → at ≤ length (S.standing stage.old).disk.bytes }
+    ensures call { WritesStore S.Stage result (λ old new. new ≡ with_written at bytes.now old)
+        (λ old. InWrite old at (length bytes.now)) stage.old stage.new }
     ensures serves { FailsOnlyBy S.Stage (call.Write ∷ []) (failed_stage_call result) stage.old stage.new }
     ensures few { IfTelling S.Stage stage.old stage.new (WritesAtMost (length bytes.now)) }
-    ensures written { OnSuccess S.Stage stage.old stage.new result (λ old new. new ≡ with_written at bytes.now old) }
     ensures part { IfTelling S.Stage stage.old stage.new (λ old new. OnErr result (InWrite old at (length bytes.now) new)) }
-    ensures time { AtEachMoment S.Stage stage.old stage.new (λ s. InWrite s at (length bytes.now)) }
 {
     match stage.write_at(at, bytes) {
         Ok(_) => Ok(()),
@@ -81,12 +80,10 @@ pub(crate) fn write<S: Stage>(stage: &mut S, at: u64, bytes: &[u8]) -> Result<()
 /// # Errors
 /// Sync where the call of the stage failed.
 pub(crate) fn sync<S: Stage>(stage: &mut S) -> Result<(), StageCall>
+    ensures call { WritesStore S.Stage result (λ old new. new ≡ with_store_synced old) InSync stage.old stage.new }
     ensures serves { FailsOnlyBy S.Stage (call.Sync ∷ []) (failed_stage_call result) stage.old stage.new }
     ensures few { S.Tells stage.old → (S.standing stage.new).written ≡ (S.standing stage.old).written }
-    ensures synced { OnSuccess S.Stage stage.old stage.new result (λ old new. new ≡ with_store_synced old) }
     ensures part { S.Tells stage.old → OnErr result (S.standing stage.new ≡ S.standing stage.old) }
-    ensures beside { IfTelling S.Stage stage.old stage.new ChangesStoreOnly }
-    ensures time { AtEachMoment S.Stage stage.old stage.new InSync }
 {
     match stage.sync() {
         Ok(_) => Ok(()),

@@ -3,16 +3,13 @@
 ghost use Rattle.std.specs.Prelude.{◌≡◌, ◌+◌, ◌*◌, ◌<◌, ◌≤◌, take, length, IfOk, IfErr};
 ghost use Rattle.paw_base.specs.declared.limits.TheConstants.{EVENT_LIMIT, READ_LIMIT};
 ghost use Rattle.paw_stage.specs.Across.{IfTelling, EachMoment, FailsOnlyBy};
-ghost use Rattle.paw_stage.specs.inner.Across.{OnSuccess, AtEachMoment};
 ghost use Rattle.paw_turn.specs.inner.Player.{IsSeated};
 ghost use Rattle.paw_turn.specs.inner.Parts.{IsStanding};
 ghost use Rattle.paw_journal.specs.Session.{state_length, piece_length};
-ghost use Rattle.paw_journal.specs.inner.Store.{ChangesStoreOnly};
-ghost use Rattle.paw_journal.specs.inner.Steps.{SameDigests};
-ghost use Rattle.paw_journal.specs.Journal.{writing_calls};
-ghost use Rattle.paw_journal.specs.inner.Journal.{KeptIn, failed_stage_call};
+ghost use Rattle.paw_journal.specs.inner.Calls.{WritesStore};
+ghost use Rattle.paw_journal.specs.inner.Journal.{KeptIn};
 ghost use Rattle.paw_play.specs.Keeping.{InPlay};
-ghost use Rattle.paw_play.specs.inner.OnTheWay.{EachStory, EachPlaying, Commits, InCommit, Writes, PlaysLineTo};
+ghost use Rattle.paw_play.specs.inner.OnTheWay.{EachStory, EachPlaying, CommitsPlayer, InCommit, PlaysLineTo};
 ghost use Rattle.paw_play.specs.inner.OnTheWay.{seat_state, seat_base, MayPlay, StillPlays, HoldsSession};
 ghost use Rattle.paw_play.specs.Calls.{play_calls};
 ghost use Rattle.paw_play.specs.inner.Calls.{IsNotForCall, end_failed_or, unless_ended};
@@ -70,13 +67,9 @@ pub fn commit<S: Stage, T: Tables, F: Fn(u8, u8) -> u8>(
     requires seated { IsSeated player.now }
     requires standing { IsStanding player.now.last }
     requires kept { S.Tells stage.old → KeptIn journal room.old (S.standing stage.old) }
-    ensures serves { FailsOnlyBy S.Stage writing_calls (failed_stage_call result) stage.old stage.new }
-    ensures exact { OnSuccess S.Stage stage.old stage.new result (Writes events player.now) }
-    ensures shown { OnSuccess S.Stage stage.old stage.new result (Commits events player.now) }
+    ensures call { WritesStore S.Stage result (CommitsPlayer events player.now) (InCommit events player.now)
+        stage.old stage.new }
     ensures kept { S.Tells stage.old → IfOk result (λ kept. KeptIn kept room.new (S.standing stage.new)) }
-    ensures digests { OnSuccess S.Stage stage.old stage.new result SameDigests }
-    ensures beside { IfTelling S.Stage stage.old stage.new ChangesStoreOnly }
-    ensures any_moment { AtEachMoment S.Stage stage.old stage.new (InCommit events player.now) }
 {
     let mut state = [0u8; STATE_ROOM];
     put_state(player, events, &mut state);

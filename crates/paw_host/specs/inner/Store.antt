@@ -1,14 +1,11 @@
 -- What is known of the attached store before calls, and what they did to the stage.
-use Rattle.std.specs.Prelude.{◌≡◌, List, [], ◌∷◌, length, Option, Some}
+use Rattle.std.specs.Prelude.{◌≡◌, List, length, Option, Some}
 use Rattle.paw_base.specs.Bytes.{Name}
 use Rattle.paw_stage.specs.declared.Stage.{Ghosts}
 use Rattle.paw_stage.specs.declared.StageCall.{StageCall}
-use Rattle.paw_stage.specs.declared.StageCall.TheVariants as call
 use Rattle.paw_stage.specs.Disk.{IsStable}
 use Rattle.paw_stage.specs.Stage.{Standing}
-use Rattle.paw_stage.specs.Stage.{Still}
 use Rattle.paw_stage.specs.Across.{FailsOnlyBy, IfTelling, EachMoment}
-use Rattle.paw_stage.specs.inner.Across.{AtEachMoment}
 use Rattle.paw_journal.specs.declared.store.Attached.{Attached}
 use Rattle.paw_journal.specs.inner.Journal.{IsAtRest}
 
@@ -21,12 +18,6 @@ pub record IsAttachedAtRest {S : Type 0} (g : Ghosts S) (at : Attached) (s : S) 
 pub record IsAttachedStable (name : Name) (s : Standing) : Type 0 where
   pub stable : IsStable s.disk
   pub attached : s.attached ≡ Some name
-
--- Calls that read and change nothing: only a read may have failed, and all stands as before, at each moment too.
-pub record ReadsOnly {S : Type 0} (g : Ghosts S) (failed : Option StageCall) (old new : S) : Type 0 where
-  pub serves : FailsOnlyBy g (call.Read ∷ []) failed old new
-  pub still : g.Tells old → g.standing new ≡ g.standing old
-  pub time : AtEachMoment g old new Still
 
 -- What calls did to the stage: only these may have failed, `Beside` says what they left alone, and `Left` in which
 -- state the store is after them.

@@ -13,12 +13,12 @@ use Rattle.paw_journal.specs.Session.{session_length, header_length, slot_length
 use Rattle.paw_journal.specs.Session.{version}
 use Rattle.paw_journal.specs.Session.{is_version}
 use Rattle.paw_journal.specs.Session.{Digests, kept_digests, changes, with_changes, first_unsound, slot, recover}
-use Rattle.paw_journal.specs.inner.Session.{digests_of, session_shown}
+use Rattle.paw_journal.specs.inner.Session.{digests_of, session_shown, laid_session, with_made_mark}
 use Rattle.paw_journal.specs.Session.{made_session, differing, differences, differences_from, rewritten}
 use Rattle.paw_journal.specs.Session.{committed_slot, session_committed}
 use Rattle.paw_journal.specs.inner.Room.{slot_number, kept_slot}
 use Rattle.paw_journal.specs.inner.Written.{most_written}
-use Rattle.paw_journal.specs.inner.Store.{ChangesStoreOnly, HoldsStable}
+use Rattle.paw_journal.specs.inner.Store.{ChangesStoreOnly, HoldsStable, LeavesSame}
 
 -- A session is made of these bytes.
 pub record IsMade (bytes : Bytes) : Type 0 where
@@ -32,6 +32,18 @@ pub record IsBlank (held : Bytes) (d : Disk) : Type 0 where
   pub long : 1 ≤ length d.synced
   pub blank : session_mark d.bytes ≡ 0
   pub clean : is_dirty d.dirty 0 ≡ false
+
+-- The store has these bytes, and no crash leaves the mark of a session.
+abbrev pub LaysBlank : Bytes → Standing → Standing → Type 0
+LaysBlank held old new = IsBlank held new.disk
+
+-- A session is laid out with these bytes in both slots, all but its mark, and a crash leaves just that.
+abbrev pub LaysSession : Digests → Bytes → Standing → Standing → Type 0
+LaysSession whose bytes old new = HoldsStable (laid_session whose bytes) new
+
+-- The session is marked as made, and a crash leaves just that.
+abbrev pub MarksAsMade : Standing → Standing → Type 0
+MarksAsMade old new = HoldsStable (with_made_mark old.disk.bytes) new
 
 -- What a header says of a session that is made of these bytes: the slot in use, and whose session it is.
 pub record Introduces (number : ℕ) (whose : Digests) (bytes : Bytes) : Type 0 where
@@ -63,6 +75,10 @@ pub record IsFilling (k : ℕ) (old new : Standing) : Type 0 where
 abbrev pub IsStillFilling : ℕ → Standing → Standing → Type 0
 IsStillFilling k old new = (first : Standing) → IsFilling k first old → IsFilling k first new
 
+-- At a moment while a session is being filled: a crash leaves what it showed before that began.
+abbrev pub LeavesFirst : ℕ → Standing → Standing → Type 0
+LeavesFirst k old m = (first : Standing) → IsFilling k first old → LeavesSame first m
+
 -- A session is made of the store's bytes, and this slot isn't in use.
 pub record IsSpare (k : ℕ) (bytes : Bytes) : Type 0 where
   pub made : IsMade bytes
@@ -71,6 +87,11 @@ pub record IsSpare (k : ℕ) (bytes : Bytes) : Type 0 where
 -- A slot is what this makes of it.
 abbrev pub Fills : Slot → (Bytes → Bytes) → Standing → Standing → Type 0
 Fills which filled old new = slot (slot_number which) new.disk.bytes ≡ filled (slot (slot_number which) old.disk.bytes)
+
+-- A slot is what this makes of it, and a session that is being filled there still is.
+pub record FillsPart (which : Slot) (filled : Bytes → Bytes) (old new : Standing) : Type 0 where
+  pub filling : IsStillFilling (slot_number which) old new
+  pub written : Fills which filled old new
 
 -- The session is of the game and of the routines that it was of.
 abbrev pub SameDigests : Standing → Standing → Type 0
@@ -91,6 +112,19 @@ HoldsCommitted state piece old new = new.disk.bytes ≡ session_committed state 
 -- The store holds the session as it is made.
 abbrev pub HoldsMade : Digests → Bytes → Text → Standing → Type 0
 HoldsMade digests state piece s = s.disk.bytes ≡ made_session digests state piece
+
+-- A session was made with these digests: the store holds it as it is made, and it shows this state and this piece.
+pub record MakesSession (whose : Digests) (state : Bytes) (piece : Text) (old new : Standing) : Type 0 where
+  pub exact : HoldsMade whose state piece new
+  pub shown : ShowsIn whose state piece new
+  pub digests : kept_digests new.disk.bytes ≡ whose
+
+-- This state and this piece were committed: the store holds the session as a commit leaves it. It shows them, and has
+-- the digests that it had.
+pub record CommitsTo (state : Bytes) (piece : Text) (old new : Standing) : Type 0 where
+  pub exact : HoldsCommitted state piece old new
+  pub shown : ShowsNext state piece old new
+  pub digests : SameDigests old new
 
 -- The digests that a header has.
 abbrev pub header_digests : Header → Digests

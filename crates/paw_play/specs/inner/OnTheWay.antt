@@ -27,6 +27,7 @@ use Rattle.paw_base.specs.Bytes.{Bytes, Lines, Name, RoutineAnswers, Seed, Text,
 use Rattle.paw_journal.specs.Session.{Digests, Recovered, Shown, recover, kept_digests, base_length, state_length}
 use Rattle.paw_journal.specs.Session.{session_committed}
 use Rattle.paw_journal.specs.inner.Store.{InStore, CrashLeavesSuch, IsOldOrNew}
+use Rattle.paw_journal.specs.inner.Steps.{SameDigests}
 use Rattle.paw_journal.specs.inner.Room.{Room}
 use Rattle.paw_journal.specs.inner.Journal.{IsAtRest, KeptIn}
 use Rattle.paw_journal.specs.declared.store.Attached.{Attached}
@@ -219,6 +220,13 @@ Commits events seat old new = recover new.disk.bytes ≡ shown_then events seat 
 -- The store's bytes are what the commit of the player makes of what they were.
 abbrev pub Writes : {F : Type 0} → ℕ → PlayerView F → Standing → Standing → Type 0
 Writes events seat old new = new.disk.bytes ≡ session_committed (seat_base events seat) seat.piece old.disk.bytes
+
+-- The player was committed to the session: the store's bytes are what the commit makes of them, and they show the
+-- player. The session has the digests that it had.
+pub record CommitsPlayer {F : Type 0} (events : ℕ) (seat : PlayerView F) (old new : Standing) : Type 0 where
+  pub exact : Writes events seat old new
+  pub shown : Commits events seat old new
+  pub digests : SameDigests old new
 
 -- A moment at which a crash leaves what the session showed before, or the player.
 abbrev pub InCommit : {F : Type 0} → ℕ → PlayerView F → Standing → Standing → Type 0

@@ -53,7 +53,7 @@ returns-in-Ok-None-clause-promises g c = λ tells X answers before may stores.
           (kept_refused story seed old.disk.bytes (omega (arith, c.requires.some, c.requires.store.attached tells)) before (option_copied c.args.text)
           c.args.reply.now c.push.new.self may stores t c.push.ensures.value);
       any_moment =
-          Passes_map _ _ _ _ _ (InFile (StoresEither story before after) old) (c.resume_player.ensures.reads.time tells)
+          Passes_map _ _ _ _ _ (InFile (StoresEither story before after) old) (c.resume_player.ensures.reads.crash tells)
           (λ m i. still_in_file story before after old m (c.requires.store.rests tells).stable stores i);
     }
 
@@ -70,7 +70,7 @@ returns-in-Err-clause-promises g c = λ tells X answers before may stores.
     record {
       meaning = tt;
       any_moment =
-          Passes_map _ _ _ _ _ (InFile (StoresEither story before after) old) (c.resume_player.ensures.reads.time tells)
+          Passes_map _ _ _ _ _ (InFile (StoresEither story before after) old) (c.resume_player.ensures.reads.crash tells)
           (λ m i. still_in_file story before after old m (c.requires.store.rests tells).stable stores i);
     }
 
@@ -128,7 +128,7 @@ returns-in-Some-clause-promises g c = λ tells X answers before may stores.
           let u = t.1 first es played stands in
           let after : NamedSession = (answer_taking story first es text).session in
           Passes_on _ _ _ _ _ _ (InFile (StoresEither story (At first es) after) old) _
-          (Passes_map _ _ _ _ _ (InFile (StoresEither story (At first es) after) old) (c.resume_player.ensures.reads.time tells)
+          (Passes_map _ _ _ _ _ (InFile (StoresEither story (At first es) after) old) (c.resume_player.ensures.reads.crash tells)
           (λ m i. still_in_file story (At first es) after old m rests here i))
           (c.take_text.ensures.promises (c.resume_player.ensures.reads.serves.tells.0 tells) X own first es
           (subst (λ (h : GameLists). SitsAt (story_of h X) first es c.resume_player.new.player) (sym game) u.0) u.1
@@ -161,6 +161,6 @@ returns-in-None-clause-promises g c = λ tells X answers before may stores.
           c.args.reply.now c.push-in-None.new.self c.kept_piece.result.now may stores t.0
           (λ own es played stands. c.kept_piece.ensures.value ∙ (t.1 own es played stands).2) c.push-in-None.ensures.value));
       any_moment =
-          Passes_map _ _ _ _ _ (InFile (StoresEither story before after) old) (c.resume_player.ensures.reads.time tells)
+          Passes_map _ _ _ _ _ (InFile (StoresEither story before after) old) (c.resume_player.ensures.reads.crash tells)
           (λ m i. still_in_file story before after old m (c.requires.store.rests tells).stable stores i);
     }

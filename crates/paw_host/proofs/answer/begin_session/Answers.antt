@@ -24,11 +24,11 @@ returns-in-Some-clause-leaves g c = leaves_none g.S.Stage _ _ _ (λ tells. refl)
 
 pub returns-in-Err-clause-leaves : goal.returns-in-Err-clause-leaves
 returns-in-Err-clause-leaves g c =
-    record { serves = c.in-Err.ensures.serves; beside = c.create.ensures.beside; left = λ tells. tt }
+    record { serves = c.in-Err.ensures.call.serves; beside = c.create.ensures.call.beside; left = λ tells. tt }
 
 pub returns-clause-leaves : goal.returns-clause-leaves
 returns-clause-leaves g c =
-    record { serves = c.in-Ok.ensures.serves; beside = c.create.ensures.beside; left = c.in-Ok.ensures.kept }
+    record { serves = c.in-Ok.ensures.call.serves; beside = c.create.ensures.call.beside; left = c.in-Ok.ensures.kept }
 
 pub returns-in-Some-clause-promises : goal.returns-in-Some-clause-promises
 returns-in-Some-clause-promises g c = λ tells X answers.
@@ -46,7 +46,7 @@ returns-in-Err-clause-promises g c = λ tells X answers.
     let shows = shows_by c.start_anew-step.result c.in_default.ensures.value in
     record {
       meaning = tt;
-      any_moment = Passes_map _ _ _ _ _ (InFile (LeftOfBeginning story c.args.seed) old) (c.create.ensures.any_moment tells)
+      any_moment = Passes_map _ _ _ _ _ (InFile (LeftOfBeginning story c.args.seed) old) (c.create.ensures.call.crash tells)
           (λ m i. in_beginning story c.args.seed c.start_anew-step.result c.start_anew-step.new.player c.start_anew-step.ensures.last
           c.start_anew-step.ensures.anew.stays.seated
           (c.start_anew-step.ensures.meaning X answers) _ old m shows c.put_state.ensures.state
@@ -69,12 +69,12 @@ returns-clause-promises g c = λ tells X answers.
             c.start_anew-step.ensures.anew.stays.seated plays shows,
         first_stands story c.args.seed c.start_anew-step.result c.start_anew-step.new.player c.start_anew-step.ensures.last
             c.start_anew-step.ensures.anew.stays.seated plays _ shows
-            (c.in-Ok.ensures.shown tells ∙ same_shown _ _ _ _ _ _ (same_digests _ _ _ _ c.requires.player.digests.digest
+            ((c.in-Ok.ensures.call.post tells).shown ∙ same_shown _ _ _ _ _ _ (same_digests _ _ _ _ c.requires.player.digests.digest
             (c.requires.player.digests.measured X answers)) c.put_state.ensures.state c.piece.ensures.value),
         ap (λ (a : Answer). a.session) r,
         c.push-2.ensures.value ∙ ap (λ x. c.args.reply.now ++ x) c.piece-2.ensures.value ∙ ap (λ (a : Answer). c.args.reply.now ++ a.body) (sym r),
       );
-      any_moment = Passes_map _ _ _ _ _ (InFile (LeftOfBeginning story c.args.seed) old) (c.create.ensures.any_moment tells)
+      any_moment = Passes_map _ _ _ _ _ (InFile (LeftOfBeginning story c.args.seed) old) (c.create.ensures.call.crash tells)
           (λ m i. in_beginning story c.args.seed c.start_anew-step.result c.start_anew-step.new.player c.start_anew-step.ensures.last
           c.start_anew-step.ensures.anew.stays.seated
           (c.start_anew-step.ensures.meaning X answers) _ old m shows c.put_state.ensures.state

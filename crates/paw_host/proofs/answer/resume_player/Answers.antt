@@ -66,7 +66,7 @@ returns-in-Err-clause-meaning g c = λ tells X answers.
     let old : Standing = g.S.Stage.standing c.args.stage.now in
     let state = c.find.new.room.state in
     let piece = c.find.new.room.piece in
-    let shown = subst (λ (q : Standing). recover q.disk.bytes ≡ session_shown (kept_digests q.disk.bytes) state piece) (c.in-Ok.ensures.still tells)
+    let shown = subst (λ (q : Standing). recover q.disk.bytes ≡ session_shown (kept_digests q.disk.bytes) state piece) (c.in-Ok.ensures.call.still tells)
     (c.in-Ok.ensures.kept tells).shown in
     unfit_shows_none (story_of c.args.player.now.game X) (kept_digests old.disk.bytes) old.disk.bytes state piece shown
     (λ fit. not_ok (Err c.in-Err.field-0) c.in-Err.field-0 refl (c.in-Err.ensures.fit.1
@@ -92,7 +92,7 @@ returns-clause-meaning g c = λ tells X answers.
     let state = c.find.new.room.state in
     let piece = c.find.new.room.piece in
     let r = c.in-Ok-read_state.restored in
-    let still = c.in-Ok.ensures.still tells in
+    let still = c.in-Ok.ensures.call.still tells in
     let shown = subst (λ (q : Standing). recover q.disk.bytes ≡ session_shown (kept_digests q.disk.bytes) state piece) still
     (c.in-Ok.ensures.kept tells).shown in
     let belongs = subst (λ (q : Standing). IsOfStory story (kept_digests q.disk.bytes)) still

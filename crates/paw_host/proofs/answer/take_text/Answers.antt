@@ -74,15 +74,15 @@ commits g c tells X answers seed es s count stands =
     let plays = c.take-step.ensures.meaning X answers p last s.pieces s.traces in
     let shows = shows_by c.take-step.result c.in_default.ensures.value in
     Passes_map _ _ _ _ _ (InFile (StoresEither story (At seed es) (answer_taking story seed es c.args.text.now).session) old)
-    (c.commit.ensures.any_moment tells)
+    (c.commit.ensures.call.crash tells)
     (λ m i. in_taking s c.requires.player.seated c.args.text.now p last few c.take-step.result c.take-step.new.self
     c.take-step.ensures.last c.take-step.ensures.seated plays
     (c.args.opened.events + 1) old m shows (omega (arith, count)) stands _ _ (c.requires.kept tells).shown i)
 
 pub returns-in-Err-clause-leaves : goal.returns-in-Err-clause-leaves
 returns-in-Err-clause-leaves g c = record {
-  serves = c.in-Err.ensures.serves;
-  beside = c.commit.ensures.beside;
+  serves = c.in-Err.ensures.call.serves;
+  beside = c.commit.ensures.call.beside;
   left = λ tells. tt;
 }
 
@@ -96,8 +96,8 @@ returns-in-Err-clause-promises g c = λ tells X answers seed es s count stands.
 
 pub returns-clause-leaves : goal.returns-clause-leaves
 returns-clause-leaves g c = record {
-  serves = c.in-Ok.ensures.serves;
-  beside = c.commit.ensures.beside;
+  serves = c.in-Ok.ensures.call.serves;
+  beside = c.commit.ensures.call.beside;
   left = λ tells. (c.in-Ok.ensures.kept tells).rests;
 }
 
@@ -113,7 +113,7 @@ returns-clause-promises g c = λ tells X answers seed es s count stands.
       meaning =
           took s c.requires.player.seated c.args.text.now p last few c.take-step.result next c.take-step.ensures.last c.take-step.ensures.seated plays
           stands.digests c.args.reply.now _ _ (c.args.opened.events + 1) stands.belongs shows (omega (arith, count))
-          (c.in-Ok.ensures.shown tells ∙ ap (λ d. Shown d (seat_state (c.args.opened.events + 1) next) next.piece)
+          ((c.in-Ok.ensures.call.post tells).shown ∙ ap (λ d. Shown d (seat_state (c.args.opened.events + 1) next) next.piece)
           (digests_are (story_of c.args.player.now.game X) seed es _ _ _ stands (c.requires.kept tells).shown))
           (c.push-2.ensures.value ∙ ap (λ x. c.args.reply.now ++ x) c.piece.ensures.value);
       any_moment =

@@ -1,17 +1,25 @@
-use Rattle.paw_stage.proofs.Time.{Passes_map, Passes_on}
+use Rattle.paw_stage.specs.Stage.{Standing}
+use Rattle.paw_journal.specs.Session.{made_mark}
+use Rattle.std.specs.Prelude.{[], ◌∷◌}
+use Rattle.paw_journal.proofs.Calls.{writes_failed, writes_then}
 use Rattle.paw_journal.proofs.Makes.{in_marking, in_marked}
+use Rattle.paw_journal.proofs.Moved.{written_synced}
 use Rattle.paw_journal.proofs.making.mark.Goals as goal
 
-pub returns-in_err-write-clause-any_moment : goal.returns-in_err-write-clause-any_moment
-returns-in_err-write-clause-any_moment g c tells =
-    Passes_map _ _ _ _ _ _ (c.write.ensures.time tells)
-    (λ m. in_marking (g.S.Stage.standing c.args.stage.now) m (c.requires.long tells) (c.requires.rests tells).stable)
+pub returns-in_err-write : goal.returns-in_err-write
+returns-in_err-write g c =
+    record {
+      call = writes_failed c.from_residual.ensures.1 c.in_err-write.ensures.call
+          (λ tells m. in_marking _ m (c.requires.long tells) (c.requires.rests tells).stable);
+    }
 
-pub returns-clause-any_moment : goal.returns-clause-any_moment
-returns-clause-any_moment g c tells =
-    let old = g.S.Stage.standing c.args.stage.now in
-    Passes_on _ _ _ _ _ _ _ _
-    (Passes_map _ _ _ _ _ _ (c.write.ensures.time tells) (λ m. in_marking old m (c.requires.long tells) (c.requires.rests tells).stable))
-    (c.sync.ensures.time (c.write.ensures.serves.tells.0 tells))
-    (λ m. in_marked _ _ old (g.S.Stage.standing c.write.new.stage) m (c.requires.long tells)
-    (c.requires.rests tells).stable (c.in_ok-write.ensures.written tells))
+pub returns : goal.returns
+returns g c =
+    let s : Standing = g.S.Stage.standing c.args.stage.now in
+    let t : Standing = g.S.Stage.standing c.write.new.stage in
+    record {
+      call = writes_then c.in_ok-write.ensures.call c.sync.ensures.call
+          (λ tells wrote synced. written_synced 0 (made_mark ∷ []) s t _ wrote synced)
+          (λ tells m. in_marking s m (c.requires.long tells) (c.requires.rests tells).stable)
+          (λ tells wrote beside m. in_marked _ _ s t m (c.requires.long tells) (c.requires.rests tells).stable wrote);
+    }

@@ -1,16 +1,22 @@
-use Rattle.paw_stage.proofs.Time.{Passes_map, Passes_on}
-use Rattle.paw_journal.proofs.Makes.{empty_is_short, in_beginning, in_begun}
+use Rattle.paw_stage.specs.Stage.{Standing}
+use Rattle.paw_journal.proofs.Calls.{writes_failed, writes_then}
+use Rattle.paw_journal.proofs.Makes.{empty_is_short, in_beginning, in_begun, begun_blank}
 use Rattle.paw_journal.proofs.making.write_blank_mark.Goals as goal
 
-pub returns-in_err-write-clause-any_moment : goal.returns-in_err-write-clause-any_moment
-returns-in_err-write-clause-any_moment g c tells =
-    let short = empty_is_short _ (c.requires.rests tells).stable (c.requires.empty tells) in
-    Passes_map _ _ _ _ _ _ (c.write.ensures.time tells) (λ m. in_beginning (g.S.Stage.standing c.args.stage.now) m short)
+pub returns-in_err-write : goal.returns-in_err-write
+returns-in_err-write g c =
+    record {
+      call = writes_failed c.from_residual.ensures.1 c.in_err-write.ensures.call
+          (λ tells m. in_beginning _ m (empty_is_short _ (c.requires.rests tells).stable (c.requires.empty tells)));
+    }
 
-pub returns-clause-any_moment : goal.returns-clause-any_moment
-returns-clause-any_moment g c tells =
-    let short = empty_is_short _ (c.requires.rests tells).stable (c.requires.empty tells) in
-    Passes_on _ _ _ _ _ _ _ _
-    (Passes_map _ _ _ _ _ _ (c.write.ensures.time tells) (λ m. in_beginning (g.S.Stage.standing c.args.stage.now) m short))
-    (c.sync.ensures.time (c.write.ensures.serves.tells.0 tells))
-    (λ m. in_begun _ _ (g.S.Stage.standing c.args.stage.now) (g.S.Stage.standing c.write.new.stage) m short (c.in_ok-write.ensures.written tells))
+pub returns : goal.returns
+returns g c =
+    let s : Standing = g.S.Stage.standing c.args.stage.now in
+    let t : Standing = g.S.Stage.standing c.write.new.stage in
+    record {
+      call = writes_then c.in_ok-write.ensures.call c.sync.ensures.call
+          (λ tells wrote synced. begun_blank s t _ (c.requires.empty tells) wrote synced)
+          (λ tells m. in_beginning s m (empty_is_short _ (c.requires.rests tells).stable (c.requires.empty tells)))
+          (λ tells wrote beside m. in_begun _ _ s t m (empty_is_short _ (c.requires.rests tells).stable (c.requires.empty tells)) wrote);
+    }

@@ -28,13 +28,13 @@ returns-in-Some-clause-serves g c =
 pub returns-in-Err-clause-serves : goal.returns-in-Err-clause-serves
 returns-in-Err-clause-serves g c =
     serves_then g.S.Stage _ _ (Some c.in-Err.call) _ _ _ (serves_done g.S.Stage _ _ c.ask.ensures.tells c.in-Line.ensures.counts_failure)
-    (serves_among g.S.Stage _ _ (Some c.in-Err.call) _ _ writing_plays c.in-Err.ensures.serves)
+    (serves_among g.S.Stage _ _ (Some c.in-Err.call) _ _ writing_plays c.in-Err.ensures.call.serves)
 
 pub returns-clause-serves : goal.returns-clause-serves
 returns-clause-serves g c =
     rw c.unless_ended.ensures.value
     (serves_then g.S.Stage _ _ _ _ _ _ (serves_then g.S.Stage _ _ None _ _ _
-    (serves_done g.S.Stage _ _ c.ask.ensures.tells c.in-Line.ensures.counts_failure) c.in-Ok.ensures.serves)
+    (serves_done g.S.Stage _ _ c.ask.ensures.tells c.in-Line.ensures.counts_failure) c.in-Ok.ensures.call.serves)
     (serves_unless g.S.Stage c.show_step.result _ _ _ c.show_step.ensures.serves))
 
 pub returns-clause-refused : goal.returns-clause-refused
@@ -46,7 +46,7 @@ returns-clause-session g c =
     rw c.unless_ended.ensures.value
     (holds_unless (g.S.Stage.Tells c.args.stage.now) (c.args.session.events + 1) _ mid (g.S.Stage.standing c.show_step.new.stage) _ c.take-step.result
     c.show_step.result _ refl (λ tells. c.in-Ok.ensures.kept (c.ask.ensures.tells.0 tells))
-    (λ tells. c.show_step.ensures.meaning (c.commit.ensures.serves.tells.0 (c.ask.ensures.tells.0 tells))))
+    (λ tells. c.show_step.ensures.meaning (c.commit.ensures.call.serves.tells.0 (c.ask.ensures.tells.0 tells))))
 
 pub returns-in-End-clause-meaning : goal.returns-in-End-clause-meaning
 returns-in-End-clause-meaning g c = λ tells X answers s most n first w events few.
@@ -85,11 +85,12 @@ returns-in-Err-clause-meaning g c = λ tells X answers s most n first w events f
     let t = taken (story_of c.args.player.now.game X) s most n (c.args.session.events + 1) first _ _ c.args.player.now c.take-step.new.self _ a.0 _
     w few c.requires.player.seated c.take-step.ensures.seated c.take-step.ensures.last a.1 a.2.same a.3 (c.take-step.ensures.meaning X answers w.walking.prompt
     w.walking.waits w.walking.pieces w.walking.traces) c.in_default.ensures.value (omega (arith, events)) (omega (arith, c.requires.few)) in
-    plays_not t (g.S.Stage.standing c.commit.new.stage) (c.commit.ensures.beside (c.ask.ensures.tells.0 tells)) c.in-Err.call c.in-Err.ensures.serves.among
+    plays_not t (g.S.Stage.standing c.commit.new.stage) (c.commit.ensures.call.beside (c.ask.ensures.tells.0 tells)) c.in-Err.call
+    c.in-Err.ensures.call.serves.among
 
 pub returns-in-Err-clause-any_moment : goal.returns-in-Err-clause-any_moment
 returns-in-Err-clause-any_moment g c = λ tells X answers s most n first w events few.
-    let commits = c.commit.ensures.any_moment (c.ask.ensures.tells.0 tells) in
+    let commits = c.commit.ensures.call.crash (c.ask.ensures.tells.0 tells) in
     let a = c.in-Line.ensures.answer tells in
     let t = taken (story_of c.args.player.now.game X) s most n (c.args.session.events + 1) first _ _ c.args.player.now c.take-step.new.self _ a.0 _
     w few c.requires.player.seated c.take-step.ensures.seated c.take-step.ensures.last a.1 a.2.same a.3 (c.take-step.ensures.meaning X answers w.walking.prompt
@@ -106,13 +107,15 @@ returns-clause-meaning g c = λ tells X answers s most n first w events few.
     w few c.requires.player.seated c.take-step.ensures.seated c.take-step.ensures.last a.1 a.2.same a.3 (c.take-step.ensures.meaning X answers w.walking.prompt
     w.walking.waits w.walking.pieces w.walking.traces) c.in_default.ensures.value (omega (arith, events)) (omega (arith, c.requires.few)) in
     let now = c.ask.ensures.tells.0 tells in
-    rw c.unless_ended.ensures.value (plays_to t (g.S.Stage.standing c.commit.new.stage) (c.commit.ensures.beside now)
-    (c.in-Ok.ensures.kept now).rests.stable (c.in-Ok.ensures.shown now) (c.in-Ok.ensures.digests now) (c.in-Ok.ensures.exact now)
-    _ (g.S.Stage.standing c.show_step.new.stage) c.show_step.result (c.show_step.ensures.meaning (c.commit.ensures.serves.tells.0 now)))
+    let done = c.in-Ok.ensures.call.post now in
+    rw c.unless_ended.ensures.value (plays_to t (g.S.Stage.standing c.commit.new.stage) (c.commit.ensures.call.beside now)
+    (c.in-Ok.ensures.kept now).rests.stable done.shown done.digests done.exact
+    _ (g.S.Stage.standing c.show_step.new.stage) c.show_step.result (c.show_step.ensures.meaning (c.commit.ensures.call.serves.tells.0 now)))
 
 pub returns-clause-any_moment : goal.returns-clause-any_moment
 returns-clause-any_moment g c = λ tells X answers s most n first w events few.
     let now = c.ask.ensures.tells.0 tells in
+    let done = c.in-Ok.ensures.call.post now in
     let a = c.in-Line.ensures.answer tells in
     let t = taken (story_of c.args.player.now.game X) s most n (c.args.session.events + 1) first _ _ c.args.player.now c.take-step.new.self _ a.0 _
     w few c.requires.player.seated c.take-step.ensures.seated c.take-step.ensures.last a.1 a.2.same a.3 (c.take-step.ensures.meaning X answers w.walking.prompt
@@ -121,7 +124,7 @@ returns-clause-any_moment g c = λ tells X answers s most n first w events few.
     (Passes_on _ _ _ _ _ _ (InPlay s first) _
     (Passes_map _ _ _ _ _ (InPlay s first) (c.in-Line.ensures.time tells) (in_ask w (g.S.Stage.standing c.ask.new.self) (asked.Line c.in-Line.n)
     c.ask.new.into c.requires.player.seated (omega (arith, events, c.requires.few)) (c.in-Line.ensures.answer tells)))
-    (c.commit.ensures.any_moment now) (in_commit t))
-    (c.show_step.ensures.time (c.commit.ensures.serves.tells.0 now))
-    (in_show t (g.S.Stage.standing c.commit.new.stage) (c.commit.ensures.beside now) (c.in-Ok.ensures.kept now).rests.stable (c.in-Ok.ensures.shown now)
-    (c.in-Ok.ensures.digests now) (c.in-Ok.ensures.exact now))
+    (c.commit.ensures.call.crash now) (in_commit t))
+    (c.show_step.ensures.time (c.commit.ensures.call.serves.tells.0 now))
+    (in_show t (g.S.Stage.standing c.commit.new.stage) (c.commit.ensures.call.beside now) (c.in-Ok.ensures.kept now).rests.stable done.shown
+    done.digests done.exact)

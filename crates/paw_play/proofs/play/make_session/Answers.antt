@@ -23,12 +23,12 @@ pub returns-in-Some-clause-serves : goal.returns-in-Some-clause-serves
 returns-in-Some-clause-serves g c = rw c.in-Some.ensures.fine (serves_none g.S.Stage _ _)
 
 pub returns-in-Err-clause-serves : goal.returns-in-Err-clause-serves
-returns-in-Err-clause-serves g c = serves_among g.S.Stage _ _ _ _ _ writing_plays c.in-Err.ensures.serves
+returns-in-Err-clause-serves g c = serves_among g.S.Stage _ _ _ _ _ writing_plays c.in-Err.ensures.call.serves
 
 pub returns-clause-serves : goal.returns-clause-serves
 returns-clause-serves g c =
     rw c.unless_ended.ensures.value
-    (serves_then g.S.Stage _ _ _ _ _ _ c.in-Ok.ensures.serves
+    (serves_then g.S.Stage _ _ _ _ _ _ c.in-Ok.ensures.call.serves
     (serves_unless g.S.Stage c.show_step.result _ _ _ c.show_step.ensures.serves))
 
 pub returns-clause-refused : goal.returns-clause-refused
@@ -49,7 +49,7 @@ returns-clause-session g c =
     rw c.unless_ended.ensures.value
     (holds_unless (g.S.Stage.Tells c.args.stage.now) 0 _ (g.S.Stage.standing c.create.new.stage)
     (g.S.Stage.standing c.show_step.new.stage) _ c.start-step.result
-    c.show_step.result _ refl c.in-Ok.ensures.kept (λ tells. c.show_step.ensures.meaning (c.create.ensures.serves.tells.0 tells)))
+    c.show_step.result _ refl c.in-Ok.ensures.kept (λ tells. c.show_step.ensures.meaning (c.create.ensures.call.serves.tells.0 tells)))
 
 pub returns-in-Some-clause-meaning : goal.returns-in-Some-clause-meaning
 returns-in-Some-clause-meaning g c = λ tells X answers name store.
@@ -63,8 +63,8 @@ returns-in-Err-clause-meaning g c = λ tells X answers name store.
     let story = story_of c.args.player.now.game X in
     let b = begun story c.args.player.now.world.seed
     (digests_of c.args.game.now c.args.rules.now) name _ _ c.start-step.new.self c.start-step.result store c.start-step.ensures.seated
-    c.start-step.ensures.last (c.start-step.ensures.meaning X answers) c.in_default.ensures.value (c.create.ensures.beside tells) in
-    not_begun b c.in-Err.call c.in-Err.ensures.serves.among
+    c.start-step.ensures.last (c.start-step.ensures.meaning X answers) c.in_default.ensures.value (c.create.ensures.call.beside tells) in
+    not_begun b c.in-Err.call c.in-Err.ensures.call.serves.among
 
 pub returns-in-Err-clause-any_moment : goal.returns-in-Err-clause-any_moment
 returns-in-Err-clause-any_moment g c = λ tells X answers name store.
@@ -72,9 +72,9 @@ returns-in-Err-clause-any_moment g c = λ tells X answers name store.
     let old = g.S.Stage.standing c.args.stage.now in
     let b = begun story c.args.player.now.world.seed
     (digests_of c.args.game.now c.args.rules.now) name old _ c.start-step.new.self c.start-step.result store c.start-step.ensures.seated
-    c.start-step.ensures.last (c.start-step.ensures.meaning X answers) c.in_default.ensures.value (c.create.ensures.beside tells) in
+    c.start-step.ensures.last (c.start-step.ensures.meaning X answers) c.in_default.ensures.value (c.create.ensures.call.beside tells) in
     Passes_map _ _ _ _ _ (InNewSession (begun_with story c.args.player.now.world.seed (digests_of c.args.game.now c.args.rules.now) name) old)
-    (c.create.ensures.any_moment tells) (λ m i. inl (in_making b m (subst (λ x. InStore old (CrashLeavesSuch (λ r. IsUnmade r ⊎ (r ≡ x))) m)
+    (c.create.ensures.call.crash tells) (λ m i. inl (in_making b m (subst (λ x. InStore old (CrashLeavesSuch (λ r. IsUnmade r ⊎ (r ≡ x))) m)
     (shown_as _ c.put_state.ensures.state c.piece.ensures.value) i)))
 
 pub returns-clause-meaning : goal.returns-clause-meaning
@@ -82,11 +82,12 @@ returns-clause-meaning g c = λ tells X answers name store.
     let story = story_of c.args.player.now.game X in
     let b = begun story c.args.player.now.world.seed
     (digests_of c.args.game.now c.args.rules.now) name _ _ c.start-step.new.self c.start-step.result store c.start-step.ensures.seated
-    c.start-step.ensures.last (c.start-step.ensures.meaning X answers) c.in_default.ensures.value (c.create.ensures.beside tells) in
+    c.start-step.ensures.last (c.start-step.ensures.meaning X answers) c.in_default.ensures.value (c.create.ensures.call.beside tells) in
+    let done = c.in-Ok.ensures.call.post tells in
     rw c.unless_ended.ensures.value (begins_to b (sym (c.requires.attached tells).long ∙ c.requires.empty) (c.in-Ok.ensures.kept tells).rests.stable
-    (c.in-Ok.ensures.shown tells ∙ shown_as _ c.put_state.ensures.state c.piece.ensures.value) (c.in-Ok.ensures.digests tells)
-    (c.in-Ok.ensures.made tells ∙ made_same (digests_of c.args.game.now c.args.rules.now) _ _ _ _ c.put_state.ensures.base c.piece.ensures.value)
-    _ (g.S.Stage.standing c.show_step.new.stage) c.show_step.result (c.show_step.ensures.meaning (c.create.ensures.serves.tells.0 tells)))
+    (done.shown ∙ shown_as _ c.put_state.ensures.state c.piece.ensures.value) done.digests
+    (done.exact ∙ made_same (digests_of c.args.game.now c.args.rules.now) _ _ _ _ c.put_state.ensures.base c.piece.ensures.value)
+    _ (g.S.Stage.standing c.show_step.new.stage) c.show_step.result (c.show_step.ensures.meaning (c.create.ensures.call.serves.tells.0 tells)))
 
 pub returns-clause-any_moment : goal.returns-clause-any_moment
 returns-clause-any_moment g c = λ tells X answers name store.
@@ -94,12 +95,13 @@ returns-clause-any_moment g c = λ tells X answers name store.
     let old = g.S.Stage.standing c.args.stage.now in
     let b = begun story c.args.player.now.world.seed
     (digests_of c.args.game.now c.args.rules.now) name old _ c.start-step.new.self c.start-step.result store c.start-step.ensures.seated
-    c.start-step.ensures.last (c.start-step.ensures.meaning X answers) c.in_default.ensures.value (c.create.ensures.beside tells) in
+    c.start-step.ensures.last (c.start-step.ensures.meaning X answers) c.in_default.ensures.value (c.create.ensures.call.beside tells) in
     let same = shown_as (digests_of c.args.game.now c.args.rules.now) c.put_state.ensures.state c.piece.ensures.value in
+    let done = c.in-Ok.ensures.call.post tells in
     Passes_on _ _ _ _ _ _ _ _
     (Passes_map _ _ _ _ _ (InNewSession (begun_with story c.args.player.now.world.seed (digests_of c.args.game.now c.args.rules.now) name) old)
-    (c.create.ensures.any_moment tells) (λ m i. inl (in_making b m (subst (λ x. InStore old (CrashLeavesSuch (λ r. IsUnmade r ⊎ (r ≡ x))) m) same i))))
-    (c.show_step.ensures.time (c.create.ensures.serves.tells.0 tells))
+    (c.create.ensures.call.crash tells) (λ m i. inl (in_making b m (subst (λ x. InStore old (CrashLeavesSuch (λ r. IsUnmade r ⊎ (r ≡ x))) m) same i))))
+    (c.show_step.ensures.time (c.create.ensures.call.serves.tells.0 tells))
     (λ m i. inr (in_first_show b (sym (c.requires.attached tells).long ∙ c.requires.empty) (c.in-Ok.ensures.kept tells).rests.stable
-    (c.in-Ok.ensures.shown tells ∙ same) (c.in-Ok.ensures.digests tells)
-    (c.in-Ok.ensures.made tells ∙ made_same (digests_of c.args.game.now c.args.rules.now) _ _ _ _ c.put_state.ensures.base c.piece.ensures.value) m i))
+    (done.shown ∙ same) done.digests
+    (done.exact ∙ made_same (digests_of c.args.game.now c.args.rules.now) _ _ _ _ c.put_state.ensures.base c.piece.ensures.value) m i))

@@ -25,7 +25,7 @@ use Rattle.paw_play.proofs.Following.{play_sessions}
 use Rattle.paw_play.proofs.resume.resume_loop.Goals as goal
 
 pub play_recovered-requires-clause-kept : goal.play_recovered-requires-clause-kept
-play_recovered-requires-clause-kept g c = λ tells. c.in-Ok-find.ensures.kept (c.find.ensures.serves.tells.1 tells)
+play_recovered-requires-clause-kept g c = λ tells. c.in-Ok-find.ensures.kept (c.find.ensures.call.serves.tells.1 tells)
 
 pub returns-in-Err-clause-plays : goal.returns-in-Err-clause-plays
 returns-in-Err-clause-plays g c = λ tells X answers.
@@ -51,7 +51,7 @@ returns-in-Err-find-clause-plays g c = λ tells X answers.
     (subst (λ d. IsSessionRefused (recover (store_bytes (g.S.Stage.standing c.args.stage.now) c.args.name.now)) d c.measure.result c.in-Err-find.refusal)
     c.requires.game
     (subst (λ (q : Standing). IsSessionRefused (recover q.disk.bytes) c.args.game.now c.measure.result c.in-Err-find.refusal) a.1 refused)))
-    c.in-Err-find.ensures.serves.among (c.find.ensures.still now ∙ a.1))
+    c.in-Err-find.ensures.call.serves.among (c.find.ensures.call.still now ∙ a.1))
 
 pub returns-clause-plays : goal.returns-clause-plays
 returns-clause-plays g c = λ tells X answers.
@@ -66,11 +66,11 @@ returns-clause-plays g c = λ tells X answers.
     let belongs : IsOfStory story digests =
     subst (λ r. BelongsTo (sha256 (image (g.T.Tables.game c.args.tables.now))) r digests) (c.measure.ensures.value X answers)
     (subst (λ d. BelongsTo d c.measure.result digests) c.requires.game (c.in-Ok-find.ensures.belongs now)) in
-    let is : after_find ≡ attached_to old name = c.find.ensures.still now ∙ a.1 in
+    let is : after_find ≡ attached_to old name = c.find.ensures.call.still now ∙ a.1 in
     let store : IsRestingStore name after_find = subst (IsRestingStore name) (sym is) (store_attached old name) in
     resumes_play c.play_recovered.result digests belongs
     (subst (λ q. Resumed story digests name q after_take_up c.play_recovered.result) is
-    (c.play_recovered.ensures.plays (c.find.ensures.serves.tells.0 now) X answers name store))
+    (c.play_recovered.ensures.plays (c.find.ensures.call.serves.tells.0 now) X answers name store))
 
 -- ---- by the session that goes on ----
 
@@ -123,7 +123,7 @@ returns-in-Err-find-clause-any_moment g c = λ tells X answers s from.
     (taken_up_again g.S.Stage g.met.S.Stage.only_now g.met.S.Stage.counts_now c.args.stage.now c.attach.new.stage c.find.new.stage
     story k.digests name k.state k.piece c.counts-counts.ensures.valid k.shows now there (c.in-Ok.ensures.time tells)
     (found_again g.S.Stage c.args.stage.now c.attach.new.stage c.find.new.stage
-    story k.digests name k.state k.piece c.counts-counts.ensures.valid k.shows there (c.find.ensures.time now)))
+    story k.digests name k.state k.piece c.counts-counts.ensures.valid k.shows there (c.find.ensures.call.crash now)))
 
 pub returns-clause-any_moment : goal.returns-clause-any_moment
 returns-clause-any_moment g c = λ tells X answers s from.
@@ -137,16 +137,16 @@ returns-clause-any_moment g c = λ tells X answers s from.
     let now = c.attach.ensures.serves.tells.0 tells in
     let attached = (c.in-Ok.ensures.attached tells).1 in
     let after_find : Standing = g.S.Stage.standing c.find.new.stage in
-    let is : after_find ≡ attached_to old name = c.find.ensures.still now ∙ attached in
+    let is : after_find ≡ attached_to old name = c.find.ensures.call.still now ∙ attached in
     let store : IsRestingStore name after_find = subst (IsRestingStore name) (sym is) (store_attached old name) in
     let there = subst (λ (q : Standing). ShowsState game k.digests q.disk.bytes k.state k.piece) (sym is) k.shows in
-    let up = c.play_recovered.ensures.any_moment (c.find.ensures.serves.tells.0 now) X answers name store k.digests k.state k.piece there in
+    let up = c.play_recovered.ensures.any_moment (c.find.ensures.call.serves.tells.0 now) X answers name store k.digests k.state k.piece there in
     subst (λ q. InTwoParts g.S.Stage c.args.stage.now c.play_recovered.new.stage (NotYet name old) (InPlay q old)) k.same
     (taken_up_again g.S.Stage g.met.S.Stage.only_now g.met.S.Stage.counts_now c.args.stage.now c.attach.new.stage c.play_recovered.new.stage
     story k.digests name k.state k.piece valid k.shows now attached (c.in-Ok.ensures.time tells)
     (Passes_on _ _ _ _ _ _ (InPlay session old) _
     (found_again g.S.Stage c.args.stage.now c.attach.new.stage c.find.new.stage
-    story k.digests name k.state k.piece valid k.shows attached (c.find.ensures.time now))
+    story k.digests name k.state k.piece valid k.shows attached (c.find.ensures.call.crash now))
     up
     (λ m i. in_taking_up story k.digests name k.state k.piece old valid k.shows m (subst (λ q. InPlay session q m) is i))))
 
@@ -162,10 +162,10 @@ returns-in-Err-find-clause-serves g c =
     rw c.not_found.ensures.value
     (serves_then g.S.Stage _ _ (call_of_end (end_of c.in-Err-find.refusal)) _ _ _
     c.in-Ok.ensures.serves
-    (serves_refused g.S.Stage c.in-Err-find.refusal _ _ c.in-Err-find.ensures.serves))
+    (serves_refused g.S.Stage c.in-Err-find.refusal _ _ c.in-Err-find.ensures.call.serves))
 
 pub returns-clause-serves : goal.returns-clause-serves
 returns-clause-serves g c =
     serves_then g.S.Stage _ _ (call_of_end c.play_recovered.result) _ _ _ (serves_then g.S.Stage _ _ None _ _ _
-    c.in-Ok.ensures.serves c.in-Ok-find.ensures.serves)
+    c.in-Ok.ensures.serves c.in-Ok-find.ensures.call.serves)
     (serves_among g.S.Stage _ _ (call_of_end c.play_recovered.result) _ _ play_sessions c.play_recovered.ensures.serves)

@@ -15,7 +15,7 @@ returns g c = record {
       let room = c.find.new.room in
       let bytes = store_bytes (standing_of c.args.stage.now) trial_store in
       let found = standing_of c.find.new.stage in
-      let same : found.disk.bytes ≡ bytes = ap (λ (s : Standing). s.disk.bytes) (c.find.ensures.still tt ∙ (c.in-Ok.ensures.attached tt).1) in
+      let same : found.disk.bytes ≡ bytes = ap (λ (s : Standing). s.disk.bytes) (c.find.ensures.call.still tt ∙ (c.in-Ok.ensures.attached tt).1) in
       let digests = kept_digests found.disk.bytes in
       let shown = subst (λ b. recover b ≡ Shown digests (take state_length room.state) room.piece) same (c.in-Ok-find.ensures.kept tt).shown in
       subst (IsTallyOf (trial_reading n)) (sym (c.counts_in.ensures.value ∙ ap tally_in c.state.ensures.value))
