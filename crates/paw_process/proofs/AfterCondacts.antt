@@ -1,4 +1,4 @@
--- Reading on in an entry, condact by condact.
+-- Reading on in a table, condact by condact and entry by entry.
 use Rattle.std.proofs.Common.{◌≡◌, ℕ, ◌<◌, ◌≤◌, List, ◌∷◌, Option, Some, None, refl, sym, ap, suc, length, arith}
 use Rattle.std.specs.Prelude.{IfSome, IfNone}
 use Rattle.std.specs.Option.{option_map}
@@ -10,22 +10,24 @@ use Rattle.paw_game.specs.inner.Tables.{match_at}
 use Rattle.paw_world.specs.World.{World, flag}
 use Rattle.paw_routines.specs.declared.routines.Routines.{Routines}
 use Rattle.paw_routines.specs.Routines.{AreAnswersOf}
-use Rattle.paw_effects.specs.Story.{story_of}
+use Rattle.paw_effects.specs.Story.{Story, story_of}
 use Rattle.paw_reading.specs.declared.places.Frame.{Frame}
+use Rattle.paw_reading.specs.Run.{Run}
+use Rattle.paw_reading.specs.Reading.{Out}
 use Rattle.paw_process.specs.inner.OpenTables.{OpenTables}
 use Rattle.paw_process.specs.inner.OpenTables.{below, ReadsNone}
-use Rattle.paw_process.specs.inner.Meaning.{Held, run_held, going_in}
+use Rattle.paw_process.specs.inner.Meaning.{Held, run_held}
 use Rattle.paw_process.specs.inner.Moves.{ReadsTable, reading_at, Enters, EntersNone}
-use Rattle.paw_process.specs.inner.AfterCondact.{with_frame, frame_of, moved_on, IsInEntry}
-use Rattle.paw_process.specs.inner.Steps.{IsReady, MayReadNext, IsAfterReading, HasStepped}
-use Rattle.paw_process.specs.inner.Work.{Progress, stays}
+use Rattle.paw_process.specs.inner.AfterCondact.{with_frame, frame_of, moved_on, going_at, IsInTable}
+use Rattle.paw_process.specs.inner.Steps.{IsReady, MayReadNext, HasMoved, IsAfterReading, HasStepped}
+use Rattle.paw_process.specs.inner.Work.{machine_work, Progress, falls, stays}
 use Rattle.paw_process.specs.declared.Turned.{Turned}
 use Rattle.paw_process.specs.declared.after_condact.AfterCondact.{AfterCondact}
 use Rattle.paw_process.specs.declared.after_condact.AfterCondact.TheVariants as after_condact
 use Rattle.paw_process.proofs.Readings.{reads_on, reads_from, reads_moved}
 use Rattle.paw_process.proofs.Steps.{going_inside, going_left, going_match}
 use Rattle.paw_process.proofs.Stops.{length_below}
-use Rattle.paw_process.proofs.Works.{progress_on, no_further}
+use Rattle.paw_process.proofs.Works.{match_no_further, progress_on, no_further, no_further_on}
 
 -- What is read doesn't change with the innermost frame.
 pub moved_on_none : (f : Frame) (o : AfterCondact) (old new : OpenTables) → ReadsNone old new → ReadsNone old (moved_on f o new)
@@ -91,38 +93,80 @@ enters_match g w f (Some c) zero found table start reached small = (
   tt,
 )
 
+-- Then the table is left.
+pub left_on : (g : GameLists) (m : OpenTables) (f : Frame) (w : World) (t : Option Turned) (new : OpenTables) (w' : World)
+    → HasMoved g (with_frame f m) w t new w' → machine_work new < machine_work (with_frame f m) → Progress (with_frame f m) new
+left_on g m f w t new w' moved less = falls moved.left.left less
+
 module _ {F : Type 0} (calls : Shared F (ℕ × (ℕ × Unit {0})) ℕ) (routines : Routines F) (g : GameLists) where
-  pub entry_starts : (f : Frame) (h : Held) → MayReadNext calls routines g h.machine h.surroundings.world
-      → f.entry < ENTRY_LIMIT → IsInEntry calls routines g f h f h
-  entry_starts f h may entry = record {
+  -- Where reading on begins.
+  pub table_starts : (f : Frame) (h : Held) → MayReadNext calls routines g h.machine h.surroundings.world
+      → IsInTable calls routines g f h going_at f h
+  table_starts f h may = record {
     leads = λ X answers t new k. k;
     may = may;
-    entry = entry;
     after = record { game = may.ready.game; draws = omega arith };
     further = stays refl (omega arith);
   }
 
-  pub entry_goes_on : (start : Frame) (first : Held) (f : Frame) (now : Held) (next : Frame) (new : Held) → IsInEntry calls routines g start first f now
+  -- In an entry that matches.
+  pub entry_starts : (f : Frame) (h : Held) (e : Frame) → MayReadNext calls routines g h.machine h.surroundings.world
+      → Enters g h.surroundings.world f e → IsInTable calls routines g f h reading_at e h
+  entry_starts f h e may enters = record {
+    leads = λ X answers t new k.
+        let s = story_of g X in
+        let fs = below h.machine.frames in
+        reads_from s (going_at s fs f) (reading_at s fs e) h t new (λ r. enters.goes X fs (run_held h r) refl) k;
+    may = may;
+    after = record { game = may.ready.game; draws = omega arith };
+    further = match_no_further h.machine f e enters.low;
+  }
+
+  -- One reading after another, in the same table.
+  pub reading_goes_on : (start : Frame) (first : Held) (f : Frame) (mid : Held) (reading : Story → List Frame → Frame → Run → Out) (e : Frame) (now : Held)
+      → IsInTable calls routines g start first going_at f mid → IsInTable calls routines g f mid reading e now
+      → IsInTable calls routines g start first reading e now
+  reading_goes_on start first f mid reading e now h k = record {
+    leads = λ X answers t new reads. h.leads X answers t new (k.leads X answers t new reads);
+    may = k.may;
+    after = record { game = k.after.game; draws = omega (arith, h.after.draws, k.after.draws) };
+    further = no_further_on (with_frame start first.machine) (with_frame f mid.machine) (with_frame e now.machine) h.further k.further;
+  }
+
+  -- After a condact reading goes on at another frame.
+  pub table_goes_on : (start : Frame) (first : Held) (f : Frame) (now : Held) (next : Frame) (new : Held)
+      → IsInTable calls routines g start first reading_at f now
       → ((X : List (List ℕ)) → AreAnswersOf calls routines X
       → ReadsTable (story_of g X) (reading_at (story_of g X) (below now.machine.frames) f) now None (record new { machine = with_frame next new.machine }))
       → HasStepped g now None new → Progress (with_frame f now.machine) (with_frame next new.machine)
-      → 0 < next.at → next.entry < ENTRY_LIMIT → IsInEntry calls routines g start first next new
-  entry_goes_on start first f now next new h reads stepped progress within entry = record {
+      → IsInTable calls routines g start first going_at next new
+  table_goes_on start first f now next new h reads stepped progress = record {
     leads = λ X answers t last k.
         let s = story_of g X in
         let mid : Held = record new { machine = with_frame next new.machine } in
         h.leads X answers t last
         (reads_on s (reading_at s (below now.machine.frames) f) now mid t last (reads X answers)
-        (reads_from s (going_in s mid.machine.frames) (reading_at s (below new.machine.frames) next) mid t last
-        (λ r. going_inside s (below new.machine.frames) next (run_held mid r) within)
-        (reads_moved s (reading_at s (below new.machine.frames) next) mid new.machine.frames t last k)));
+        (reads_moved s (going_at s (below new.machine.frames) next) mid new.machine.frames t last k));
     may = record {
       ready = record { reading = stepped.stands; game = stepped.step.game };
       answers = h.may.answers;
       draws = omega (arith, stepped.step.draws, h.may.draws);
     };
-    entry = entry;
     after = record { game = stepped.step.game; draws = omega (arith, h.after.draws, stepped.step.draws) };
     further = no_further (with_frame start first.machine) (with_frame next new.machine)
         (progress_on (with_frame start first.machine) (with_frame f now.machine) (with_frame next new.machine) h.further progress);
+  }
+
+  -- Within its entry reading goes on at the next condact.
+  pub entry_goes_on : (start : Frame) (first : Held) (next : Frame) (new : Held) → IsInTable calls routines g start first going_at next new
+      → 0 < next.at → IsInTable calls routines g start first reading_at next new
+  entry_goes_on start first next new h within = record {
+    leads = λ X answers t last k.
+        let s = story_of g X in
+        let fs = below new.machine.frames in
+        h.leads X answers t last
+        (reads_from s (going_at s fs next) (reading_at s fs next) new t last (λ r. going_inside s fs next (run_held new r) within) k);
+    may = h.may;
+    after = h.after;
+    further = h.further;
   }

@@ -1,10 +1,11 @@
 -- The measure of reading.
-use Rattle.std.proofs.Common.{◌≡◌, ◌+◌, ◌-◌, ◌*◌, ◌≤◌, ◌<◌, List, [], ◌∷◌, Option, Some, None, refl, ap, ◌∙◌, length}
+use Rattle.std.proofs.Common.{◌≡◌, ◌+◌, ◌-◌, ◌*◌, ◌≤◌, ◌<◌, List, [], ◌∷◌, Option, Some, None, refl, ◌∙◌, length}
 use Rattle.std.proofs.Common.{arith}
 use Rattle.paw_reading.specs.declared.places.Frame.{Frame}
 use Rattle.paw_reading.specs.declared.places.OpenLoop.{OpenLoop}
 use Rattle.paw_process.specs.inner.OpenTables.{OpenTables}
 use Rattle.paw_process.specs.inner.OpenTables.{below, IsReading}
+use Rattle.paw_process.specs.inner.AfterCondact.{with_frame}
 use Rattle.paw_process.specs.inner.Work.{frames_work, loop_work, machine_work, Progress, counts, falls}
 use Rattle.paw_process.specs.inner.Work.{IsNoFurther, counted, stays}
 
@@ -34,21 +35,11 @@ progresses old new h (counts e) = omega (arith, frames_bound new.frames, loop_bo
 progresses old new h (falls e low) = omega arith
 
 -- The entry that matches next leaves no more to do.
-match_work : (old new : OpenTables) (f f' : Frame) → old.frames ≡ f ∷ below old.frames → new ≡ record old { frames = f' ∷ below old.frames }
-    → f.entry ≤ f'.entry → machine_work new ≤ machine_work old
-match_work old new f f' top e low =
-    let a : machine_work new ≡ (4001 - f'.entry) + 1 + frames_work (below old.frames) + loop_work old.turning = rw e refl in
-    let b : frames_work old.frames ≡ (4001 - f.entry) + 1 + frames_work (below old.frames) = ap (λ (s : List Frame). frames_work s) top in
-    omega (arith, a, b)
+match_work : (fs : List Frame) (f f' : Frame) → f.entry ≤ f'.entry → frames_work (f' ∷ fs) ≤ frames_work (f ∷ fs)
+match_work fs f f' low = omega arith
 
-progress_after : (old mid new : OpenTables) → mid.left ≡ old.left → machine_work mid ≤ machine_work old → Progress mid new → Progress old new
-progress_after old mid new e low (counts k) = counts (omega arith)
-progress_after old mid new e low (falls k less) = falls (k ∙ e) (omega arith)
-
-pub match_progress : (old mid new : OpenTables) (f f' : Frame) → old.frames ≡ f ∷ below old.frames
-    → mid ≡ record old { frames = f' ∷ below old.frames } → f.entry ≤ f'.entry → Progress mid new → Progress old new
-match_progress old mid new f f' top e low h =
-    progress_after old mid new (ap (λ (m : OpenTables). m.left) e) (match_work old mid f f' top e low) h
+pub match_no_further : (m : OpenTables) (f f' : Frame) → f.entry ≤ f'.entry → IsNoFurther (with_frame f m) (with_frame f' m)
+match_no_further m f f' low = stays refl (omega (arith, match_work (below m.frames) f f' low))
 
 -- No further, and then on.
 pub progress_on : (first now new : OpenTables) → IsNoFurther first now → Progress now new → Progress first new
@@ -60,3 +51,9 @@ progress_on first now new (stays e low) (falls k less) = falls (k ∙ e) (omega 
 pub no_further : (old new : OpenTables) → Progress old new → IsNoFurther old new
 no_further old new (counts k) = counted k
 no_further old new (falls k less) = stays k (omega arith)
+
+pub no_further_on : (first now new : OpenTables) → IsNoFurther first now → IsNoFurther now new → IsNoFurther first new
+no_further_on first now new (counted e) (counted k) = counted (omega arith)
+no_further_on first now new (counted e) (stays k less) = counted (omega arith)
+no_further_on first now new (stays e low) (counted k) = counted (omega arith)
+no_further_on first now new (stays e low) (stays k less) = stays (k ∙ e) (omega arith)

@@ -479,51 +479,12 @@ impl<T: Tables, F: Fn(u8, u8) -> u8> StoryReader<'_, T, F> {
         }
     }
 
-    // Reads the condacts of an entry from a cursor on, as long as reading goes on from one to the next. It leaves the
-    // frame where reading goes on then, unless the machine has stopped.
-    fn rest_of_entry(
-        &self,
-        machine: &mut Machine,
-        surroundings: &mut Surroundings,
-        start: CondactCursor,
-        f: &mut Frame,
-    ) -> Option<Turned>
-        requires stands { T.stands self.now.tables.now start }
-        requires may { MayReadNext F.Fn self.now.routines.now
-            (T.game self.now.tables.now) machine.old surroundings.old.world }
-        requires entry { start.entry < ENTRY_LIMIT }
-        requires valid { Valid (T.game self.now.tables.now) }
-        ensures meaning { InStories F.Fn self.now.routines.now (T.game self.now.tables.now) (λ g.
-            ReadsTable g (reading_at g (below machine.old.frames) (frame_of start f.old.acted))
-            (having surroundings.old machine.old) result
-            (having surroundings.new (held_at result f.new machine.new))) }
-        ensures progress { IsNone result →
-            Progress (with_frame (frame_of start f.old.acted) machine.old) (held_at result f.new machine.new) }
-        ensures after { HasStepped (T.game self.now.tables.now) (having surroundings.old machine.old)
-            result (having surroundings.new machine.new) }
-        ensures in_table { ReachesTable result f.new }
+    // The cursor at the condact of a frame.
+    fn cursor_of(&self, f: Frame) -> CondactCursor
+        ensures stands { T.stands self.now.tables.now result }
+        ensures at { frame_of result f.acted ≡ f }
     {
-        let mut cursor = start;
-        let mut acted = f.acted;
-        loop {
-            let here = Frame {
-                table: cursor.table,
-                entry: cursor.entry,
-                at: cursor.at,
-                acted,
-            };
-            match self.read_at_cursor(machine, surroundings, &mut cursor, acted) {
-                AfterCondact::Next(by_now) => acted = by_now,
-                AfterCondact::NextEntry => {
-                    *f = next_entry(here);
-                    return None;
-                }
-                AfterCondact::Moved(turned) => {
-                    machine.take_top(turned, f);
-                    return turned;
-                }
-            }
-        }
+        self.tables.cursor(f.table, f.entry, f.at)
     }
 
     // The cursor at which reading goes on from a frame: inside an entry that of its condact, and at the start of an
@@ -535,15 +496,15 @@ impl<T: Tables, F: Fn(u8, u8) -> u8> StoryReader<'_, T, F> {
         ensures none { IfNone result (EntersNone (T.game self.now.tables.now) world.now f) }
     {
         if f.at > 0 {
-            return Some(self.tables.cursor(f.table, f.entry, f.at));
+            return Some(self.cursor_of(f));
         }
         let verb = world.flag(VERB_FLAG);
         let noun = world.flag(NOUN_FLAG);
         self.tables.match_cursor(f.table, f.entry, verb, noun)
     }
 
-    /// Reads on at a frame in the place of the innermost one: in its entry, or in the next one that matches, as far as
-    /// reading goes on there from one condact to the next. It leaves the frame where reading goes on then, which the
+    /// Reads on at a frame in the place of the innermost one: in its entry, or in the next one that matches, and so on from
+    /// entry to entry, as long as reading goes on in the table. It leaves the frame where reading goes on then, which the
     /// machine needn't hold yet, unless the machine has stopped.
     pub(crate) fn read_on(
         &self,
@@ -565,14 +526,34 @@ impl<T: Tables, F: Fn(u8, u8) -> u8> StoryReader<'_, T, F> {
     {
         // The clause of this call says that the game is valid, which the proof needs. The compiler leaves the call out.
         let _counts = self.tables.counts();
-        match self.enter(&surroundings.world, *f) {
-            None => {
+        'entries: loop {
+            let Some(start) = self.enter(&surroundings.world, *f) else {
                 machine.set_top(*f);
                 let turned = self.leave_level(machine, &mut surroundings.world, f.acted);
                 machine.take_top(turned, f);
-                turned
+                return turned;
+            };
+            let mut cursor = start;
+            let mut acted = f.acted;
+            'condacts: loop {
+                let here = Frame {
+                    table: cursor.table,
+                    entry: cursor.entry,
+                    at: cursor.at,
+                    acted,
+                };
+                match self.read_at_cursor(machine, surroundings, &mut cursor, acted) {
+                    AfterCondact::Next(by_now) => acted = by_now,
+                    AfterCondact::NextEntry => {
+                        *f = next_entry(here);
+                        continue 'entries;
+                    }
+                    AfterCondact::Moved(turned) => {
+                        machine.take_top(turned, f);
+                        return turned;
+                    }
+                }
             }
-            Some(cursor) => self.rest_of_entry(machine, surroundings, cursor, f),
         }
     }
 }

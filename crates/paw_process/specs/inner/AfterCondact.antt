@@ -1,5 +1,5 @@
 -- How reading goes on where the machine doesn't hold the innermost frame yet.
-use Rattle.std.specs.Prelude.{ℕ, ◌+◌, ◌<◌, Bool, ◌∷◌, Option, Some, None}
+use Rattle.std.specs.Prelude.{ℕ, ◌+◌, ◌<◌, Bool, List, ◌∷◌, Option, Some, None}
 use Rattle.std.specs.Fn.{Shared}
 use Rattle.paw_base.specs.declared.limits.TheConstants.{ENTRY_LIMIT}
 use Rattle.paw_game.specs.declared.cursor.CondactCursor.{CondactCursor}
@@ -7,10 +7,12 @@ use Rattle.paw_game.specs.Game.{GameLists}
 use Rattle.paw_routines.specs.declared.routines.Routines.{Routines}
 use Rattle.paw_effects.specs.Story.{Story}
 use Rattle.paw_reading.specs.declared.places.Frame.{Frame}
+use Rattle.paw_reading.specs.Run.{Run}
+use Rattle.paw_reading.specs.Reading.{Out}
 use Rattle.paw_process.specs.inner.OpenTables.{OpenTables}
 use Rattle.paw_process.specs.inner.OpenTables.{below}
-use Rattle.paw_process.specs.inner.Meaning.{InStories, Held}
-use Rattle.paw_process.specs.inner.Moves.{ReadsTable, reading_at}
+use Rattle.paw_process.specs.inner.Meaning.{InStories, Held, going_in}
+use Rattle.paw_process.specs.inner.Moves.{ReadsTable}
 use Rattle.paw_process.specs.inner.Steps.{MayReadNext, IsAfterReading}
 use Rattle.paw_process.specs.inner.Work.{IsNoFurther}
 use Rattle.paw_process.specs.declared.Turned.{Turned}
@@ -47,18 +49,20 @@ abbrev pub ReachesTable : Option Turned → Frame → Type 0
 ReachesTable None f = 0 < f.at → f.entry < ENTRY_LIMIT
 ReachesTable (Some t) f = Unit {0}
 
--- Whatever reading on at the frame of now leads to, reading from the frame where it began leads to.
-abbrev pub LeadsOn : Story → Frame → Held → Frame → Held → Type 0
-LeadsOn g start first f now =
-    (t : Option Turned) (new : Held) →
-    ReadsTable g (reading_at g (below now.machine.frames) f) now t new →
-    ReadsTable g (reading_at g (below first.machine.frames) start) first t new
+-- Reads on in the innermost table at this frame, above these.
+abbrev pub going_at : Story → List Frame → Frame → Run → Out
+going_at g fs f = going_in g (f ∷ fs)
 
--- The machine has read on in an entry from one frame, where it began, to another, and may read the condact there.
-pub record IsInEntry {F : Type 0} (calls : Shared F (ℕ × (ℕ × Unit {0})) ℕ) (routines : Routines F) (g : GameLists)
-    (start : Frame) (first : Held) (f : Frame) (now : Held) : Type 0 where
-  pub leads : InStories calls routines g (λ s. LeadsOn s start first f now)
+-- Whatever reading as y says leads to from what stands now, reading as x says leads to from what stood at first.
+abbrev pub LeadsOn : Story → (Run → Out) → Held → (Run → Out) → Held → Type 0
+LeadsOn g x first y now = (t : Option Turned) (new : Held) → ReadsTable g y now t new → ReadsTable g x first t new
+
+-- The machine has read on in its innermost table from one frame, where it began, to another, and may read on there in
+-- this way: at the frame (`going_at`), or at the condact of an entry that matches (`reading_at`).
+pub record IsInTable {F : Type 0} (calls : Shared F (ℕ × (ℕ × Unit {0})) ℕ) (routines : Routines F) (g : GameLists)
+    (start : Frame) (first : Held) (reading : Story → List Frame → Frame → Run → Out) (f : Frame) (now : Held) : Type 0 where
+  pub leads : InStories calls routines g (λ s.
+      LeadsOn s (going_at s (below first.machine.frames) start) first (reading s (below now.machine.frames) f) now)
   pub may : MayReadNext calls routines g now.machine now.surroundings.world
-  pub entry : f.entry < ENTRY_LIMIT
   pub after : IsAfterReading g first now
   pub further : IsNoFurther (with_frame start first.machine) (with_frame f now.machine)

@@ -1,5 +1,7 @@
-use Rattle.std.proofs.Common.{arith}
+use Rattle.std.proofs.Common.{arith, sym, subst}
 use Rattle.paw_effects.specs.Story.{story_of}
+use Rattle.paw_reading.specs.declared.places.Frame.{Frame}
+use Rattle.paw_process.specs.inner.Moves.{Enters}
 use Rattle.paw_process.proofs.AfterCondacts.{enters_match}
 use Rattle.paw_process.proofs.Steps.{going_inside}
 use Rattle.paw_process.proofs.step.StoryReader.enter.Goals as goal
@@ -7,8 +9,7 @@ use Rattle.paw_process.proofs.step.StoryReader.enter.Goals as goal
 pub returns-then-f-gt0-clause-some : goal.returns-then-f-gt0-clause-some
 returns-then-f-gt0-clause-some g c =
     let lists = g.T.Tables.game c.args.self.now.tables.now in
-    let at = c.cursor.ensures in
-    rw (at.table, at.entry, at.at)
+    subst (λ (e : Frame). Enters lists c.args.world.now c.args.f e) (sym c.cursor_of.ensures.at)
     (record {
       entry = c.requires.place c.if-f-gt0.true;
       low = omega arith;
