@@ -2,11 +2,13 @@
 
 ghost use Rattle.std.specs.Prelude.{◌≡◌, ◌+◌, ◌<◌, false, true, Some};
 ghost use Rattle.paw_base.specs.declared.limits.TheConstants.{ENTRY_LIMIT};
+ghost use Rattle.paw_process.specs.inner.AfterCondact.{frame_of};
 ghost use Rattle.paw_process.specs.inner.Moves.{after_quit, after_key, after_found};
 ghost use Rattle.paw_effects.specs.declared.act.Prompt.TheVariants as prompt;
 
 use paw_base::limits::ENTRY_LIMIT;
 use paw_effects::act::Prompt;
+use paw_game::cursor::CondactCursor;
 use paw_phrase::Found;
 use paw_reading::places::Frame;
 
@@ -22,6 +24,18 @@ pub fn start_of(table: u8) -> Frame
         entry: 0,
         at: 0,
         acted: false,
+    }
+}
+
+/// The frame of a cursor, with an action carried out or not.
+pub fn frame_at(cursor: CondactCursor, acted: bool) -> Frame
+    ensures value { result ≡ frame_of cursor acted }
+{
+    Frame {
+        table: cursor.table,
+        entry: cursor.entry,
+        at: cursor.at,
+        acted,
     }
 }
 

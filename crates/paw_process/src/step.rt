@@ -35,7 +35,7 @@ ghost use Rattle.paw_world.specs.inner.Places.{left_above};
 
 use crate::Turned;
 use crate::after_condact::AfterCondact;
-use crate::frame::{after_found, next_entry, past, start_of};
+use crate::frame::{after_found, frame_at, next_entry, past, start_of};
 use crate::machine::{MOST_FRAMES, Machine};
 use crate::objects::{next_taken, take};
 use crate::phrase::take_phrase;
@@ -467,12 +467,7 @@ impl<T: Tables, F: Fn(u8, u8) -> u8> StoryReader<'_, T, F> {
         ensures moves { (yes : Bool) → result ≡ after_condact.Next yes →
             frame_of cursor.new yes ≡ record (frame_of cursor.old yes) { at = cursor.old.at + 1 } }
     {
-        let f = Frame {
-            table: cursor.table,
-            entry: cursor.entry,
-            at: cursor.at,
-            acted,
-        };
+        let f = frame_at(*cursor, acted);
         match self.tables.next_condact(cursor) {
             None => AfterCondact::NextEntry,
             Some(c) => self.read(machine, surroundings, f, c),
@@ -536,12 +531,7 @@ impl<T: Tables, F: Fn(u8, u8) -> u8> StoryReader<'_, T, F> {
             let mut cursor = start;
             let mut acted = f.acted;
             'condacts: loop {
-                let here = Frame {
-                    table: cursor.table,
-                    entry: cursor.entry,
-                    at: cursor.at,
-                    acted,
-                };
+                let here = frame_at(cursor, acted);
                 match self.read_at_cursor(machine, surroundings, &mut cursor, acted) {
                     AfterCondact::Next(by_now) => acted = by_now,
                     AfterCondact::NextEntry => {

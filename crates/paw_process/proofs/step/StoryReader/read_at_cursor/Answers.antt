@@ -15,13 +15,14 @@ use Rattle.paw_process.proofs.step.StoryReader.read_at_cursor.Goals as goal
 pub read-requires-clause-place : goal.read-requires-clause-place
 read-requires-clause-place g c =
     let old = c.args.cursor.now in
-    record {
+    rw c.frame_at-f.ensures.value
+    (record {
       at = condact-early (g.T.Tables.game c.args.self.now.tables.now) c.requires.valid old.table old.entry old.at c.in-Some.c (sym c.in-Some.ensures.value);
       entry = c.requires.entry;
-    }
+    })
 
 pub read-requires-clause-found : goal.read-requires-clause-found
-read-requires-clause-found g c = sym c.in-Some.ensures.value
+read-requires-clause-found g c = rw c.frame_at-f.ensures.value (sym c.in-Some.ensures.value)
 
 pub read-requires-clause-condact : goal.read-requires-clause-condact
 read-requires-clause-condact g c =
@@ -38,5 +39,8 @@ returns-in-None-clause-meaning g c X answers =
     (record { left = refl; steps = refl })
     (λ r. reading_end game fs f (run_held old r) (sym c.in-None.ensures.value))
 
+pub returns-in-Some-clause-meaning : goal.returns-in-Some-clause-meaning
+returns-in-Some-clause-meaning g c X answers = rw c.frame_at-f.ensures.value at (c.read.ensures.meaning X answers)
+
 pub returns-in-Some-clause-progress : goal.returns-in-Some-clause-progress
-returns-in-Some-clause-progress g c none = counts (omega (arith, c.read.ensures.counts none))
+returns-in-Some-clause-progress g c none = counts (omega (arith, rw c.frame_at-f.ensures.value at (c.read.ensures.counts none)))

@@ -115,7 +115,7 @@ condacts-preserved g c =
     }
 
 pub next_entry-requires : goal.next_entry-requires
-next_entry-requires g c = record { entry = c.condacts.invariant.entry }
+next_entry-requires g c = record { entry = rw c.frame_at-here.ensures.value c.condacts.invariant.entry }
 
 pub entries-smaller : goal.entries-smaller
 entries-smaller g c =
@@ -125,7 +125,7 @@ entries-smaller g c =
     let next : Frame = record (frame_of c.condacts.cursor c.condacts.acted) { entry = c.condacts.cursor.entry + 1; at = 0 } in
     let stepped = stepped_at_frame (g.T.Tables.game c.args.self.now.tables.now) (having c.condacts.surroundings c.condacts.machine)
     (having c.read_at_cursor.new.surroundings new) next c.in-NextEntry.ensures.after (λ h. omega arith) in
-    rw c.next_entry.ensures.value
+    rw (c.next_entry.ensures.value, c.frame_at-here.ensures.value)
     (progresses old (with_frame next new) stepped.stands
     (progress_on old here (with_frame next new) c.condacts.invariant.inside.further (c.in-NextEntry.ensures.progress refl)))
 
@@ -139,7 +139,7 @@ entries-preserved g c =
     let now = having loop.surroundings loop.machine in
     let new = having c.read_at_cursor.new.surroundings c.read_at_cursor.new.machine in
     let next : Frame = record (frame_of loop.cursor loop.acted) { entry = loop.cursor.entry + 1; at = 0 } in
-    rw c.next_entry.ensures.value
+    rw (c.next_entry.ensures.value, c.frame_at-here.ensures.value)
     (record {
       table = reading_goes_on g.F.Fn routines game c.args.f.now first c.entries.f mid going_at next new c.entries.invariant.table
           (table_goes_on g.F.Fn routines game c.entries.f mid (frame_of loop.cursor loop.acted) now next new loop.invariant.inside
