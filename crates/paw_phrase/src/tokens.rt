@@ -32,7 +32,8 @@ fn letter_of(byte: u8) -> Option<u8>
     }
 }
 
-// The token that stands first.
+// The token that stands first. It is inlined, as is what calls it, because a lexeme would be given back through memory.
+#[inline(always)]
 fn first_token(bytes: &[u8]) -> Lexeme
     requires begins { 0 < length bytes.now }
     requires token { is_ascii_alphanumeric (slice_index bytes.now 0) ≡ true }
@@ -60,6 +61,7 @@ fn first_token(bytes: &[u8]) -> Lexeme
 }
 
 /// The first token or separator; None where there are only blanks.
+#[inline(always)]
 pub(crate) fn first_lexeme(bytes: &[u8]) -> Option<Lexeme>
     ensures within { IfSome result (λ lexeme. lexeme.end ≤ length bytes.now) }
     ensures some { IfSome result (λ lexeme. 0 < lexeme.end) }

@@ -73,6 +73,9 @@ impl Model for World {
 }
 
 impl World {
+    // What keeps or fills a whole set of places isn't inlined: a set takes 8,456 bytes of the stack, which the loop that
+    // reads condacts would reserve each time that it begins.
+
     /// The world at the start of a game with these objects, this number of locations and this seed.
     pub fn new(facts: &[ObjectFacts], locations: u8, seed: u64) -> World
         requires few { length facts.now ≤ OBJECT_LIMIT }
@@ -189,6 +192,7 @@ impl World {
     }
 
     /// Flags and places become the saved position.
+    #[inline(never)]
     pub fn ramsave(&mut self)
         ensures change { self.new ≡ position_saved self.old }
     {
@@ -197,6 +201,7 @@ impl World {
     }
 
     /// Takes flags 0 to n and all places from the saved position. Where nothing is saved nothing changes.
+    #[inline(never)]
     pub fn ramload(&mut self, n: u8)
         ensures change { self.new ≡ saved_position_loaded self.old n }
     {
@@ -252,6 +257,7 @@ impl World {
     }
 
     /// Flags and places become the kept position of this number.
+    #[inline(never)]
     pub fn keep(&mut self, n: u8)
         requires known { n < POSITION_COUNT }
         ensures change { self.new ≡ keeping self.old n }
@@ -261,6 +267,7 @@ impl World {
 
     /// Takes all flags and all places from the kept position of this number. No object moves, so no flag counts it.
     /// False exactly where none was kept, and then nothing changes.
+    #[inline(never)]
     pub fn recall(&mut self, n: u8) -> bool
         requires known { n < POSITION_COUNT }
         ensures found { result ≡ is_some (kept_position self.old n) }
@@ -363,6 +370,7 @@ impl World {
     }
 
     /// Gives the flags and places of a game's start. Seed, draws, the saved position and the kept positions stay.
+    #[inline(never)]
     pub fn restart(&mut self)
         ensures change { self.new ≡ world_restarted self.old }
     {
@@ -374,6 +382,7 @@ impl World {
 
     /// Puts all objects back to where they begin. Flag 1 becomes the number of those that begin carried; the other
     /// flags stay.
+    #[inline(never)]
     pub fn return_objects(&mut self)
         ensures change { self.new ≡ with_objects_returned self.old }
     {
