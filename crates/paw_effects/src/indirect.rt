@@ -62,8 +62,10 @@ pub(crate) fn as_plain<T: Tables>(tables: &T, world: &World, c: Condact) -> Opti
     ensures right { IfSome result (λ d. is_right (T.game tables.now) d ≡ true) }
     ensures kind { IfSome result (λ d. is_condition d ≡ is_condition c) }
 {
+    // A plain code is its own. Asked for here too, it is known to be that of a condition where it was found to be one.
+    let code = plain_code(c.code);
     if c.code < INDIRECT {
-        Some(c)
+        Some(Condact { code, ..c })
     } else {
         plain_with(tables, c, world.flag(c.a))
     }
