@@ -1,17 +1,9 @@
 -- The steps that are kept.
-use Rattle.std.proofs.Common.{arith, ℕ, zero, suc, ◌≡◌, ◌<◌, ◌≤◌, List, [], ◌∷◌, ◌++◌, length, take, slice_set, ap, sym}
-use Rattle.std.proofs.Common.{◌∙◌, refl}
-use Rattle.std.proofs.Math.Seq.{take-suc-set}
-use Rattle.std.proofs.lemmas.List.{take_all, length-take-le, length-append}
-use Rattle.paw_base.specs.declared.limits.TheConstants.{STEP_LIMIT}
+use Rattle.std.proofs.Common.{arith, ℕ, zero, suc, ◌≡◌, List, [], ◌∷◌, ◌++◌, length, take, ap, sym, ◌∙◌, refl}
+use Rattle.std.proofs.lemmas.List.{length-append}
 use Rattle.paw_base.specs.declared.steps.StepRow.{StepRow}
-use Rattle.paw_base.specs.inner.Steps.{kept_steps, with_step_noted}
-
--- A row that is put after the first n rows stands right after them.
-pub take_put : (xs : List StepRow) (n : ℕ) (y : StepRow) → n < length xs → take (suc n) (slice_set xs n y) ≡ take (length xs) (take n xs ++ y ∷ [])
-take_put xs n y h =
-    let fits : length (take n xs ++ y ∷ []) ≤ length xs = rw (length-append (take n xs) (y ∷ []), length-take-le n xs (omega arith)) (omega arith) in
-    take-suc-set xs n y h ∙ sym (take_all (length xs) (take n xs ++ y ∷ []) fits)
+use Rattle.paw_base.specs.inner.Steps.{KeptSteps}
+use Rattle.paw_base.specs.inner.Steps.{no_steps, kept_steps, with_step_noted}
 
 -- Cutting off twice is cutting off once.
 take_again : (n : ℕ) (xs ys : List StepRow) → take n (take n xs ++ ys) ≡ take n (xs ++ ys)
@@ -20,8 +12,17 @@ take_again (suc n) [] ys = refl
 take_again (suc n) (x ∷ xs) ys = ap (λ zs. x ∷ zs) (take_again n xs ys)
 
 -- A step that is noted stands at the end of the steps.
-pub kept_noted : (steps : List StepRow) (step : StepRow) → with_step_noted step (kept_steps steps) ≡ kept_steps (steps ++ step ∷ [])
-kept_noted steps step =
+pub kept_noted : (most : ℕ) (steps : List StepRow) (step : StepRow) → with_step_noted step (kept_steps most steps) ≡ kept_steps most (steps ++ step ∷ [])
+kept_noted most steps step =
     let count : suc (length steps) ≡ length (steps ++ step ∷ []) = rw (length-append steps (step ∷ [])) (omega arith) in
-    ap (λ rows. record { rows = rows; count = suc (length steps) }) (take_again STEP_LIMIT steps (step ∷ []))
-    ∙ ap (λ n. record { rows = take STEP_LIMIT (steps ++ step ∷ []); count = n }) count
+    ap (λ rows. record { most = most; rows = rows; count = suc (length steps) }) (take_again most steps (step ∷ []))
+    ∙ ap (λ n. record { most = most; rows = take most (steps ++ step ∷ []); count = n }) count
+
+-- What is kept says itself how many at most are.
+pub kept_as_said : (most : ℕ) (steps : List StepRow) (kept : KeptSteps) → kept ≡ kept_steps most steps → kept ≡ kept_steps kept.most steps
+kept_as_said most steps kept e = e ∙ ap (λ n. kept_steps n steps) (sym (ap (λ (k : KeptSteps). k.most) e))
+
+-- Of no steps none are kept.
+pub kept_none : (most : ℕ) → no_steps most ≡ kept_steps most []
+kept_none zero = refl
+kept_none (suc most) = refl

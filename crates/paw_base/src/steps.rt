@@ -1,6 +1,7 @@
 // The steps of a piece: the condacts that were read for it.
 
-ghost use Rattle.std.specs.Prelude.{◌≡◌, ◌<◌, suc, ◌∷◌, [], ◌++◌, take, length};
+ghost use Rattle.std.specs.Prelude.{◌≡◌, ◌<◌, ◌≤◌, take, length, slice_set};
+ghost use Rattle.paw_base.specs.declared.limits.TheConstants.{STEP_LIMIT};
 ghost use Rattle.paw_base.specs.inner.Steps.{KeptSteps};
 ghost use Rattle.paw_base.specs.inner.Steps.{no_steps, with_step_noted};
 
@@ -27,55 +28,64 @@ const NO_STEP: StepRow = StepRow {
     yes: false,
 };
 
-/// The condacts that were read for a piece: the first 1,000 of them, and how many there were. It takes no memory.
+/// The condacts that were read for a piece: how many there were, and the first ones, of which at most so many are kept as
+/// it was made for. It takes no memory.
 #[derive(Drop)]
 pub struct Steps {
     rows: [StepRow; STEP_LIMIT],
     count: u32,
+    most: usize,
 }
 
 impl Model for Steps {
-    ghost use Rattle.std.specs.Prelude.{take};
+    ghost use Rattle.std.specs.Prelude.{◌≡◌, ◌≤◌, length, take};
+    ghost use Rattle.paw_base.specs.declared.limits.TheConstants.{STEP_LIMIT};
     ghost use Rattle.paw_base.specs.inner.Steps.{KeptSteps};
 
     ghost Value = { KeptSteps };
 
-    ghost view = { λ s. record { rows = take s.count s.rows; count = s.count } };
+    ghost view = { λ s. record { most = s.most; rows = take s.count (take s.most s.rows); count = s.count } };
+
+    ghost invariant = { λ s. (s.most ≤ STEP_LIMIT) × (length s.rows ≡ STEP_LIMIT) };
 }
 
 impl Steps {
-    /// No steps.
-    pub fn new() -> Steps
-        ensures value { result ≡ no_steps }
+    /// No steps. At most so many of those that are noted are kept, the first ones; all are counted.
+    pub fn new(most: usize) -> Steps
+        requires most { most ≤ STEP_LIMIT }
+        ensures value { result ≡ no_steps most }
     {
         Steps {
             rows: [NO_STEP; STEP_LIMIT],
             count: 0,
+            most,
         }
     }
 
-    /// Forgets all steps.
+    /// Forgets all steps. As many as before may be kept from here on.
     pub fn clear(&mut self)
-        ensures value { self.new ≡ no_steps }
+        ensures value { self.new ≡ no_steps self.old.most }
     {
         self.count = 0;
     }
 
-    /// Notes one step more. It is kept where fewer than 1,000 are.
+    /// Notes one step more. It is kept where fewer than the most are.
     pub fn note(&mut self, row: StepRow)
         requires count { self.old.count < 4294967295 }
         ensures value { self.new ≡ with_step_noted row self.old }
     {
         let count = self.count;
-        keep(&mut self.rows, count as usize, row);
+        if (count as usize) < self.most {
+            keep(&mut self.rows, count as usize, row);
+        }
         self.count = count + 1;
     }
 
-    /// The steps that are kept: the first 1,000.
+    /// The steps that are kept: the first ones.
     pub fn rows(&self) -> &[StepRow]
         ensures value { result.now ≡ self.now.rows }
     {
-        up_to(&self.rows, self.count as usize)
+        up_to(up_to(&self.rows, self.most), self.count as usize)
     }
 
     /// How many steps there were.
@@ -93,12 +103,13 @@ fn up_to(rows: &[StepRow], count: usize) -> &[StepRow]
     &rows[..count.min(rows.len())]
 }
 
-// Puts a step after the first `count` rows, where there is room.
+// Puts a step after the first `count` rows. It stands by itself because most players only count their steps: the code of
+// a play has no row to put together there.
+#[cold]
+#[inline(never)]
 fn keep(rows: &mut [StepRow], count: usize, row: StepRow)
-    ensures rows { take (suc count) rows.new ≡ take (length rows.old) (take count rows.old ++ row ∷ []) }
-    ensures length { length rows.new ≡ length rows.old }
+    requires room { count < length rows.old }
+    ensures rows { rows.new ≡ slice_set rows.old count row }
 {
-    if count < rows.len() {
-        rows[count] = row;
-    }
+    rows[count] = row;
 }

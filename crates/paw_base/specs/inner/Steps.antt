@@ -1,21 +1,21 @@
 -- The steps of a piece: the condacts that are read for it. Definitions for contracts between crates, and for proofs.
 use Rattle.std.specs.Prelude.{ℕ, suc, List, [], ◌∷◌, ◌++◌, length, take}
-use Rattle.paw_base.specs.declared.limits.TheConstants.{STEP_LIMIT}
 use Rattle.paw_base.specs.declared.steps.StepRow.{StepRow}
 
--- What is kept of the steps of a piece: the first 1,000, and how many there were.
+-- What is kept of the steps of a piece: the first ones, at most so many of them, and how many there were.
 pub record KeptSteps : Type 0 where
+  pub most : ℕ
   pub rows : List StepRow
   pub count : ℕ
 
--- What is kept of these steps.
-abbrev pub kept_steps : List StepRow → KeptSteps
-kept_steps steps = record { rows = take STEP_LIMIT steps; count = length steps }
+-- What is kept of these steps, where at most so many are.
+abbrev pub kept_steps : ℕ → List StepRow → KeptSteps
+kept_steps most steps = record { most = most; rows = take most steps; count = length steps }
 
--- No steps at all.
-abbrev pub no_steps : KeptSteps
-no_steps = record { rows = []; count = 0 }
+-- No steps at all, where at most so many are kept.
+abbrev pub no_steps : ℕ → KeptSteps
+no_steps most = record { most = most; rows = []; count = 0 }
 
--- One step more, which is kept where fewer than 1,000 are.
+-- One step more, which is kept where fewer than the most are.
 abbrev pub with_step_noted : StepRow → KeptSteps → KeptSteps
-with_step_noted step kept = record { rows = take STEP_LIMIT (kept.rows ++ step ∷ []); count = suc kept.count }
+with_step_noted step kept = record kept { rows = take kept.most (kept.rows ++ step ∷ []); count = suc kept.count }

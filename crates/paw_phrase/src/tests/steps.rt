@@ -1,5 +1,6 @@
 // Steps, noted past their limit.
 
+use paw_base::limits::STEP_LIMIT;
 use paw_base::steps::{StepRow, Steps};
 use std::process::Abort;
 use std::test::Fail;
@@ -21,7 +22,7 @@ fn note(rt: &impl Abort, steps: &mut Steps, entry: u16) {
 
 #[test]
 fn the_first_thousand_steps_are_kept_and_all_are_counted(rt: HostRuntime) -> Result<(), Fail> {
-    let mut steps = Steps::new();
+    let mut steps = Steps::new(STEP_LIMIT);
     assert!(rt; steps.rows().is_empty() && steps.count() == 0);
     for entry in 0..1001 {
         note(&rt, &mut steps, entry);
@@ -32,5 +33,16 @@ fn the_first_thousand_steps_are_kept_and_all_are_counted(rt: HostRuntime) -> Res
     note(&rt, &mut steps, 7);
     assert_eq!(rt; steps.rows(), [step(7)].as_slice());
     assert_eq!(rt; steps.count(), 1);
+    Ok(())
+}
+
+#[test]
+fn where_none_are_kept_steps_are_counted(rt: HostRuntime) -> Result<(), Fail> {
+    let mut steps = Steps::new(0);
+    for entry in 0..3 {
+        note(&rt, &mut steps, entry);
+    }
+    assert!(rt; steps.rows().is_empty());
+    assert_eq!(rt; steps.count(), 3);
     Ok(())
 }
