@@ -1,5 +1,5 @@
 -- Reading on in a table, condact by condact and entry by entry.
-use Rattle.std.proofs.Common.{◌≡◌, ℕ, ◌<◌, ◌≤◌, List, ◌∷◌, Option, Some, None, refl, sym, ap, suc, length, arith}
+use Rattle.std.proofs.Common.{◌≡◌, ℕ, ◌<◌, ◌≤◌, List, ◌∷◌, Option, Some, None, refl, sym, ap, ◌∙◌, suc, length, arith}
 use Rattle.std.specs.Prelude.{IfSome, IfNone}
 use Rattle.std.specs.Option.{option_map}
 use Rattle.std.specs.Fn.{Shared}
@@ -61,7 +61,7 @@ stepped_at_frame g old new f h entry =
     let ready = ready_at_frame g new.machine new.surroundings.world f (record { reading = h.stands; game = h.step.game }) entry in
     record {
       stands = ready.reading;
-      step = record { game = h.step.game; draws = h.step.draws };
+      step = record { game = h.step.game; draws = h.step.draws; most = h.step.most };
     }
 
 pub at_frame_same : (m : OpenTables) (f : Frame) → m.frames ≡ f ∷ below m.frames → with_frame f m ≡ m
@@ -72,7 +72,7 @@ pub stepped_on : (g : GameLists) (first now : Held) (t : Option Turned) (new : H
     → HasStepped g now t new → HasStepped g first t new
 stepped_on g first now t new h k = record {
   stands = k.stands;
-  step = record { game = k.step.game; draws = omega (arith, h.draws, k.step.draws) };
+  step = record { game = k.step.game; draws = omega (arith, h.draws, k.step.draws); most = k.step.most ∙ h.most };
 }
 
 -- The entry that matches next.
@@ -105,7 +105,7 @@ module _ {F : Type 0} (calls : Shared F (ℕ × (ℕ × Unit {0})) ℕ) (routine
   table_starts f h may = record {
     leads = λ X answers t new k. k;
     may = may;
-    after = record { game = may.ready.game; draws = omega arith };
+    after = record { game = may.ready.game; draws = omega arith; most = refl };
     further = stays refl (omega arith);
   }
 
@@ -118,7 +118,7 @@ module _ {F : Type 0} (calls : Shared F (ℕ × (ℕ × Unit {0})) ℕ) (routine
         let fs = below h.machine.frames in
         reads_from s (going_at s fs f) (reading_at s fs e) h t new (λ r. enters.goes X fs (run_held h r) refl) k;
     may = may;
-    after = record { game = may.ready.game; draws = omega arith };
+    after = record { game = may.ready.game; draws = omega arith; most = refl };
     further = match_no_further h.machine f e enters.low;
   }
 
@@ -129,7 +129,7 @@ module _ {F : Type 0} (calls : Shared F (ℕ × (ℕ × Unit {0})) ℕ) (routine
   reading_goes_on start first f mid reading e now h k = record {
     leads = λ X answers t new reads. h.leads X answers t new (k.leads X answers t new reads);
     may = k.may;
-    after = record { game = k.after.game; draws = omega (arith, h.after.draws, k.after.draws) };
+    after = record { game = k.after.game; draws = omega (arith, h.after.draws, k.after.draws); most = k.after.most ∙ h.after.most };
     further = no_further_on (with_frame start first.machine) (with_frame f mid.machine) (with_frame e now.machine) h.further k.further;
   }
 
@@ -152,7 +152,11 @@ module _ {F : Type 0} (calls : Shared F (ℕ × (ℕ × Unit {0})) ℕ) (routine
       answers = h.may.answers;
       draws = omega (arith, stepped.step.draws, h.may.draws);
     };
-    after = record { game = stepped.step.game; draws = omega (arith, h.after.draws, stepped.step.draws) };
+    after = record {
+      game = stepped.step.game;
+      draws = omega (arith, h.after.draws, stepped.step.draws);
+      most = stepped.step.most ∙ h.after.most;
+    };
     further = no_further (with_frame start first.machine) (with_frame next new.machine)
         (progress_on (with_frame start first.machine) (with_frame f now.machine) (with_frame next new.machine) h.further progress);
   }

@@ -15,7 +15,7 @@ use Rattle.paw_reading.specs.declared.places.Frame.{Frame}
 use Rattle.paw_reading.specs.declared.places.OpenLoop.{OpenLoop}
 use Rattle.paw_process.specs.declared.kept.Frames.{Frames}
 use Rattle.paw_process.specs.inner.OpenTables.{OpenTables}
-use Rattle.paw_process.specs.inner.OpenTables.{budget_refilled}
+use Rattle.paw_process.specs.inner.OpenTables.{refilled_to_keep}
 use Rattle.paw_process.proofs.OpenFrames.{length_frames}
 use Rattle.paw_process.proofs.Restored.{first_of, second, no_first}
 use Rattle.paw_process.specs.Kept.{frames_at, parameter_of}
@@ -31,13 +31,13 @@ use Rattle.paw_process.specs.inner.Kept.{machine_restored, waiting_at, WaitsAtPr
 pub path_again : (path : List Frame) (turning : Option OpenLoop) → take (length path) (frames_at path turning).rows ≡ path
 path_again path turning = take-append_seam path (replicate (11 - length path) blank_frame)
 
-again_at : (m : OpenTables) (waiting : Option Prompt) → m.waiting ≡ waiting → machine_restored (machine_kept m) waiting ≡ budget_refilled m
+again_at : (m : OpenTables) (waiting : Option Prompt) → m.waiting ≡ waiting → machine_restored (machine_kept m) waiting ≡ refilled_to_keep 0 m
 again_at m waiting is =
-    ap (λ (fs : List Frame). record { frames = fs; turning = m.turning; waiting = waiting; left = READ_LIMIT; steps = no_steps })
+    ap (λ (fs : List Frame). record { frames = fs; turning = m.turning; waiting = waiting; left = READ_LIMIT; steps = no_steps 0 })
     (ap (λ (s : List Frame). reverse s) (path_again (reverse m.frames) m.turning) ∙ reverse-reverse m.frames)
-    ∙ ap (λ (w : Option Prompt). record { frames = m.frames; turning = m.turning; waiting = w; left = READ_LIMIT; steps = no_steps }) (sym is)
+    ∙ ap (λ (w : Option Prompt). record { frames = m.frames; turning = m.turning; waiting = w; left = READ_LIMIT; steps = no_steps 0 }) (sym is)
 
-pub restored_again : (p : Prompt) (m : OpenTables) → WaitsAtPrompt p m → machine_restored (machine_kept m) (waiting_at p) ≡ budget_refilled m
+pub restored_again : (p : Prompt) (m : OpenTables) → WaitsAtPrompt p m → machine_restored (machine_kept m) (waiting_at p) ≡ refilled_to_keep 0 m
 restored_again prompt.Main m stands = again_at m None stands.waiting
 restored_again prompt.Quit m stands = again_at m (Some prompt.Quit) stands.waiting
 restored_again prompt.Again m stands = again_at m (Some prompt.Again) stands.waiting
@@ -45,7 +45,7 @@ restored_again prompt.Key m stands = again_at m (Some prompt.Key) stands.waiting
 restored_again prompt.Over m stands = again_at m None stands.waiting
 
 pub kept_again : (p : Prompt) (k : Frames) (m : OpenTables) → k ≡ machine_kept m → WaitsAtPrompt p m
-    → machine_restored k (waiting_at p) ≡ budget_refilled m
+    → machine_restored k (waiting_at p) ≡ refilled_to_keep 0 m
 kept_again p k m is stands = ap (λ (u : Frames). machine_restored u (waiting_at p)) is ∙ restored_again p m stands
 
 -- ---- the same frames again ----

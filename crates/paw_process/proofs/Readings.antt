@@ -6,7 +6,7 @@ use Rattle.std.proofs.lemmas.List.{append_assoc, append-nil}
 use Rattle.paw_base.specs.declared.parts.Condact.{Condact}
 use Rattle.paw_base.specs.inner.Steps.{KeptSteps}
 use Rattle.paw_base.specs.inner.Steps.{with_step_noted as noted_step}
-use Rattle.paw_base.proofs.Noted.{kept_noted}
+use Rattle.paw_base.proofs.Noted.{kept_noted, kept_as_said}
 use Rattle.paw_base.specs.declared.fault.SpentKind.TheVariants as spent
 use Rattle.paw_effects.specs.Story.{Story}
 use Rattle.paw_game.specs.Tables.{condact_at}
@@ -241,12 +241,19 @@ module _ (g : Story) (old mid : OpenTables) (f : Frame) (c : Condact) (s : Surro
 
 -- ---- steps ----
 
+-- Where nothing is read what was read stays.
+pub has_still : (read : List Step) (old new : OpenTables) → HasRead read old → ReadsNone old new → HasRead read new
+has_still read old new has none = record {
+  left = omega (arith, has.left, none.left);
+  steps = kept_as_said old.steps.most read new.steps (none.steps ∙ has.steps);
+}
+
 -- Nothing was read.
 pub reads_nothing : (g : Story) (x : Run → Out) (old : Held) (t : Option Turned) (new : Held) → ReadsNone old.machine new.machine
     → ((r : Run) → Continues g (x (run_held old r)) t new.machine.frames (run_held new r)) → ReadsTable g x old t new
 reads_nothing g x old t new none h r has = (
   [],
-  rw (append-nil r.read) (record { left = omega (arith, none.left, has.left); steps = none.steps ∙ has.steps }),
+  rw (append-nil r.read) (has_still r.read old.machine new.machine has none),
   λ lines. rw (append-nil r.read) (h (to_come lines r)),
 )
 
@@ -266,7 +273,8 @@ reads_moved g x old fs t new k r has = k r (record { left = has.left; steps = ha
 more_read : (read : List Step) (step : Step) (old new : OpenTables) → HasRead read old → ReadsStep step old new → HasRead (read ++ step ∷ []) new
 more_read read step old new has one = record {
   left = omega (arith, has.left, one.left, length-append read (step ∷ []));
-  steps = one.steps ∙ ap (λ (kept : KeptSteps). noted_step step kept) has.steps ∙ kept_noted read step;
+  steps = kept_as_said old.steps.most (read ++ step ∷ []) new.steps
+      (one.steps ∙ ap (λ (kept : KeptSteps). noted_step step kept) has.steps ∙ kept_noted old.steps.most read step);
 }
 
 -- A condact was read.
@@ -287,7 +295,7 @@ pub reads_spent : (g : Story) (fs : List Frame) (f : Frame) (c : Condact) (old :
     → t ≡ Some (turned.Halted (halt.Spent spent.Condacts)) → ReadsTable g (reading_at g fs f) old t new
 reads_spent g fs f c old t new is none same e r has = (
   [],
-  rw (append-nil r.read) (record { left = omega (arith, same.left, has.left); steps = same.steps ∙ has.steps }),
+  rw (append-nil r.read) (has_still r.read old.machine new.machine has same),
   λ lines.
       stops_halted g _ t (halt.Spent spent.Condacts) new.machine.frames _ (to_come lines (run_held old r)) refl e
       (reading_none g fs f (to_come lines (run_held old r)) c is (omega (arith, has.left, none)))

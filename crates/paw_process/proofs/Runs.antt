@@ -1,5 +1,5 @@
 -- A run, step by step.
-use Rattle.std.proofs.Common.{ℕ, List, Some, None, refl, arith}
+use Rattle.std.proofs.Common.{ℕ, List, Some, None, refl, ◌∙◌, arith}
 use Rattle.std.specs.Fn.{Shared}
 use Rattle.paw_game.specs.Game.{GameLists}
 use Rattle.paw_routines.specs.declared.routines.Routines.{Routines}
@@ -19,7 +19,7 @@ module _ {F : Type 0} (calls : Shared F (ℕ × (ℕ × Unit {0})) ℕ) (routine
     reads = λ X answers.
         reads_nothing (story_of g X) (going_in (story_of g X) h.machine.frames) h None h (record { left = refl; steps = refl }) (λ r. refl);
     reading = ready.reading;
-    after = record { game = ready.game; draws = omega arith };
+    after = record { game = ready.game; draws = omega arith; most = refl };
   }
 
   pub running_on : (first now new : Held) → IsRunning calls routines g first now
@@ -29,7 +29,7 @@ module _ {F : Type 0} (calls : Shared F (ℕ × (ℕ × Unit {0})) ℕ) (routine
     reads = λ X answers.
         reads_on (story_of g X) (going_in (story_of g X) first.machine.frames) first now None new (h.reads X answers) (reads X answers);
     reading = reading;
-    after = record { game = after.game; draws = omega (arith, h.after.draws, after.draws) };
+    after = record { game = after.game; draws = omega (arith, h.after.draws, after.draws); most = after.most ∙ h.after.most };
   }
 
   pub running_ends : (first now : Held) (t : Turned) (new : Held) → IsRunning calls routines g first now

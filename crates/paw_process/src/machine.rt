@@ -9,10 +9,11 @@ ghost use Rattle.paw_effects.specs.declared.act.Prompt.TheVariants as prompt;
 ghost use Rattle.paw_reading.specs.Reading.{step_at};
 ghost use Rattle.paw_reading.specs.Turn.{first_table};
 ghost use Rattle.paw_reading.specs.inner.Places.{AreFramesAndLoop};
+ghost use Rattle.paw_base.specs.declared.limits.TheConstants.{STEP_LIMIT};
 ghost use Rattle.paw_process.specs.declared.machine.TheConstants.{MOST_FRAMES};
 ghost use Rattle.paw_process.specs.inner.OpenTables.{OpenTables};
 ghost use Rattle.paw_process.specs.inner.OpenTables.{below, ReadsStep, IsReading, IsClosed};
-ghost use Rattle.paw_process.specs.inner.OpenTables.{new_machine, budget_refilled, table_begun};
+ghost use Rattle.paw_process.specs.inner.OpenTables.{new_machine, refilled_to_keep, budget_refilled, table_begun};
 ghost use Rattle.paw_process.specs.inner.Kept.{machine_kept as kept_of};
 ghost use Rattle.paw_process.specs.inner.Kept.{frames_fault};
 ghost use Rattle.paw_process.specs.inner.Kept.{machine_restored, waiting_at, WaitsAtPrompt};
@@ -70,16 +71,18 @@ impl Model for Machine {
 }
 
 impl Machine {
-    /// A machine with no open table, a full budget, and no steps.
-    pub fn new() -> Machine
-        ensures value { result ≡ new_machine }
+    /// A machine with no open table, a full budget, and no steps. It keeps at most so many steps of a piece, the first
+    /// ones, and counts the others.
+    pub fn new(most: usize) -> Machine
+        requires most { most ≤ STEP_LIMIT }
+        ensures value { result ≡ new_machine most }
     {
         Machine {
             frames: [start_of(0); MOST_FRAMES],
             count: 0,
             turning: None,
             waiting: None,
-            steps: Steps::new(),
+            steps: Steps::new(most),
         }
     }
 
@@ -92,7 +95,7 @@ impl Machine {
         self.push(start_of(table));
     }
 
-    /// Fills up the budget and drops the steps, as for a new piece.
+    /// Fills up the budget and drops the steps, as for a new piece, of which it keeps as many steps as before.
     pub fn refill(&mut self)
         ensures value { self.new ≡ budget_refilled self.old }
     {
@@ -155,12 +158,12 @@ impl Machine {
     }
 
     /// The frames of the machine and its loop, to be kept where it waits. Restored at the prompt where it waits, they
-    /// give the same machine with a full budget and no steps; and they can be restored wherever they are frames of a
-    /// run.
+    /// give the same machine with a full budget and no steps, of which it keeps none; and they can be restored wherever
+    /// they are frames of a run.
     pub fn frames(&self) -> Frames
         ensures value { result ≡ kept_of self.now }
         ensures again { (p : AtPrompt) → WaitsAtPrompt p self.now →
-            machine_restored result (waiting_at p) ≡ budget_refilled self.now }
+            machine_restored result (waiting_at p) ≡ refilled_to_keep 0 self.now }
         ensures sound { (g : GameLists) (p : AtPrompt) →
             AreFramesAndLoop g p (reverse self.now.frames) self.now.turning → frames_fault g p result ≡ None }
     {
@@ -173,8 +176,8 @@ impl Machine {
         }
     }
 
-    /// A machine with kept frames that waits at this prompt, with a full budget and no steps. Its `frames` are these
-    /// again.
+    /// A machine with kept frames that waits at this prompt, with a full budget and no steps: it only counts those of the
+    /// pieces to come. Its `frames` are these again.
     ///
     /// # Errors
     /// The least depth at which the frames break a rule, exactly where they break one for this game: inside tables the
@@ -203,12 +206,12 @@ impl Machine {
             count: kept.count as usize,
             turning: kept.turning,
             waiting: waiting_at(prompt),
-            steps: Steps::new(),
+            steps: Steps::new(0),
         })
     }
 
-    /// The steps of the open piece, or of the piece that was closed last: the first 1,000 condacts that were read for
-    /// it, and how many there were.
+    /// The steps of the open piece, or of the piece that was closed last: how many condacts were read for it, and the
+    /// first ones, as many as the machine was made to keep.
     pub fn steps(&self) -> &Steps
         ensures value { result.now ≡ self.now.steps }
     {

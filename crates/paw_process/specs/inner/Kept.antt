@@ -29,14 +29,14 @@ blank_frame = record { table = 0; entry = 0; at = 0; acted = false }
 abbrev pub machine_kept : OpenTables → Frames
 machine_kept m = frames_at (reverse m.frames) m.turning
 
--- The machine of what is kept, which waits at this prompt, with a full budget and no steps.
+-- The machine of what is kept, which waits at this prompt, with a full budget and no steps; it keeps none.
 abbrev pub machine_restored : Frames → Option Prompt → OpenTables
 machine_restored k waiting = record {
   frames = reverse (take k.count k.rows);
   turning = k.turning;
   waiting = waiting;
   left = READ_LIMIT;
-  steps = no_steps;
+  steps = no_steps 0;
 }
 
 -- ---- the rules ----

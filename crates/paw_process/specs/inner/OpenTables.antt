@@ -18,10 +18,11 @@ pub record OpenTables : Type 0 where
   pub left : ℕ
   pub steps : KeptSteps
 
--- The open piece has read these condacts, and with what it may still read that makes as many as a piece may.
+-- The open piece has read these condacts, and with what it may still read that makes as many as a piece may. Of its steps
+-- as many are kept as the machine keeps.
 pub record HasRead (read : List Step) (m : OpenTables) : Type 0 where
   pub left : length read + m.left ≡ READ_LIMIT
-  pub steps : m.steps ≡ kept_steps read
+  pub steps : m.steps ≡ kept_steps m.steps.most read
 
 -- No condact was read.
 pub record ReadsNone (old new : OpenTables) : Type 0 where
@@ -82,13 +83,17 @@ pub record IsWaiting (p : Prompt) (m : OpenTables) : Type 0 where
   pub condacts : AtCondacts m.frames
   pub waiting : m.waiting ≡ Some p
 
--- No table is open, the budget is full, and there are no steps.
-abbrev pub new_machine : OpenTables
-new_machine = record { frames = []; turning = None; waiting = None; left = READ_LIMIT; steps = no_steps }
+-- No table is open, the budget is full, and there are no steps, of which at most so many are kept.
+abbrev pub new_machine : ℕ → OpenTables
+new_machine most = record { frames = []; turning = None; waiting = None; left = READ_LIMIT; steps = no_steps most }
 
--- The budget is full again, and there are no steps.
+-- The budget is full again, and there are no steps, of which at most so many are kept from here on.
+abbrev pub refilled_to_keep : ℕ → OpenTables → OpenTables
+refilled_to_keep most m = record m { left = READ_LIMIT; steps = no_steps most }
+
+-- The budget is full again, and there are no steps, of which as many are kept as before.
 abbrev pub budget_refilled : OpenTables → OpenTables
-budget_refilled m = record m { left = READ_LIMIT; steps = no_steps }
+budget_refilled m = refilled_to_keep m.steps.most m
 
 -- This table alone is open, at its start.
 abbrev pub table_begun : ℕ → OpenTables → OpenTables

@@ -48,10 +48,11 @@ pub record HasMoved (g : GameLists) (old : OpenTables) (w : World) (t : Option T
   pub game : IsOf g w'
   pub draws : w'.draws ≡ w.draws
 
--- The world is the game's still, and each draw is paid for by a condact.
+-- The world is the game's still, each draw is paid for by a condact, and as many steps are kept as before.
 pub record IsAfterReading (g : GameLists) (old new : Held) : Type 0 where
   pub game : IsOf g new.surroundings.world
   pub draws : new.surroundings.world.draws + new.machine.left ≤ old.surroundings.world.draws + old.machine.left
+  pub most : new.machine.steps.most ≡ old.machine.steps.most
 
 -- A condact was read: the machine may read on or has stopped, and the world is as the condact leaves it.
 pub record HasStepped (g : GameLists) (old : Held) (t : Option Turned) (new : Held) : Type 0 where

@@ -55,7 +55,7 @@ loop-turned-preserved g c =
           (λ X answers.
           reads_moved (story_of game X) (going_in (story_of game X) (f ∷ below c.loop-turned.self.frames)) now c.loop-turned.self.frames None new
           (c.in-None.ensures.meaning X answers))
-          stepped.stands (record { game = stepped.step.game; draws = stepped.step.draws });
+          stepped.stands (record { game = stepped.step.game; draws = stepped.step.draws; most = stepped.step.most });
       held = c.in-None.ensures.after.stands;
     }
 

@@ -1,5 +1,6 @@
-use Rattle.std.proofs.Common.{◌+◌, ◌*◌, ◌<◌, refl, sym, subst, arith}
+use Rattle.std.proofs.Common.{◌+◌, ◌*◌, ◌<◌, refl, sym, ap, subst, arith}
 use Rattle.paw_base.specs.declared.limits.TheConstants.{ENTRY_LIMIT}
+use Rattle.paw_base.specs.inner.Steps.{KeptSteps}
 use Rattle.paw_effects.specs.Story.{story_of}
 use Rattle.paw_reading.specs.declared.places.Frame.{Frame}
 use Rattle.paw_process.proofs.Readings.{reads_nothing}
@@ -63,7 +64,14 @@ returns-in_default-clause-after g c =
     let moved = rw c.set_top.ensures.value at left.ensures.after in
     stepped_on (g.T.Tables.game c.args.self.now.tables.now) (having c.args.surroundings.now c.args.machine.now) now left.result new
     c.entries.invariant.table.after
-    (record { stands = moved.stands; step = record { game = moved.game; draws = omega (arith, moved.draws, moved.left.left) } })
+    (record {
+      stands = moved.stands;
+      step = record {
+        game = moved.game;
+        draws = omega (arith, moved.draws, moved.left.left);
+        most = ap (λ (k : KeptSteps). k.most) moved.left.steps;
+      };
+    })
 
 pub condacts-init : goal.condacts-init
 condacts-init g c =
