@@ -25,7 +25,8 @@ use Rattle.paw_turn.specs.declared.turn.PlayState.{PlayState}
 use Rattle.paw_turn.specs.inner.Player.{StandsAt}
 use Rattle.paw_turn.specs.inner.Phases.{Past, run_now, having_read, HasReadSome, GoesOnAs, MovesAfter, PlaysAs}
 use Rattle.paw_turn.specs.inner.Phases.{RunsAs, from_prompt, from_path, StopsInTable, AwaitsAt, in_world}
-use Rattle.paw_turn.proofs.Falling.{some_past, has_still}
+use Rattle.paw_process.proofs.Readings.{has_still}
+use Rattle.paw_turn.proofs.Falling.{some_past}
 use Rattle.paw_reading.proofs.Stays.{IsInner, WaitsThere, path_waits}
 use Rattle.paw_turn.proofs.Waiting.{stops_in}
 use Rattle.paw_turn.proofs.Hearing.{main_ignored}

@@ -1,6 +1,7 @@
 -- What is left to do falls from phase to phase.
 use Rattle.std.proofs.Common.{◌≡◌, ℕ, zero, suc, ◌+◌, ◌*◌, ◌<◌, ◌≤◌, List, [], ◌++◌, sym, ap, ◌∙◌, subst, arith, lit≤}
 use Rattle.std.proofs.Common.{length-append}
+use Rattle.paw_base.proofs.Noted.{kept_none}
 use Rattle.paw_effects.specs.Story.{Story}
 use Rattle.paw_reading.specs.declared.places.Frame.{Frame}
 use Rattle.paw_reading.specs.Run.{Run, Step as Read}
@@ -29,12 +30,11 @@ pub some_past : (h : PlayState) → HasReadSome h.machine → (past : Past) × H
 some_past h some = (record { read = some.0; pieces = []; traces = [] }, some.1)
 
 -- A new machine has read nothing.
-pub none_yet : (m : OpenTables) → m ≡ new_machine → HasRead [] m
-none_yet m e = record { left = omega (arith, ap (λ (n : OpenTables). n.left) e); steps = ap (λ (n : OpenTables). n.steps) e }
-
--- Where nothing is read what was read stays.
-pub has_still : (read : List Read) (old new : OpenTables) → HasRead read old → ReadsNone old new → HasRead read new
-has_still read old new has none = record { left = omega (arith, has.left, none.left); steps = none.steps ∙ has.steps }
+pub none_yet : (m : OpenTables) → m ≡ new_machine m.steps.most → HasRead [] m
+none_yet m e = record {
+  left = omega (arith, ap (λ (n : OpenTables). n.left) e);
+  steps = ap (λ (n : OpenTables). n.steps) e ∙ kept_none m.steps.most;
+}
 
 pub equal_none : (old new : OpenTables) → new ≡ old → ReadsNone old new
 equal_none old new e = record { left = ap (λ (m : OpenTables). m.left) e; steps = ap (λ (m : OpenTables). m.steps) e }

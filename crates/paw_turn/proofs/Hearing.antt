@@ -12,7 +12,8 @@ use Rattle.paw_turn.specs.declared.phase.Next.{Next}
 use Rattle.paw_turn.specs.declared.phase.Next.TheVariants as next
 use Rattle.paw_turn.specs.declared.turn.PlayState.{PlayState}
 use Rattle.paw_process.specs.inner.OpenTables.{ReadsNone}
-use Rattle.paw_turn.proofs.Falling.{has_still, equal_none}
+use Rattle.paw_process.proofs.Readings.{has_still}
+use Rattle.paw_turn.proofs.Falling.{equal_none}
 use Rattle.paw_turn.specs.inner.Phases.{Past, run_now, at_phase, GoesOnAs, Moves, PlaysAs, from_prompt, in_world}
 use Rattle.paw_turn.specs.inner.Phases.{with_world_and_line}
 

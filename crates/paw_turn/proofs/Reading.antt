@@ -10,7 +10,7 @@ use Rattle.paw_process.specs.inner.Meaning.{having, RunsTo}
 use Rattle.paw_process.specs.declared.Turned.{Turned}
 use Rattle.paw_turn.specs.declared.phase.Next.{Next}
 use Rattle.paw_turn.specs.declared.turn.PlayState.{PlayState}
-use Rattle.paw_turn.proofs.Falling.{has_still}
+use Rattle.paw_process.proofs.Readings.{has_still}
 use Rattle.paw_turn.specs.inner.Phases.{run_now, having_read, Moves, ReadsTurn, MovesAfter, RunsAs, from_table}
 
 -- The machine has read the table that it opened.

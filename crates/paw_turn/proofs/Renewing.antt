@@ -27,7 +27,7 @@ use Rattle.paw_turn.specs.declared.phase.Phase.TheVariants as phase
 use Rattle.paw_turn.specs.declared.phase.Next.TheVariants as next
 use Rattle.paw_turn.specs.declared.turn.PlayState.{PlayState}
 use Rattle.paw_process.specs.inner.OpenTables.{ReadsNone}
-use Rattle.paw_turn.proofs.Falling.{has_still}
+use Rattle.paw_process.proofs.Readings.{has_still}
 use Rattle.paw_turn.specs.inner.Phases.{Past, run_from, run_now, PlaysAs, from_prompt, ChangesFlags, halting, or_spent}
 
 -- At no the game is over or the piece is spent, and else it starts anew.

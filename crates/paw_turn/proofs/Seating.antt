@@ -23,7 +23,7 @@ use Rattle.paw_reading.specs.Turn.{first_table}
 use Rattle.paw_reading.specs.inner.Places.{AreFramesAndLoop, IsLoopOf}
 use Rattle.paw_phrase.specs.Pending.{PendingLine}
 use Rattle.paw_process.specs.inner.OpenTables.{OpenTables}
-use Rattle.paw_process.specs.inner.OpenTables.{IsWaiting, IsClosed, new_machine, budget_refilled}
+use Rattle.paw_process.specs.inner.OpenTables.{IsWaiting, IsClosed, new_machine, refilled_to_keep}
 use Rattle.paw_process.specs.inner.Kept.{machine_kept, is_that_table}
 use Rattle.paw_process.specs.inner.Kept.{first_frame_fault, loop_stands, loop_fault}
 use Rattle.paw_process.specs.Kept.{count_fits, waiting_code}
@@ -140,7 +140,7 @@ module _ {F : Type 0} (p : PlayerView F) (seated : IsSeated p) (standing : IsSta
       ap (λ (s : Step). record { game = p.game; routines = p.routines; world = p.world; pending = p.pending; machine = p.machine; piece = []; last = s })
       (step_again p.last p.machine seated.machine standing)
 
-  pub seated_as : seated_again p ≡ record p { piece = []; machine = budget_refilled p.machine }
+  pub seated_as : seated_again p ≡ record p { piece = []; machine = refilled_to_keep 0 p.machine }
   seated_as =
       ap (λ (m : OpenTables). seat_at p.game p.routines p.world m p.pending (prompt_at p.last))
       (restored_again (prompt_at p.last) p.machine (machine_stands p.last p.machine seated.machine standing))
@@ -149,7 +149,7 @@ module _ {F : Type 0} (p : PlayerView F) (seated : IsSeated p) (standing : IsSta
         routines = p.routines;
         world = p.world;
         pending = p.pending;
-        machine = budget_refilled p.machine;
+        machine = refilled_to_keep 0 p.machine;
         piece =
             [];
         last = s;
@@ -194,7 +194,7 @@ taken_fits p m seated standing is =
     subst (λ (n : OpenTables). Fits p.game p.world n p.pending (prompt_at p.last))
     (sym (is ∙ restored_again (prompt_at p.last) p.machine (machine_stands p.last p.machine seated.machine standing)))
     (record {
-      machine = machine_alike (prompt_at p.last) p.machine READ_LIMIT no_steps fits.machine;
+      machine = machine_alike (prompt_at p.last) p.machine READ_LIMIT (no_steps 0) fits.machine;
       rightly = record { world = k.world; places = k.places; line = k.line; pending = k.pending; earlier = k.earlier; piece = refl; read = refl };
     })
 
@@ -208,9 +208,9 @@ same_fits p g w m q at seated standing game world machine pending prompt_is =
 
 -- ---- a player that starts anew ----
 
-pub begun : {F : Type 0} (p : PlayerView F) (seed : ℕ) → Valid p.game → p.world ≡ opening_world p.game seed → p.pending ≡ record { bytes = []; earlier = 255 }
-    → p.machine ≡ new_machine → p.last ≡ step.Waits prompt.Main → IsSeated p
-begun p seed valid world pending machine last = record {
+pub begun : {F : Type 0} (p : PlayerView F) (seed most : ℕ) → Valid p.game → p.world ≡ opening_world p.game seed → p.pending ≡ record { bytes = []; earlier = 255 }
+    → p.machine ≡ new_machine most → p.last ≡ step.Waits prompt.Main → IsSeated p
+begun p seed most valid world pending machine last = record {
   valid = valid;
   machine = rw (last, machine) (record { frames = refl; turning = refl; waiting = refl });
   rightly = λ standing. rw (last, world, pending, machine) (record {
@@ -224,9 +224,9 @@ begun p seed valid world pending machine last = record {
   });
 }
 
-pub renewed : {F : Type 0} (p q : PlayerView F) (seed : ℕ) → IsSeated p → q.game ≡ p.game → q.world ≡ opening_world q.game seed
-    → q.pending ≡ record { bytes = []; earlier = 255 } → q.machine ≡ new_machine → q.last ≡ step.Waits prompt.Main → IsSeated q
-renewed p q seed seated game = begun q seed (subst Valid (sym game) seated.valid)
+pub renewed : {F : Type 0} (p q : PlayerView F) (seed most : ℕ) → IsSeated p → q.game ≡ p.game → q.world ≡ opening_world q.game seed
+    → q.pending ≡ record { bytes = []; earlier = 255 } → q.machine ≡ new_machine most → q.last ≡ step.Waits prompt.Main → IsSeated q
+renewed p q seed most seated game = begun q seed most (subst Valid (sym game) seated.valid)
 
 -- A new player may play its first piece.
 pub new_ready : {F : Type 0} (g : GameLists) (routines : Routines F) (h : PlayState) (last : Step) → Valid g

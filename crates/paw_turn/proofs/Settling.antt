@@ -1,5 +1,6 @@
 -- From some phases to the whole reading.
 use Rattle.std.proofs.Common.{◌≡◌, ◌≢◌, ℕ, List, [], ◌∷◌, Option, None, reverse, refl, sym, ap, ◌∙◌}
+use Rattle.paw_base.proofs.Noted.{kept_none}
 use Rattle.paw_effects.specs.Story.{Story}
 use Rattle.paw_world.specs.World.{World}
 use Rattle.paw_phrase.specs.Pending.{PendingLine}
@@ -109,7 +110,7 @@ pub take_plays : {F : Type 0} (g : Story) (routines : Routines F) (p : Prompt) (
     PlaysTo g (λ lines. going_on_from g p (reverse old.machine.frames) (run_at seat pieces traces (line ∷ lines))) (step_of s)
     (seat_of g.game routines (turn_settled (step_of s) new) (step_of s)) pieces traces
 take_plays g routines p old new line s pieces traces plays =
-    let t = plays (before pieces traces) (record { left = refl; steps = refl }) in
+    let t = plays (before pieces traces) (record { left = refl; steps = kept_none old.machine.steps.most }) in
     let seat = seat_of g.game routines old (step.Waits p) in
     settles g routines (λ m lines. from_prompt g p (opened_piece old) line m (before pieces traces) lines)
     (λ lines. going_on_from g p (reverse old.machine.frames) (run_at seat pieces traces (line ∷ lines)))

@@ -2,7 +2,7 @@
 
 ghost use Rattle.std.specs.Prelude.{◌≡◌, ◌+◌, ◌<◌, ◌≤◌, ◌^◌, List, [], ◌∷◌, None, length, reverse, IfOk};
 ghost use Rattle.paw_base.specs.Bytes.{RoutineAnswers, Texts};
-ghost use Rattle.paw_base.specs.declared.limits.TheConstants.{LINE_LIMIT, PIECE_LIMIT, READ_LIMIT};
+ghost use Rattle.paw_base.specs.declared.limits.TheConstants.{LINE_LIMIT, PIECE_LIMIT, READ_LIMIT, STEP_LIMIT};
 ghost use Rattle.paw_routines.specs.Routines.{AreAnswersOf, HaveAnswers};
 ghost use Rattle.paw_effects.specs.Story.{story_of};
 ghost use Rattle.paw_effects.specs.declared.act.Prompt.{Prompt as AtPrompt};
@@ -60,7 +60,9 @@ impl<'a, T: Tables, F: Fn(u8, u8) -> u8> Model for Player<'a, T, F> {
 }
 
 impl<'a, T: Tables, F: Fn(u8, u8) -> u8> Player<'a, T, F> {
-    /// A player at the start of a game that calls these routines, with the seed of its random draws.
+    /// A player at the start of a game that calls these routines, with the seed of its random draws. Of the steps of a
+    /// piece it keeps at most so many, the first ones: they are kept only where they are shown, because keeping them takes
+    /// time. All are counted.
     ///
     /// # Errors
     /// NoRoom where there is no memory for a piece.
@@ -69,24 +71,27 @@ impl<'a, T: Tables, F: Fn(u8, u8) -> u8> Player<'a, T, F> {
         tables: &'a T,
         routines: &'a Routines<F>,
         seed: u64,
+        most: usize,
     ) -> Result<Player<'a, T, F>, NoRoom>
+        requires most { most ≤ STEP_LIMIT }
         ensures game { IfOk result (λ p. p.game ≡ T.game tables.now) }
         ensures routines { IfOk result (λ p. p.routines ≡ routines.now) }
         ensures new { IfOk result (λ p. IsNew p seed) }
+        ensures most { IfOk result (λ p. p.machine.steps.most ≡ most) }
         ensures last { IfOk result (λ p. p.last ≡ step.Waits prompt.Main) }
         ensures seated { IfOk result IsSeated }
     {
         let piece = Piece::new(alloc)?;
         Ok(Player {
             rules: TurnRules { tables, routines },
-            turn: PlayState::new(tables, seed, piece),
+            turn: PlayState::new(tables, seed, piece, most),
             last: TurnStop::Waits(Prompt::Main),
         })
     }
 
     /// A player of a game that calls these routines, which stands at a prompt with these parts, lent or restored
     /// earlier: they stand there as a run of the game may. The next line goes on from there; where the game is over the
-    /// player is finished.
+    /// player is finished. It keeps as many steps as the machine does.
     ///
     /// # Errors
     /// NoRoom where there is no memory for a piece. The parts are gone then.
@@ -120,12 +125,14 @@ impl<'a, T: Tables, F: Fn(u8, u8) -> u8> Player<'a, T, F> {
         })
     }
 
-    /// Goes back to the start of the game, with another seed: the player is as `new` gives it. Takes no memory.
+    /// Goes back to the start of the game, with another seed: the player is as `new` gives it, and keeps as many steps as
+    /// before. Takes no memory.
     pub fn renew(&mut self, seed: u64)
         requires seated { IsSeated self.old }
         ensures game { self.new.game ≡ self.old.game }
         ensures routines { self.new.routines ≡ self.old.routines }
         ensures new { IsNew self.new seed }
+        ensures most { self.new.machine.steps.most ≡ self.old.machine.steps.most }
         ensures last { self.new.last ≡ step.Waits prompt.Main }
         ensures seated { IsSeated self.new }
     {
@@ -157,6 +164,7 @@ impl<'a, T: Tables, F: Fn(u8, u8) -> u8> Player<'a, T, F> {
             PlaysTo g (reading g self.old.world.seed) result self.new [] [] }
         ensures seated { IsSeated self.new }
         ensures draws { self.new.world.draws ≤ self.old.world.draws + READ_LIMIT }
+        ensures most { self.new.machine.steps.most ≡ self.old.machine.steps.most }
     {
         let stop = self.rules.play(&mut self.turn, Phase::Describe);
         self.turn.settle(stop);
@@ -184,6 +192,7 @@ impl<'a, T: Tables, F: Fn(u8, u8) -> u8> Player<'a, T, F> {
             (result ≡ self.old.last) × (self.new ≡ record self.old { piece = [] }) }
         ensures seated { IsSeated self.new }
         ensures draws { self.new.world.draws ≤ self.old.world.draws + READ_LIMIT }
+        ensures most { self.new.machine.steps.most ≡ self.old.machine.steps.most }
     {
         let TurnStop::Waits(prompt) = self.last else {
             self.turn.clear_piece();
@@ -205,8 +214,8 @@ impl<'a, T: Tables, F: Fn(u8, u8) -> u8> Player<'a, T, F> {
         self.turn.piece()
     }
 
-    /// The steps of the last piece: the first 1,000 condacts that were read for it, and how many there were. After
-    /// Spent and TooDeep they are those of the piece that wasn't closed.
+    /// The steps of the last piece: how many condacts were read for it, and the first ones, as many as the player keeps.
+    /// After Spent and TooDeep they are those of the piece that wasn't closed.
     pub fn steps(&self) -> &Steps
         ensures value { result.now ≡ self.now.machine.steps }
     {

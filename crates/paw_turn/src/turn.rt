@@ -3,7 +3,7 @@
 ghost use Rattle.std.specs.Prelude.{◌≡◌, suc, ◌+◌, ◌*◌, ◌<◌, ◌≤◌, ℕ, [], length, None};
 ghost use Rattle.std.specs.Prelude.{false};
 ghost use Rattle.paw_base.specs.Bytes.{RoutineAnswers};
-ghost use Rattle.paw_base.specs.declared.limits.TheConstants.{PIECE_LIMIT};
+ghost use Rattle.paw_base.specs.declared.limits.TheConstants.{PIECE_LIMIT, STEP_LIMIT};
 ghost use Rattle.paw_base.specs.declared.words.TheConstants.{NO_WORD};
 ghost use Rattle.paw_base.specs.inner.Piece.{Puts};
 ghost use Rattle.paw_game.specs.Valid.{Valid};
@@ -80,12 +80,13 @@ pub(crate) fn or_spent(shown: bool, next: Next) -> Next
 }
 
 impl PlayState {
-    /// A turn at the start of a game, with this piece.
-    pub(crate) fn new<T: Tables>(tables: &T, seed: u64, piece: Piece) -> PlayState
+    /// A turn at the start of a game, with this piece, which keeps at most so many steps.
+    pub(crate) fn new<T: Tables>(tables: &T, seed: u64, piece: Piece, most: usize) -> PlayState
+        requires most { most ≤ STEP_LIMIT }
         ensures valid { Valid (T.game tables.now) }
         ensures world { result.surroundings.world ≡ opening_world (T.game tables.now) seed }
         ensures pending { result.surroundings.pending ≡ record { bytes = []; earlier = NO_WORD } }
-        ensures machine { result.machine ≡ new_machine }
+        ensures machine { result.machine ≡ new_machine most }
         ensures piece { result.surroundings.piece ≡ piece }
     {
         PlayState {
@@ -94,19 +95,21 @@ impl PlayState {
                 pending: Pending::new(),
                 piece,
             },
-            machine: Machine::new(),
+            machine: Machine::new(most),
         }
     }
 
-    /// Goes back to the start of a game, with an empty piece.
+    /// Goes back to the start of a game, with an empty piece. It keeps as many steps as before.
     pub(crate) fn renew<T: Tables>(&mut self, tables: &T, seed: u64)
         ensures world { self.new.surroundings.world ≡ opening_world (T.game tables.now) seed }
         ensures pending { self.new.surroundings.pending ≡ record { bytes = []; earlier = NO_WORD } }
-        ensures machine { self.new.machine ≡ new_machine }
+        ensures machine { self.new.machine ≡ new_machine self.old.machine.steps.most }
         ensures piece { self.new.surroundings.piece ≡ [] }
     {
-        let world = opening_world(tables, seed);
-        self.seat(world, Machine::new(), Pending::new());
+        self.surroundings.world = opening_world(tables, seed);
+        self.surroundings.pending = Pending::new();
+        self.machine.close();
+        self.open_piece();
     }
 
     /// Goes on with these parts in the place of its own, and with an empty piece.

@@ -17,7 +17,7 @@ use Rattle.paw_process.specs.declared.machine.TheConstants.{MOST_FRAMES}
 use Rattle.paw_process.specs.inner.OpenTables.{OpenTables}
 use Rattle.paw_process.specs.inner.Kept.{machine_kept}
 use Rattle.paw_process.specs.inner.Kept.{frames_fault}
-use Rattle.paw_process.specs.inner.OpenTables.{budget_refilled}
+use Rattle.paw_process.specs.inner.OpenTables.{refilled_to_keep}
 use Rattle.paw_process.specs.inner.Kept.{machine_restored, waiting_at}
 use Rattle.paw_process.specs.inner.Kept.{WaitsAtPrompt as MachineStandsAt}
 use Rattle.paw_process.specs.declared.kept.Frames.{Frames}
@@ -78,11 +78,12 @@ seated_again p =
     let at = prompt_at p.last in
     seat_at p.game p.routines p.world (machine_restored (machine_kept p.machine) (waiting_at at)) p.pending at
 
--- A player seated with its own parts is the same, except that it shows no piece, keeps no steps, and has a full budget.
+-- A player seated with its own parts is the same, except that it shows no piece, has a full budget and no steps, and keeps
+-- none.
 abbrev pub SeatedAgain : Type 0 → Type 0
 SeatedAgain F =
     (p : PlayerView F) → IsSeated p → IsStanding p.last →
-    seated_again p ≡ record p { piece = []; machine = budget_refilled p.machine }
+    seated_again p ≡ record p { piece = []; machine = refilled_to_keep 0 p.machine }
 
 -- What follows from lines depends on neither the last piece, nor the budget that it left, nor its steps: each line
 -- opens a piece of its own.

@@ -186,11 +186,12 @@ abbrev pub StandsBefore : Next → OpenTables → Type 0
 StandsBefore (next.Go s) m = IsClosed m
 StandsBefore (next.Stop stop) m = StandsClosed (step_of stop) m
 
--- The world is the game's still, and each draw is paid for by a condact.
+-- The world is the game's still, each draw is paid for by a condact, and as many steps are kept as before.
 pub record Stays (g : GameLists) (old new : PlayState) : Type 0 where
   pub world : IsOf g new.surroundings.world
   pub left : new.machine.left ≤ old.machine.left
   pub draws : new.surroundings.world.draws + new.machine.left ≤ old.surroundings.world.draws + old.machine.left
+  pub most : new.machine.steps.most ≡ old.machine.steps.most
 
 -- The same holds after a phase, and the machine stands as what comes next needs it.
 pub record StaysInGame (g : GameLists) (old : PlayState) (next : Next) (new : PlayState) : Type 0 where

@@ -87,15 +87,15 @@ PlayHalts whole halt new pieces traces =
 
 -- Playing on in a story ends this way. Whatever lines come after, the whole reading of them goes on from the player's
 -- prompt with one more piece; or is over with one more piece, as the player stands; or is spent, or a call is too deep,
--- with no further piece and none to show. Of the piece that was closed the player keeps the steps.
+-- with no further piece and none to show. Of the piece that was closed the player keeps as many steps as it keeps of each.
 abbrev pub PlaysTo : {F : Type 0} → Story → (Lines → Ending) → Step → PlayerView F → Texts → List (List Read) → Type 0
 PlaysTo g whole (step.Waits p) new pieces traces =
-    (read : List Read) × ((new.machine.steps ≡ kept_steps read) × ((lines : Lines) →
+    (read : List Read) × ((new.machine.steps ≡ kept_steps new.machine.steps.most read) × ((lines : Lines) →
     whole lines
     ≡ going_on_from g p (reverse new.machine.frames)
     (run_at new (pieces ++ new.piece ∷ []) (traces ++ read ∷ []) lines)))
 PlaysTo g whole step.Ended new pieces traces =
-    (read : List Read) × ((new.machine.steps ≡ kept_steps read) × ((lines : Lines) →
+    (read : List Read) × ((new.machine.steps ≡ kept_steps new.machine.steps.most read) × ((lines : Lines) →
     whole lines ≡ Halted halt.Over (run_at new (pieces ++ new.piece ∷ []) (traces ++ read ∷ []) lines)))
 PlaysTo g whole s new pieces traces = MatchOption (step_halt s) ⊥ (λ halt. PlayHalts whole halt new pieces traces)
 
@@ -141,9 +141,9 @@ pub record IsSeated {F : Type 0} (p : PlayerView F) : Type 0 where
   pub machine : StandsClosed p.last p.machine
   pub rightly : IsStanding p.last → StandRightly p.game (prompt_at p.last) p.world p.machine p.pending
 
--- A player that is new: the game is at its start, and no piece was made.
+-- A player that is new: the game is at its start, and no piece was made. It may keep any number of steps.
 pub record IsNew {F : Type 0} (p : PlayerView F) (seed : Seed) : Type 0 where
   pub world : p.world ≡ opening_world p.game seed
   pub pending : p.pending ≡ record { bytes = []; earlier = NO_WORD }
-  pub machine : p.machine ≡ new_machine
+  pub machine : p.machine ≡ new_machine p.machine.steps.most
   pub piece : p.piece ≡ []

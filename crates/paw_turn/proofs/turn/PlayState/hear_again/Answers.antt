@@ -28,7 +28,8 @@ returns-then-not-begins_with-clause-keeps g c =
     let of = restarted_of _ c.tell_timeout.new.world
     (changed_of _ c.args.self.now.surroundings.world c.tell_timeout.new.world c.requires.playable.world c.tell_timeout.ensures.only) in
     let world = subst (IsOf (g.T.Tables.game c.args.tables.now)) (sym c.restart.ensures.change) of in
-    record { stays = record { world = world; left = omega arith; draws = omega arith }; machine = c.close.ensures.closed }
+    let most = ap (λ (m : OpenTables). m.steps.most) c.close.ensures.value in
+    record { stays = record { world = world; left = omega arith; draws = omega arith; most = most }; machine = c.close.ensures.closed }
 
 pub returns-clause-meaning : goal.returns-clause-meaning
 returns-clause-meaning g c X =

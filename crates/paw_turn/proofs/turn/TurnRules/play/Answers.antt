@@ -1,4 +1,4 @@
-use Rattle.std.proofs.Common.{arith, suc}
+use Rattle.std.proofs.Common.{arith, suc, refl, ◌∙◌}
 use Rattle.paw_reading.specs.Turn.{turn}
 use Rattle.paw_turn.specs.inner.Phases.{at_phase}
 use Rattle.paw_effects.specs.Story.{Story, story_of}
@@ -13,7 +13,7 @@ loop-phase-init g c = record {
   read = c.requires.may.read;
   plays = λ X answers. plays_none (story_of (g.T.Tables.game c.args.self.now.tables.now) X) c.args.first c.args.state.now;
   keeps = record {
-    stays = record { world = c.requires.may.ready.playable.world; left = omega arith; draws = omega arith };
+    stays = record { world = c.requires.may.ready.playable.world; left = omega arith; draws = omega arith; most = refl };
     machine = c.requires.may.ready.closed;
   };
 }
@@ -34,7 +34,12 @@ loop-phase-preserved g c =
           plays_on (story_of (g.T.Tables.game c.args.self.now.tables.now) X) c.args.first phase c.args.state.now before after
           (next.Go c.in-Go.next) (v.plays X answers) (e.meaning X answers);
       keeps = record {
-        stays = record { world = e.keeps.stays.world; left = omega arith; draws = omega arith };
+        stays = record {
+          world = e.keeps.stays.world;
+          left = omega arith;
+          draws = omega arith;
+          most = e.keeps.stays.most ∙ v.keeps.stays.most;
+        };
         machine = e.keeps.machine;
       };
     }

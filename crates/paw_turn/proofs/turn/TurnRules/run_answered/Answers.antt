@@ -33,4 +33,5 @@ returns-clause-stays g c =
       left = runs_left (story_of (g.T.Tables.game c.args.self.now.tables.now) c.requires.answers.0) _ c.args.state.now new
           c.run.result c.requires.ready.read (returns-clause-runs g c c.requires.answers.0 c.requires.answers.1);
       draws = omega (arith, c.run.ensures.after.draws, c.tell_timeout.ensures.only.draws);
+      most = c.run.ensures.after.most ∙ ap (λ m. m.steps.most) c.answer.ensures.rest;
     }

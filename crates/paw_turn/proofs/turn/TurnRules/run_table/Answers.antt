@@ -1,4 +1,4 @@
-use Rattle.std.proofs.Common.{ap, arith}
+use Rattle.std.proofs.Common.{ap, ◌∙◌, arith}
 use Rattle.paw_effects.specs.Story.{story_of}
 use Rattle.paw_turn.specs.declared.turn.PlayState.{PlayState}
 use Rattle.paw_turn.proofs.Reading.{begun_runs}
@@ -28,4 +28,9 @@ returns-clause-stops g c =
 pub returns-clause-stays : goal.returns-clause-stays
 returns-clause-stays g c =
     let same = ap (λ m. m.left) c.begin.ensures.value in
-    record { world = c.run.ensures.after.game; left = (returns-clause-uses g c).left; draws = omega (arith, c.run.ensures.after.draws) }
+    record {
+      world = c.run.ensures.after.game;
+      left = (returns-clause-uses g c).left;
+      draws = omega (arith, c.run.ensures.after.draws);
+      most = c.run.ensures.after.most ∙ ap (λ m. m.steps.most) c.begin.ensures.value;
+    }
