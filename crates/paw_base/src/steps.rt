@@ -28,8 +28,8 @@ const NO_STEP: StepRow = StepRow {
     yes: false,
 };
 
-/// The condacts that were read for a piece: how many there were, and the first ones, of which at most so many are kept as
-/// it was made for. It takes no memory.
+/// The condacts that were read for a piece: how many there were, and the first ones, at most as many as are to be kept. It
+/// takes no memory.
 #[derive(Drop)]
 pub struct Steps {
     rows: [StepRow; STEP_LIMIT],
@@ -50,7 +50,7 @@ impl Model for Steps {
 }
 
 impl Steps {
-    /// No steps. At most so many of those that are noted are kept, the first ones; all are counted.
+    /// No steps. Of those that are noted this number is kept at most, the first ones; all are counted.
     pub fn new(most: usize) -> Steps
         requires most { most ≤ STEP_LIMIT }
         ensures value { result ≡ no_steps most }

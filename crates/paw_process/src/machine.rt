@@ -71,8 +71,8 @@ impl Model for Machine {
 }
 
 impl Machine {
-    /// A machine with no open table, a full budget, and no steps. It keeps at most so many steps of a piece, the first
-    /// ones, and counts the others.
+    /// A machine with no open table, a full budget, and no steps. Of the steps of a piece it keeps this number at most, the
+    /// first ones; all are counted.
     pub fn new(most: usize) -> Machine
         requires most { most ≤ STEP_LIMIT }
         ensures value { result ≡ new_machine most }

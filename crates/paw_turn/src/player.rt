@@ -61,8 +61,8 @@ impl<'a, T: Tables, F: Fn(u8, u8) -> u8> Model for Player<'a, T, F> {
 
 impl<'a, T: Tables, F: Fn(u8, u8) -> u8> Player<'a, T, F> {
     /// A player at the start of a game that calls these routines, with the seed of its random draws. Of the steps of a
-    /// piece it keeps at most so many, the first ones: they are kept only where they are shown, because keeping them takes
-    /// time. All are counted.
+    /// piece it keeps this number at most, the first ones: they are to be kept only where they are shown, because keeping
+    /// them takes time. All are counted.
     ///
     /// # Errors
     /// NoRoom where there is no memory for a piece.

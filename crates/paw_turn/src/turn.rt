@@ -80,7 +80,7 @@ pub(crate) fn or_spent(shown: bool, next: Next) -> Next
 }
 
 impl PlayState {
-    /// A turn at the start of a game, with this piece, which keeps at most so many steps.
+    /// A turn at the start of a game, with this piece. It keeps this number of steps at most.
     pub(crate) fn new<T: Tables>(tables: &T, seed: u64, piece: Piece, most: usize) -> PlayState
         requires most { most ≤ STEP_LIMIT }
         ensures valid { Valid (T.game tables.now) }

@@ -2,17 +2,17 @@
 use Rattle.std.specs.Prelude.{ℕ, suc, List, [], ◌∷◌, ◌++◌, length, take}
 use Rattle.paw_base.specs.declared.steps.StepRow.{StepRow}
 
--- What is kept of the steps of a piece: the first ones, at most so many of them, and how many there were.
+-- What is kept of the steps of a piece: the first ones, how many of them at most, and how many there were.
 pub record KeptSteps : Type 0 where
   pub most : ℕ
   pub rows : List StepRow
   pub count : ℕ
 
--- What is kept of these steps, where at most so many are.
+-- What is kept of these steps, where this number is kept at most.
 abbrev pub kept_steps : ℕ → List StepRow → KeptSteps
 kept_steps most steps = record { most = most; rows = take most steps; count = length steps }
 
--- No steps at all, where at most so many are kept.
+-- No steps at all, where this number is kept at most.
 abbrev pub no_steps : ℕ → KeptSteps
 no_steps most = record { most = most; rows = []; count = 0 }
 

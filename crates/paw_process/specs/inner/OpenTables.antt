@@ -83,11 +83,11 @@ pub record IsWaiting (p : Prompt) (m : OpenTables) : Type 0 where
   pub condacts : AtCondacts m.frames
   pub waiting : m.waiting ≡ Some p
 
--- No table is open, the budget is full, and there are no steps, of which at most so many are kept.
+-- No table is open, the budget is full, and there are no steps, of which this number is kept at most.
 abbrev pub new_machine : ℕ → OpenTables
 new_machine most = record { frames = []; turning = None; waiting = None; left = READ_LIMIT; steps = no_steps most }
 
--- The budget is full again, and there are no steps, of which at most so many are kept from here on.
+-- The budget is full again, and there are no steps, of which this number is kept at most from here on.
 abbrev pub refilled_to_keep : ℕ → OpenTables → OpenTables
 refilled_to_keep most m = record m { left = READ_LIMIT; steps = no_steps most }
 
