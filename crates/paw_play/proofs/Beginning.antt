@@ -77,7 +77,7 @@ module _ {F : Type 0} {g : Story} {s : PlayedSession} {first kept : Standing} {n
   machine_stands = subst (λ q. StandsClosed q next.machine) b.last b.seated.machine
 
   text_is : text_of (s.whole []) ≡ next.piece
-  text_is = text_shown Plain g s.whole found next [] [] tt b.shows machine_stands b.plays
+  text_is = text_shown Plain g s.whole found next [] [] tt tt b.shows machine_stands b.plays
 
   keeps_first : IsKept s.digests 0 (s.whole []) (Shown s.digests (seat_state 0 next) next.piece)
   keeps_first = step_kept g s.digests 0 s.whole found next [] [] b.shows b.last machine_stands b.plays
@@ -165,7 +165,7 @@ module _ {F : Type 0} {g : Story} {s : PlayedSession} {first kept : Standing} {n
     begins_to a new None told = record {
       walking = subst (λ (q : Standing). IsWalking Plain g s.whole q new next 0)
           (store_is new (kept.shown ++ next.piece) told.2)
-          (walk_begins Plain g s.whole EVENT_LIMIT kept new next found None b.seated b.last b.plays told);
+          (walk_begins Plain g s.whole EVENT_LIMIT kept new next found None tt b.seated b.last b.plays told);
       rests = rests_then new (kept.shown ++ next.piece) told.2;
       digests = ap (λ (q : Standing). kept_digests q.disk.bytes) told.2 ∙ digests;
       last = next.piece;
@@ -174,12 +174,12 @@ module _ {F : Type 0} {g : Story} {s : PlayedSession} {first kept : Standing} {n
     begins_to a new (Some end.Ended) told = record {
       shows = subst (λ (q : Standing). Walks s.whole EVENT_LIMIT q new end.Ended)
           (store_is new (kept.shown ++ next.piece) told.1)
-          (walk_begins Plain g s.whole EVENT_LIMIT kept new next found (Some end.Ended) b.seated b.last b.plays told);
+          (walk_begins Plain g s.whole EVENT_LIMIT kept new next found (Some end.Ended) tt b.seated b.last b.plays told);
       session = (0, asked_is new (kept.shown ++ next.piece) told.1, rests_then new (kept.shown ++ next.piece) told.1);
     }
     begins_to a new (Some (end.Outside call.Show)) told = record {
       shows = subst (λ (q : Standing). Walks s.whole EVENT_LIMIT q new (end.Outside call.Show)) (store_is new (kept.shown ++ take told.2 next.piece) told.3)
-          (walk_begins Plain g s.whole EVENT_LIMIT kept new next found (Some (end.Outside call.Show)) b.seated b.last b.plays told);
+          (walk_begins Plain g s.whole EVENT_LIMIT kept new next found (Some (end.Outside call.Show)) tt b.seated b.last b.plays told);
       session = (0, asked_is new (kept.shown ++ take told.2 next.piece) told.3, rests_then new (kept.shown ++ take told.2 next.piece) told.3);
     }
     begins_to a new (Some (end.Spent kind)) told = absurd (halted_stands found (halt.Spent kind) told.0 refl b.shows)

@@ -178,7 +178,7 @@ module _ {F : Type 0} {g : Story} {s : PlayedSession} {most n events : ℕ} {fir
   machine_stands = subst (λ q. StandsClosed q next.machine) t.last t.then_seated.machine
 
   text_more : text_of (s.whole (first_lines (suc n) first.lines)) ≡ concat w.walking.pieces ++ next.piece
-  text_more = ap text_of whole_is ∙ text_shown Plain g _ found next w.walking.pieces w.walking.traces tt t.shows machine_stands t.plays
+  text_more = ap text_of whole_is ∙ text_shown Plain g _ found next w.walking.pieces w.walking.traces tt tt t.shows machine_stands t.plays
 
   -- The session that is committed keeps them.
   keeps_more : KeepsLines s first.lines (suc n) (Shown s.digests (seat_state events next) next.piece)
@@ -252,6 +252,7 @@ module _ {F : Type 0} {g : Story} {s : PlayedSession} {most n events : ℕ} {fir
       pieces = w.walking.pieces;
       traces = w.walking.traces;
       each = tt;
+      keeps = tt;
       goes_on = w.walking.goes_on;
       there = w.walking.there;
       stands = ap (with_store kept) w.walking.stands;
@@ -340,7 +341,7 @@ module _ {F : Type 0} {g : Story} {s : PlayedSession} {most n events : ℕ} {fir
           WalksTo Plain g s.whole most (with_store kept first) new next (suc n) o
       unfolding walking_with
       walks_then new o told =
-          walks_on Plain g s.whole most n (with_store kept first) (with_store kept now) kept new seat next given line found o walking_with t.few
+          walks_on Plain g s.whole most n (with_store kept first) (with_store kept now) kept new seat next given line found o walking_with t.few tt
           t.seated t.then_seated t.last (t.lines ∙ ap (λ xs. line ∷ xs) (sym beside.lines)) t.cut kept_is t.plays told
 
       rests_then : (new : Standing) (text : List ℕ) → new ≡ record kept { shown = text } → RestsWith s first new (suc n)
@@ -412,7 +413,7 @@ module _ {F : Type 0} (g : Story) (s : PlayedSession) (most n : ℕ) (first now 
       refused_shows : (o : PlayEnd) → ShowsStep mid mid next.piece found (Some o) → Walks s.whole most (with_store mid first) mid o
       refused_shows o told =
           subst (λ (q : Standing). Walks s.whole most (with_store q first) mid o) (sym took)
-          (walks_on Plain g s.whole most n (with_store now first) now mid mid seat next given line found (Some o) w.walking few
+          (walks_on Plain g s.whole most n (with_store now first) now mid mid seat next given line found (Some o) w.walking few tt
           seated then_seated last lines cut took plays told)
 
       -- The piece is spent, or a call is too deep.

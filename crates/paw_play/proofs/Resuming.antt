@@ -189,6 +189,7 @@ module _ {F : Type 0} {g : Story} {name piece : List ℕ} {r : Restored} {first 
       pieces = piece ∷ [];
       traces = [];
       each = tt;
+      keeps = tt;
       goes_on = λ more. goes_on_from g r.world r.machine r.pending r.prompt r.events r.piece piece more;
       there = omega arith;
       stands = stands_with new piece told.1 ∙ ap (with_lines_taken (with_store new first) 0) (sym (append-nil piece));

@@ -18,7 +18,7 @@ use Rattle.paw_turn.specs.inner.Player.{PlayerView, run_at}
 use Rattle.paw_turn.specs.declared.Step.{Step}
 use Rattle.paw_turn.specs.declared.Step.TheVariants as step
 use Rattle.paw_play.specs.Traces.{step_line, more_line, steps_text, traced_pieces}
-use Rattle.paw_play.specs.inner.Telling.{ShowSteps, Plain, Stepped, kept_text, seat_text, HaveSteps}
+use Rattle.paw_play.specs.inner.Telling.{ShowSteps, Plain, Stepped, kept_text, seat_text, HaveSteps, KeepsShown}
 use Rattle.paw_play.specs.inner.Telling.{shown_pieces, shown_run, shown_ending}
 use Rattle.paw_turn.specs.inner.Player.{IsStanding}
 use Rattle.paw_play.specs.inner.OnTheWay.{end_if_no_piece}
@@ -34,9 +34,9 @@ take_twice (suc n) [] = refl
 take_twice (suc n) (x ∷ xs) = ap (λ ys. x ∷ ys) (take_twice n xs)
 
 -- What is kept of steps is shown as the steps are.
-kept_told : (k : KeptSteps) (steps : List Read) → k ≡ kept_steps steps → kept_text k ≡ steps_text steps
-kept_told k steps e =
-    ap kept_text e ∙ ap (λ xs. flat_map step_line xs ++ more_line (length steps - STEP_LIMIT)) (take_twice STEP_LIMIT steps)
+kept_told : (k : KeptSteps) (steps : List Read) → k.most ≡ STEP_LIMIT → k ≡ kept_steps k.most steps → kept_text k ≡ steps_text steps
+kept_told k steps keeps e =
+    ap kept_text (e ∙ ap (λ n. kept_steps n steps) keeps) ∙ ap (λ xs. flat_map step_line xs ++ more_line (length steps - STEP_LIMIT)) (take_twice STEP_LIMIT steps)
 
 -- One piece more.
 traced_more : (pieces : List (List ℕ)) (traces : List (List Read)) (piece : List ℕ) (steps : List Read) → length traces ≡ length pieces →
@@ -49,12 +49,12 @@ traced_more (p ∷ pieces) (t ∷ traces) piece steps each =
 
 -- One piece more of a player.
 pub pieces_more : {F : Type 0} (telling : ShowSteps) (next : PlayerView F) (pieces : List (List ℕ)) (traces : List (List Read)) (steps : List Read) →
-    HaveSteps telling pieces traces → next.machine.steps ≡ kept_steps steps →
+    HaveSteps telling pieces traces → KeepsShown telling next.machine.steps.most → next.machine.steps ≡ kept_steps next.machine.steps.most steps →
     concat (shown_pieces telling (pieces ++ next.piece ∷ []) (traces ++ steps ∷ [])) ≡ concat (shown_pieces telling pieces traces) ++ seat_text telling next
-pieces_more Plain next pieces traces steps each kept = joined_more pieces next.piece
-pieces_more Stepped next pieces traces steps each kept =
+pieces_more Plain next pieces traces steps each keeps kept = joined_more pieces next.piece
+pieces_more Stepped next pieces traces steps each keeps kept =
     ap concat (traced_more pieces traces next.piece steps each) ∙ joined_more (traced_pieces pieces traces) (steps_text steps ++ next.piece)
-    ∙ ap (λ t. concat (traced_pieces pieces traces) ++ (t ++ next.piece)) (sym (kept_told next.machine.steps steps kept))
+    ∙ ap (λ t. concat (traced_pieces pieces traces) ++ (t ++ next.piece)) (sym (kept_told next.machine.steps steps keeps kept))
 
 -- And it has its steps.
 pub steps_more : (telling : ShowSteps) (pieces : List (List ℕ)) (traces : List (List Read)) (piece : List ℕ) (steps : List Read) →
@@ -95,12 +95,12 @@ told_is Stepped r pieces traces e f = ap (λ ps. concat (traced_pieces ps r.trac
 
 -- The text of a player's last piece comes last.
 pub told_more : {F : Type 0} (telling : ShowSteps) (next : PlayerView F) (pieces : List (List ℕ)) (traces : List (List Read)) (steps : List Read) →
-    HaveSteps telling pieces traces → next.machine.steps ≡ kept_steps steps →
+    HaveSteps telling pieces traces → KeepsShown telling next.machine.steps.most → next.machine.steps ≡ kept_steps next.machine.steps.most steps →
     concat (shown_run telling (run_at next (pieces ++ next.piece ∷ []) (traces ++ steps ∷ []) [])).pieces
     ≡ concat (shown_pieces telling pieces traces) ++ seat_text telling next
-told_more telling next pieces traces steps each kept =
+told_more telling next pieces traces steps each keeps kept =
     told_is telling (run_at next (pieces ++ next.piece ∷ []) (traces ++ steps ∷ []) []) (pieces ++ next.piece ∷ []) (traces ++ steps ∷ []) refl refl
-    ∙ pieces_more telling next pieces traces steps each kept
+    ∙ pieces_more telling next pieces traces steps each keeps kept
 
 -- A step that isn't refused brings a piece.
 pub shows_piece : (found : Step) → None ≡ end_if_no_piece found → IsStanding found

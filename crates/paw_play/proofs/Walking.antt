@@ -25,7 +25,7 @@ use Rattle.paw_play.specs.declared.PlayEnd.{PlayEnd}
 use Rattle.paw_play.specs.declared.PlayEnd.TheVariants as end
 use Rattle.paw_stage.specs.declared.StageCall.TheVariants as call
 use Rattle.paw_play.specs.Walk.{EndingOf, first_lines, with_lines_taken, text_before, PartShown, WalkWaits, WalkHalts}
-use Rattle.paw_play.specs.inner.Telling.{ShowSteps, seat_text, shown_pieces, HaveSteps, shown_run, shown_ending}
+use Rattle.paw_play.specs.inner.Telling.{ShowSteps, seat_text, shown_pieces, HaveSteps, KeepsShown, shown_run, shown_ending}
 use Rattle.paw_play.specs.inner.Telling.{with_shown_steps}
 use Rattle.paw_turn.specs.inner.Player.{IsStanding}
 use Rattle.paw_play.specs.inner.OnTheWay.{IsWalking, ShowsStep, WalksTo}
@@ -143,20 +143,20 @@ text_so_far telling g whole n first now seat w seated =
 
 -- The text of a step that brings a piece.
 pub text_shown : {F : Type 0} (telling : ShowSteps) (g : Story) (whole : EndingOf) (s : Step) (next : PlayerView F)
-    (pieces : List (List ℕ)) (traces : List (List Read)) → HaveSteps telling pieces traces → IsStanding s → StandsClosed s next.machine →
+    (pieces : List (List ℕ)) (traces : List (List Read)) → HaveSteps telling pieces traces → KeepsShown telling next.machine.steps.most → IsStanding s → StandsClosed s next.machine →
     PlaysTo g whole s next pieces traces →
     text_of (with_shown_steps telling whole []) ≡ concat (shown_pieces telling pieces traces) ++ seat_text telling next
-text_shown telling g whole (step.Waits p) next pieces traces each h m plays =
+text_shown telling g whole (step.Waits p) next pieces traces each keeps h m plays =
     let r : Run = run_at next (pieces ++ next.piece ∷ []) (traces ++ plays.0 ∷ []) [] in
     ap (λ e. text_of (shown_ending telling e)) (plays.1.1 [] ∙ on_waits g p next.machine r m)
     ∙ ap text_of (waits_told telling p (reverse next.machine.frames) r)
-    ∙ told_more telling next pieces traces plays.0 each plays.1.0
-text_shown telling g whole step.Ended next pieces traces each h m plays =
+    ∙ told_more telling next pieces traces plays.0 each keeps plays.1.0
+text_shown telling g whole step.Ended next pieces traces each keeps h m plays =
     let r : Run = run_at next (pieces ++ next.piece ∷ []) (traces ++ plays.0 ∷ []) [] in
     ap (λ e. text_of (shown_ending telling e)) (plays.1.1 []) ∙ ap text_of (halts_told telling halt.Over r)
-    ∙ told_more telling next pieces traces plays.0 each plays.1.0
-text_shown telling g whole (step.Spent kind) next pieces traces each h m plays = absurd h
-text_shown telling g whole (step.TooDeep u) next pieces traces each h m plays = absurd h
+    ∙ told_more telling next pieces traces plays.0 each keeps plays.1.0
+text_shown telling g whole (step.Spent kind) next pieces traces each keeps h m plays = absurd h
+text_shown telling g whole (step.TooDeep u) next pieces traces each keeps h m plays = absurd h
 
 -- Nothing more is shown.
 pub shown_nothing : (mid : Standing) → mid ≡ record mid { shown = mid.shown ++ [] }
@@ -165,6 +165,7 @@ shown_nothing mid = ap (λ t. record mid { shown = t }) (sym (append-nil mid.sho
 -- How a step ends after n lines, where `after` is the reading of those that are left then.
 module _ {F : Type 0} (telling : ShowSteps) (g : Story) (whole after : EndingOf) (n : ℕ) (first mid new : Standing) (next : PlayerView F) (s : Step)
     (pieces : List (List ℕ)) (traces : List (List Read)) (each : HaveSteps telling pieces traces)
+    (keeps : KeepsShown telling next.machine.steps.most)
     (last : next.last ≡ s) (seated : IsSeated next) (there : n ≤ length first.lines)
     (whole_after : (more : List (List ℕ)) → whole (first_lines n first.lines ++ more) ≡ after more)
     (earlier : text_before (with_shown_steps telling whole) first.lines n ≡ concat (shown_pieces telling pieces traces))
@@ -193,7 +194,7 @@ module _ {F : Type 0} (telling : ShowSteps) (g : Story) (whole after : EndingOf)
       machine_stands = subst (λ q. StandsClosed q next.machine) last seated.machine
 
       all : text_of (with_shown_steps telling whole (first_lines n first.lines)) ≡ concat (shown_pieces telling pieces traces) ++ seat_text telling next
-      all = ap (λ e. text_of (shown_ending telling e)) read_all ∙ text_shown telling g after s next pieces traces each shows machine_stands plays
+      all = ap (λ e. text_of (shown_ending telling e)) read_all ∙ text_shown telling g after s next pieces traces each keeps shows machine_stands plays
 
   -- The reading has ended for good, and no more was shown.
   halts : (most : ℕ) → n ≤ most → (halt : Halt) → PlayHalts after halt next pieces traces → new ≡ mid →
@@ -222,10 +223,11 @@ module _ {F : Type 0} (telling : ShowSteps) (g : Story) (whole after : EndingOf)
         pieces = pieces ++ next.piece ∷ [];
         traces = traces ++ at.0 ∷ [];
         each = steps_more telling pieces traces next.piece at.0 each;
+        keeps = keeps;
         goes_on = λ more. whole_after more ∙ at.1.1 more;
         there = there;
         stands = stands_with (seat_text telling next) told.2
-            ∙ ap (with_lines_taken first n) (sym (pieces_more telling next pieces traces at.0 each at.1.0));
+            ∙ ap (with_lines_taken first n) (sym (pieces_more telling next pieces traces at.0 each keeps at.1.0));
       }
   comes_to most few (Some end.Ended) told =
       let at : PlaysTo g after step.Ended next pieces traces = subst (λ q. PlaysTo g after q next pieces traces) told.0 plays in
@@ -238,7 +240,7 @@ module _ {F : Type 0} (telling : ShowSteps) (g : Story) (whole after : EndingOf)
           reading = ap (shown_ending telling) (read_all ∙ at.1.1 []) ∙ halts_told telling halt.Over r;
           there = there;
           stands = stands_with (seat_text telling next) told.1
-              ∙ ap (with_lines_taken first n) (sym (told_more telling next pieces traces at.0 each at.1.0));
+              ∙ ap (with_lines_taken first n) (sym (told_more telling next pieces traces at.0 each keeps at.1.0));
         },
       )
   comes_to most few (Some (end.Spent kind)) told =
@@ -271,13 +273,13 @@ module _ {F : Type 0} (telling : ShowSteps) (g : Story) (whole : EndingOf) (n : 
 
 pub walks_on : {F : Type 0} (telling : ShowSteps) (g : Story) (whole : EndingOf) (most n : ℕ) (first now mid new : Standing)
     (seat next : PlayerView F) (given line : List ℕ) (s : Step) (o : Option PlayEnd)
-    (w : IsWalking telling g whole first now seat n) → n < most → IsSeated seat → IsSeated next → next.last ≡ s →
+    (w : IsWalking telling g whole first now seat n) → n < most → KeepsShown telling next.machine.steps.most → IsSeated seat → IsSeated next → next.last ≡ s →
     now.lines ≡ line ∷ mid.lines → given ≡ take 255 line → mid ≡ record now { lines = mid.lines; asked = now.asked + 1 } →
     PlaysTo g (λ more. going_on_from g w.prompt (reverse seat.machine.frames) (run_at seat w.pieces w.traces (given ∷ more))) s next w.pieces w.traces →
     ShowsStep mid new (seat_text telling next) s o → WalksTo telling g whole most first new next (suc n) o
-walks_on telling g whole most n first now mid new seat next given line s o w few seated then_seated last lines cut took plays told =
+walks_on telling g whole most n first now mid new seat next given line s o w few keeps seated then_seated last lines cut took plays told =
     comes_to telling g whole (λ more. going_on_from g w.prompt (reverse seat.machine.frames) (run_at seat w.pieces w.traces (given ∷ more)))
-    (suc n) first mid new next s w.pieces w.traces w.each last then_seated
+    (suc n) first mid new next s w.pieces w.traces w.each keeps last then_seated
     (one_more telling g whole n first now mid seat given line w lines cut)
     (whole_after telling g whole n first now mid seat given line w lines cut)
     (text_so_far telling g whole n first now seat w seated)
@@ -316,18 +318,18 @@ first_stands old new part e = let a : old.asked + 0 ≡ old.asked = omega arith 
 
 -- After piece 0 the walk is at the first prompt, or has ended this way.
 pub walk_begins : {F : Type 0} (telling : ShowSteps) (g : Story) (whole : EndingOf) (most : ℕ) (old new : Standing) (seat : PlayerView F) (s : Step)
-    (o : Option PlayEnd) → IsSeated seat → seat.last ≡ s →
+    (o : Option PlayEnd) → KeepsShown telling seat.machine.steps.most → IsSeated seat → seat.last ≡ s →
     PlaysTo g whole s seat [] [] → ShowsStep old new (seat_text telling seat) s o → WalksTo telling g whole most old new seat 0 o
-walk_begins telling g whole most old new seat s o seated last plays told =
-    comes_to telling g whole whole 0 old old new seat s [] [] (steps_none telling) last seated (omega arith) (λ more. refl) (sym (told_none telling))
+walk_begins telling g whole most old new seat s o keeps seated last plays told =
+    comes_to telling g whole whole 0 old old new seat s [] [] (steps_none telling) keeps last seated (omega arith) (λ more. refl) (sym (told_none telling))
     (λ part e. first_stands old new part e ∙ ap (λ t. with_lines_taken old 0 (t ++ part)) (sym (told_none telling)))
     plays most (omega arith) o told
 
 -- A player that was new has played piece 0.
 pub walk_starts : {F : Type 0} (telling : ShowSteps) (g : Story) (seed most : ℕ) (old new : Standing) (fresh seat : PlayerView F) (s : Step)
-    (o : Option PlayEnd) → IsNew fresh seed → IsSeated seat → seat.last ≡ s →
+    (o : Option PlayEnd) → IsNew fresh seed → KeepsShown telling seat.machine.steps.most → IsSeated seat → seat.last ≡ s →
     PlaysTo g (reading g fresh.world.seed) s seat [] [] → ShowsStep old new (seat_text telling seat) s o →
     WalksTo telling g (reading g seed) most old new seat 0 o
-walk_starts telling g seed most old new fresh seat s o is seated last plays told =
+walk_starts telling g seed most old new fresh seat s o is keeps seated last plays told =
     let at : fresh.world.seed ≡ seed = ap (λ (w : World). w.seed) is.world in
-    walk_begins telling g (reading g seed) most old new seat s o seated last (subst (λ n. PlaysTo g (reading g n) s seat [] []) at plays) told
+    walk_begins telling g (reading g seed) most old new seat s o keeps seated last (subst (λ n. PlaysTo g (reading g n) s seat [] []) at plays) told

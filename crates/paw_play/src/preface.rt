@@ -6,8 +6,9 @@ use std::alloc::Global;
 
 /// What a walk shows before each piece.
 pub trait Preface: Drop {
-    ghost use Rattle.std.specs.Prelude.{◌≡◌};
-    ghost use Rattle.paw_play.specs.inner.Telling.{ShowSteps, preface};
+    ghost use Rattle.std.specs.Prelude.{◌≡◌, ◌≤◌};
+    ghost use Rattle.paw_base.specs.declared.limits.TheConstants.{STEP_LIMIT};
+    ghost use Rattle.paw_play.specs.inner.Telling.{ShowSteps, KeepsShown, preface};
 
     /// Whether the pieces are shown as they are or traced.
     ghost telling: { ShowSteps };
@@ -17,6 +18,11 @@ pub trait Preface: Drop {
     /// # Errors
     /// NoRoom where there is none.
     fn new(alloc: Global) -> Result<Self, NoRoom>;
+
+    /// How many steps of a piece are to be kept for its text: none where it shows none.
+    fn most_steps() -> usize
+        ensures keeps { KeepsShown telling result }
+        ensures few { result ≤ STEP_LIMIT };
 
     /// The text before a piece for which these steps were read.
     fn text(&mut self, steps: &Steps) -> &[u8]
@@ -34,6 +40,10 @@ impl Preface for Nothing {
 
     fn new(_alloc: Global) -> Result<Nothing, NoRoom> {
         Ok(Nothing)
+    }
+
+    fn most_steps() -> usize {
+        0
     }
 
     fn text(&mut self, _steps: &Steps) -> &[u8] {

@@ -88,7 +88,7 @@ fn put_more(text: &mut Piece, more: u32) -> bool
     text.push(b"[") && put_number(text, more) && text.push(b" more]\n")
 }
 
-// The steps that have a line: the first 1,000. `Steps::rows` gives no more, but no clause of it says so: this cut
+// The steps that have a line: the first 1,000. A trace keeps no more, but no clause of `Steps::rows` says so: this cut
 // does.
 fn steps_to_show(steps: &[StepRow]) -> &[StepRow]
     ensures value { result.now ≡ take STEP_LIMIT steps.now }
@@ -123,6 +123,10 @@ impl Preface for StepLines {
     fn new(alloc: Global) -> Result<StepLines, NoRoom> {
         let text = Piece::new(alloc)?;
         Ok(StepLines { text })
+    }
+
+    fn most_steps() -> usize {
+        STEP_LIMIT
     }
 
     fn text(&mut self, steps: &Steps) -> &[u8] {

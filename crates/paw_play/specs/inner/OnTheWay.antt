@@ -42,7 +42,7 @@ use Rattle.paw_play.specs.Walk.{end_halt, EndingOf, first_lines, text_for, text_
 use Rattle.paw_play.specs.Played.{PlayedSession}
 use Rattle.paw_play.specs.Keeping.{StaysAttached, RestsWith}
 use Rattle.paw_play.specs.Play.{PlaysOn, with_store}
-use Rattle.paw_play.specs.inner.Telling.{ShowSteps, Plain, HaveSteps, shown_pieces, with_shown_steps}
+use Rattle.paw_play.specs.inner.Telling.{ShowSteps, Plain, HaveSteps, KeepsShown, shown_pieces, with_shown_steps}
 
 -- ---- a walk ----
 
@@ -64,6 +64,7 @@ pub record IsWalking {F : Type 0} (telling : ShowSteps) (g : Story) (whole : End
   pub pieces : Texts
   pub traces : List (List Read)
   pub each : HaveSteps telling pieces traces
+  pub keeps : KeepsShown telling seat.machine.steps.most
   pub goes_on : (more : Lines) →
       whole (first_lines n old.lines ++ more)
       ≡ going_on_from g prompt (reverse seat.machine.frames) (run_at seat pieces traces more)

@@ -1,5 +1,5 @@
 -- How a walk shows the pieces of a game: words that contracts and proofs use.
-use Rattle.std.specs.Prelude.{◌≡◌, ◌-◌, List, [], ◌++◌, length, take, flat_map}
+use Rattle.std.specs.Prelude.{◌≡◌, ℕ, ◌-◌, List, [], ◌++◌, length, take, flat_map}
 use Rattle.paw_base.specs.Bytes.{Text, Texts}
 use Rattle.paw_base.specs.inner.Steps.{KeptSteps}
 use Rattle.paw_base.specs.declared.limits.TheConstants.{STEP_LIMIT}
@@ -22,6 +22,11 @@ kept_text kept = flat_map step_line (take STEP_LIMIT kept.rows) ++ more_line (ke
 abbrev pub preface : ShowSteps → KeptSteps → Text
 preface Plain kept = []
 preface Stepped kept = kept_text kept
+
+-- Where pieces are shown after their steps, as many steps of each are kept as have a line.
+abbrev pub KeepsShown : ShowSteps → ℕ → Type 0
+KeepsShown Plain most = Unit {0}
+KeepsShown Stepped most = most ≡ STEP_LIMIT
 
 -- What is shown for a player's last piece.
 abbrev pub seat_text : {F : Type 0} → ShowSteps → PlayerView F → Text

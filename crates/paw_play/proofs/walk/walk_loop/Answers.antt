@@ -3,7 +3,7 @@ use Rattle.paw_base.specs.declared.limits.TheConstants.{EVENT_LIMIT}
 use Rattle.paw_routines.specs.Routines.{AreAnswersOf, HaveAnswers}
 use Rattle.paw_reading.specs.Turn.{reading}
 use Rattle.paw_play.specs.Walk.{Walks}
-use Rattle.paw_play.specs.inner.Telling.{with_shown_steps}
+use Rattle.paw_play.specs.inner.Telling.{with_shown_steps, KeepsShown}
 use Rattle.paw_play.specs.inner.OnTheWay.{IsWalking}
 use Rattle.paw_play.proofs.Walking.{walk_starts}
 use Rattle.paw_journal.proofs.Serving.{serves_then}
@@ -21,10 +21,11 @@ walk_lines-requires-clause-answers g c =
 pub returns-in-Some-clause-walks : goal.returns-in-Some-clause-walks
 returns-in-Some-clause-walks g c = λ tells X answers.
     let own = subst (λ r. AreAnswersOf g.F.Fn r X) (sym c.in-Ok-new.ensures.routines) answers in
+    let keeps = subst (KeepsShown g.P.Preface.telling) (sym (c.start-step.ensures.most ∙ c.in-Ok-new.ensures.most)) c.most_steps.ensures.keeps in
     subst (λ k. Walks (with_shown_steps g.P.Preface.telling (reading (story_of k X) c.args.seed)) EVENT_LIMIT (g.S.Stage.standing c.args.stage.now)
     (g.S.Stage.standing c.show_step.new.stage) c.in-Some.end) c.in-Ok-new.ensures.game
     (walk_starts g.P.Preface.telling (story_of c.in-Ok-new.player.game X) c.args.seed EVENT_LIMIT _ _ c.in-Ok-new.player
-    c.start-step.new.self c.start-step.result (Some c.in-Some.end) c.in-Ok-new.ensures.new c.start-step.ensures.seated
+    c.start-step.new.self c.start-step.result (Some c.in-Some.end) c.in-Ok-new.ensures.new keeps c.start-step.ensures.seated
     c.start-step.ensures.last (c.start-step.ensures.meaning X own) (c.in-Some.ensures.meaning tells))
 
 pub returns-clause-walks : goal.returns-clause-walks
@@ -33,9 +34,10 @@ returns-clause-walks g c = λ tells X answers.
     let story = story_of c.in-Ok-new.player.game X in
     let old = g.S.Stage.standing c.args.stage.now in
     let own = subst (λ r. AreAnswersOf g.F.Fn r X) (sym c.in-Ok-new.ensures.routines) answers in
+    let keeps = subst (KeepsShown g.P.Preface.telling) (sym (c.start-step.ensures.most ∙ c.in-Ok-new.ensures.most)) c.most_steps.ensures.keeps in
     let later = subst (λ r. AreAnswersOf g.F.Fn r X) (sym (c.start-step.ensures.routines ∙ c.in-Ok-new.ensures.routines)) answers in
     let walking = walk_starts telling story c.args.seed EVENT_LIMIT _ _ c.in-Ok-new.player c.start-step.new.self c.start-step.result
-    None c.in-Ok-new.ensures.new c.start-step.ensures.seated
+    None c.in-Ok-new.ensures.new keeps c.start-step.ensures.seated
     c.start-step.ensures.last (c.start-step.ensures.meaning X own) (c.in_default-show_step.ensures.meaning tells) in
     subst (λ k. Walks (with_shown_steps telling (reading (story_of k X) c.args.seed)) EVENT_LIMIT old (g.S.Stage.standing c.walk_lines.new.stage)
     c.walk_lines.result) c.in-Ok-new.ensures.game
