@@ -1,6 +1,6 @@
 // The steps of a piece: the condacts that were read for it.
 
-ghost use Rattle.std.specs.Prelude.{◌≡◌, ◌<◌, ◌≤◌, take, length, slice_set};
+ghost use Rattle.std.specs.Prelude.{◌≡◌, ◌<◌, ◌≤◌, take};
 ghost use Rattle.paw_base.specs.declared.limits.TheConstants.{STEP_LIMIT};
 ghost use Rattle.paw_base.specs.inner.Steps.{KeptSteps};
 ghost use Rattle.paw_base.specs.inner.Steps.{no_steps, with_step_noted};
@@ -74,11 +74,30 @@ impl Steps {
         requires count { self.old.count < 4294967295 }
         ensures value { self.new ≡ with_step_noted row self.old }
     {
-        let count = self.count;
-        if (count as usize) < self.most {
-            keep(&mut self.rows, count as usize, row);
+        if (self.count as usize) < self.most {
+            self.keep(row.table, row.entry, row.at, row.code, row.yes);
+        } else {
+            self.count += 1;
         }
-        self.count = count + 1;
+    }
+
+    // Notes one step more, and keeps it. It stands by itself and takes the fields of the row one by one because most
+    // players only count their steps: so the code of a play has no row to put together.
+    #[cold]
+    #[inline(never)]
+    fn keep(&mut self, table: u8, entry: u16, at: u8, code: u8, yes: bool)
+        requires room { self.old.count < self.old.most }
+        ensures value { self.new ≡ with_step_noted
+            (record { table = table; entry = entry; at = at; code = code; yes = yes }) self.old }
+    {
+        self.rows[self.count as usize] = StepRow {
+            table,
+            entry,
+            at,
+            code,
+            yes,
+        };
+        self.count += 1;
     }
 
     /// The steps that are kept: the first ones.
@@ -101,15 +120,4 @@ fn up_to(rows: &[StepRow], count: usize) -> &[StepRow]
     ensures value { result.now ≡ take count rows.now }
 {
     &rows[..count.min(rows.len())]
-}
-
-// Puts a step after the first `count` rows. It stands by itself because most players only count their steps: the code of
-// a play has no row to put together there.
-#[cold]
-#[inline(never)]
-fn keep(rows: &mut [StepRow], count: usize, row: StepRow)
-    requires room { count < length rows.old }
-    ensures rows { rows.new ≡ slice_set rows.old count row }
-{
-    rows[count] = row;
 }
