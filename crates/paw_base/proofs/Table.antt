@@ -1,12 +1,12 @@
 -- The table of condacts: as the code holds it, and what is true of each code.
-use Rattle.std.proofs.Common.{◌≡◌, ℕ, zero, suc, ◌-◌, ◌≤◌, ◌<◌, ◌==◌, Bool, true, false, not, ◌&&◌, ◌||◌, inl, inr}
+use Rattle.std.proofs.Common.{◌≡◌, ℕ, zero, suc, ◌-◌, ◌%◌, ◌≤◌, ◌<◌, ◌==◌, Bool, true, false, not, ◌&&◌, ◌||◌, inl, inr}
 use Rattle.std.proofs.Common.{subst, arith, Option, Some, None, SomeIff, List, length, map, refl, sym, ap, ◌∙◌, nat_le}
 use Rattle.std.proofs.Common.{nat_lt, bytes_eq}
 use Rattle.std.specs.Prelude.{if◌then◌else◌}
 use Rattle.std.specs.List.{slice_index_or, list_all}
 use Rattle.std.specs.Char.{is_ascii_uppercase, is_ascii_digit}
 use Rattle.std.proofs.lemmas.Bool.Decides.{Decides-below_and}
-use Rattle.std.proofs.lemmas.Bool.{leb-true, ltb-true, lt-ltb, le-ltb, lt-leb, le-leb, cases_lt, or_cases, and_parts}
+use Rattle.std.proofs.lemmas.Bool.{eqb-true, leb-true, ltb-true, lt-ltb, le-ltb, lt-leb, le-leb, cases_lt, or_cases, and_parts}
 use Rattle.std.proofs.lemmas.Slice.Eq.{bytes_eq-Decides}
 use Rattle.std.proofs.lemmas.List.{get_or-map, get_or_past}
 use Rattle.paw_base.proofs.Filled.{has_space-plain, before_space-filled_up}
@@ -132,6 +132,29 @@ pub line_plain : (code : ℕ) → IsPlainCode code → line_of code ≡ plain_li
 unfolding line_of
 line_plain code h = let within = code_within code h in rw (plain_below code (omega (arith, within))) refl
 
+-- The plain code is what is left over 128.
+pub plain_left : (code : ℕ) → IsCode code → plain_code code ≡ code % INDIRECT
+plain_left code is = elim (cases_lt code INDIRECT) [
+  | inl low ↦ let same : code % INDIRECT ≡ code = omega (arith, low) in rw (plain_below code low, same) refl
+  | inr high ↦
+      let small = code_small code is in
+      let same : code % INDIRECT ≡ code - INDIRECT = omega (arith, high, small) in
+      rw (indirect_of_code code is high, same) refl
+]
+
+pub plain_code_is : (code : ℕ) → IsCode code → IsPlainCode (code % INDIRECT)
+plain_code_is code is = elim (cases_lt code INDIRECT) [
+  | inl low ↦ let same : code % INDIRECT ≡ code = omega (arith, low) in rw same (plain_of_code code is low)
+  | inr high ↦
+      let small = code_small code is in
+      let same : code % INDIRECT ≡ code - INDIRECT = omega (arith, high, small) in
+      rw same (plain_within code is high)
+]
+
+-- The line of the plain code.
+pub line_left : (code : ℕ) → IsCode code → plain_line (code % INDIRECT) ≡ line_of (plain_code code)
+line_left code is = sym (ap line_of (plain_left code is) ∙ line_plain (code % INDIRECT) (plain_code_is code is))
+
 alike : (b : Bool) (code : ℕ) → (if b then indirect_line (code - INDIRECT) else plain_line code).acts ≡ (plain_line (if b then code - INDIRECT else code)).acts
 alike true code = refl
 alike false code = refl
@@ -211,3 +234,17 @@ pub param_count-second_kind : (code : ℕ) → IsCode code → param_count (seco
 param_count-second_kind code h =
     leb-true (param_count (second_kind code)) (param_count (first_kind code))
     (each_code (λ k. nat_le (param_count (second_kind k)) (param_count (first_kind k))) firsts_stand code h)
+
+as_many_kinds : below (λ code. not (is_code code) || ((param_count (first_kind code) == param_count (first_kind (plain_code code)))
+    && (param_count (second_kind code) == param_count (second_kind (plain_code code))))) 256 ≡ true
+unfolding condact_lines plain_line line_of is_plain_code is_indirect below
+as_many_kinds = refl
+
+-- An indirect code has the parameters that its plain one has.
+pub as_many : (code : ℕ) → IsCode code → (param_count (first_kind code) ≡ param_count (first_kind (plain_code code)))
+    × (param_count (second_kind code) ≡ param_count (second_kind (plain_code code)))
+as_many code h =
+    let first = λ (k : ℕ). param_count (first_kind k) == param_count (first_kind (plain_code k)) in
+    let second = λ (k : ℕ). param_count (second_kind k) == param_count (second_kind (plain_code k)) in
+    let both = and_parts (first code) (second code) (each_code (λ k. first k && second k) as_many_kinds code h) in
+    (eqb-true _ _ both.0, eqb-true _ _ both.1)

@@ -3,7 +3,7 @@
 ghost use Rattle.std.specs.Prelude.{◌≡◌, ◌+◌, ℕ, true, SomeIff, IfSome, is_some, bytes_eq, ◌==◌};
 ghost use Rattle.std.specs.List.{position};
 ghost use Rattle.paw_base.specs.Condacts.{param_count, name_of, capitals, code_named, may_be_indirect, plain_code};
-ghost use Rattle.paw_base.specs.Condacts.{plain_line, indirect_line};
+ghost use Rattle.paw_base.specs.Condacts.{plain_line, indirect_line, first_kind, second_kind};
 ghost use Rattle.paw_base.specs.inner.Condacts.{IsCode, IsPlainCode, HasName, is_plain, before_space};
 ghost use Rattle.paw_base.specs.inner.Condacts.{condact_row_of, row_of_line};
 ghost use Rattle.paw_base.specs.inner.Condacts.{filled_up};
@@ -239,6 +239,20 @@ pub fn plain_code(code: u8) -> u8
         code
     } else {
         code - INDIRECT
+    }
+}
+
+/// What the parameters of a condact name, as its plain code has them. An indirect one has as many parameters: all but the
+/// first name the same, and in the place of the first is a flag.
+pub fn plain_kinds(code: u8) -> (ParamKind, ParamKind)
+    requires code { IsCode code }
+    ensures first { result.0 ≡ first_kind (plain_code code) }
+    ensures second { result.1 ≡ second_kind (plain_code code) }
+{
+    // The plain code is what is left over 128, with no need to ask whether the code is indirect.
+    match plain_row(code % INDIRECT) {
+        Some(row) => (row.first, row.second),
+        None => unreachable!(),
     }
 }
 

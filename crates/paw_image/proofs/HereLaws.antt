@@ -1,6 +1,6 @@
 -- What stands at an offset of bytes: the head of an entry, or a condact.
 use Rattle.std.proofs.Common.{◌≡◌, ℕ, zero, suc, ◌+◌, ◌<◌, List, [], ◌∷◌, length, drop, get_or, Some, None, Ok, refl, sym, ap, ◌∙◌}
-use Rattle.std.proofs.Common.{inl, inr, arith}
+use Rattle.std.proofs.Common.{Bool, true, false, inl, inr, arith}
 use Rattle.std.specs.Prelude.{slice_get, IfSome, ◌≤◌}
 use Rattle.std.proofs.lemmas.List.{drop-drop}
 use Rattle.std.proofs.lemmas.Option.{none-some, same_Some, slice_get_past}
@@ -8,8 +8,9 @@ use Rattle.std.proofs.lemmas.Bool.{cases_lt, false_from_ne_true}
 use Rattle.paw_base.specs.declared.parts.Condact.{Condact}
 use Rattle.paw_base.specs.declared.rows.ParamKind.{ParamKind}
 use Rattle.paw_base.specs.declared.rows.ParamKind.TheVariants as kind
-use Rattle.paw_base.specs.Condacts.{is_code, first_kind, second_kind}
+use Rattle.paw_base.specs.Condacts.{is_code, first_kind, second_kind, param_count, plain_code}
 use Rattle.paw_base.specs.inner.Condacts.{IsCode}
+use Rattle.paw_base.proofs.Table.{as_many}
 use Rattle.paw_read_error.specs.Bind.{◌>>=◌}
 use Rattle.paw_image.specs.Reading.{Reading, byte_at}
 use Rattle.paw_image.specs.inner.Reading.{IsFault, leading_condact, parameter_at}
@@ -124,16 +125,57 @@ byte_there p bytes h =
 pub parameter_there : (k : ParamKind) (p : ℕ) (bytes : List ℕ) → (k ≡ kind.Absent → ⊥) → (IsFault (parameter_at k (drop p bytes)) → ⊥) → p < length bytes
 parameter_there k p bytes other h = byte_there p bytes (λ none. h (no_parameter k p bytes other none))
 
+abbrev by_count : ℕ → List ℕ → Reading ℕ
+by_count zero bytes = Ok (0, bytes)
+by_count (suc n) bytes = byte_at bytes
+
+counted_parameter : (k : ParamKind) (bytes : List ℕ) → parameter_at k bytes ≡ by_count (param_count k) bytes
+counted_parameter kind.Absent bytes = refl
+counted_parameter kind.Location bytes = refl
+counted_parameter kind.Place bytes = refl
+counted_parameter kind.Object bytes = refl
+counted_parameter kind.Flag bytes = refl
+counted_parameter kind.Number bytes = refl
+counted_parameter kind.Message bytes = refl
+counted_parameter kind.System bytes = refl
+counted_parameter kind.Table bytes = refl
+counted_parameter kind.Adverb bytes = refl
+counted_parameter kind.Noun bytes = refl
+counted_parameter kind.Adjective bytes = refl
+counted_parameter kind.Preposition bytes = refl
+
+-- Of a kind only whether it stands for a parameter decides what is read.
+same_parameter : (k l : ParamKind) (bytes : List ℕ) → param_count k ≡ param_count l → parameter_at k bytes ≡ parameter_at l bytes
+same_parameter k l bytes e =
+    counted_parameter k bytes ∙ ap (λ (n : ℕ). by_count n bytes) e ∙ sym (counted_parameter l bytes)
+
+-- The parameters of a code are read as those of its plain one.
+pub plain_first : (code : ℕ) (k : ParamKind) (bytes : List ℕ) → IsCode code → k ≡ first_kind (plain_code code)
+    → parameter_at (first_kind code) bytes ≡ parameter_at k bytes
+plain_first code k bytes is e = same_parameter (first_kind code) k bytes ((as_many code is).0 ∙ ap param_count (sym e))
+
+pub plain_second : (code : ℕ) (k : ParamKind) (bytes : List ℕ) → IsCode code → k ≡ second_kind (plain_code code)
+    → parameter_at (second_kind code) bytes ≡ parameter_at k bytes
+plain_second code k bytes is e = same_parameter (second_kind code) k bytes ((as_many code is).1 ∙ ap param_count (sym e))
+
 -- What is read of a condact from its code on.
 abbrev parameters_at : ℕ → List ℕ → Reading Condact
 parameters_at code bytes =
     parameter_at (first_kind code) bytes >>= λ a. parameter_at (second_kind code) a.1 >>= λ b.
     Ok (record { code = code; a = a.0; b = b.0 }, b.1)
 
+not_not : (b : Bool) → ((b ≡ true → ⊥) → ⊥) → b ≡ true
+not_not true h = refl
+not_not false h = absurd (h (λ e. absurd cc))
+
 module _ (p : ℕ) (bytes : List ℕ) (code : ℕ) (h : slice_get bytes p ≡ Some code) where
   pub no_code : (IsCode code → ⊥) → value_of (leading_condact (drop p bytes)) ≡ None
   unfolding leading_condact
   no_code other = rw (here p bytes code h, false_from_ne_true (is_code code) other) refl
+
+  -- Where a condact can be read its code is that of one.
+  pub is_the_code : (value_of (leading_condact (drop p bytes)) ≡ None → ⊥) → IsCode code
+  is_the_code there = not_not (is_code code) (λ other. there (no_code other))
 
   from_code : IsCode code → leading_condact (drop p bytes) ≡ parameters_at code (drop (p + 1) bytes)
   unfolding leading_condact

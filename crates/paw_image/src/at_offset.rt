@@ -17,7 +17,7 @@ use crate::objects::read_after_text;
 use crate::tables::read_condact;
 use crate::texts::read_text;
 use paw_base::parts::{Condact, ObjectFacts};
-use paw_base::rows::{ParamKind, condact_row};
+use paw_base::rows::{ParamKind, plain_kinds};
 use paw_game::parts::Exit;
 
 // The bytes from an offset on; none past the end.
@@ -212,14 +212,10 @@ pub fn condact_at(bytes: &[u8], place: usize) -> (Condact, usize)
     ensures value { leading_condact (drop place bytes.now) ≡ Ok (result.0, drop result.1 bytes.now) }
 {
     let (code, place) = byte_from(bytes, place);
-    match condact_row(code) {
-        Some(row) => {
-            let (a, place) = parameter_in(row.first, bytes, place);
-            let (b, place) = parameter_in(row.second, bytes, place);
-            (Condact { code, a, b }, place)
-        }
-        None => unreachable!(),
-    }
+    let (first, second) = plain_kinds(code);
+    let (a, place) = parameter_in(first, bytes, place);
+    let (b, place) = parameter_in(second, bytes, place);
+    (Condact { code, a, b }, place)
 }
 
 // A row up to this number of condacts, and with them.
