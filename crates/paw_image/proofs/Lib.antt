@@ -7,6 +7,7 @@ pub mod ExitLoop
 pub mod Faults
 pub mod FieldLaws
 pub mod GameLaws
+pub mod GroupLaws
 pub mod HeadLaws
 pub mod HereLaws
 pub mod ImageLaws

@@ -1,4 +1,5 @@
 -- Definitions for contracts between crates, and for proofs. Nothing that a reader must believe rests on them.
+pub mod Groups
 pub mod Milestones
 pub mod Images
 pub mod Marks

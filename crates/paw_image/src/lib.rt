@@ -23,4 +23,5 @@ mod tables;
 mod texts;
 mod version;
 pub mod view;
+mod word_index;
 mod words;

@@ -21,23 +21,24 @@ use crate::milestones::Milestones;
 use crate::offsets::{Offsets, TableIndex};
 use crate::order::next_in;
 use crate::refusal::ImageRefusal;
+use crate::word_index::WordIndex;
 use paw_base::limits::{IMAGE_LIMIT, WORD_LENGTH};
 use paw_base::parts::{Condact, Counts, ObjectFacts};
 use paw_game::cursor::CondactCursor;
-use paw_game::lookup::{is_for, word_of};
-use paw_game::parts::{GamePart, Word};
+use paw_game::lookup::is_for;
+use paw_game::parts::GamePart;
 use paw_game::tables::Tables;
 use std::alloc::Global;
 use std::marker::Model;
 
-/// A valid game in the bytes of its image: texts and entries are lent out of them. It keeps the words, where each text,
-/// the exits of each location and each entry begin, and the entries of each table in order of verb and noun, with
-/// milestones in their condacts. Contracts see the bytes.
+/// A valid game in the bytes of its image: texts and entries are lent out of them. It keeps the words by their first
+/// letters, where each text, the exits of each location and each entry begin, and the entries of each table in order of
+/// verb and noun, with milestones in their condacts. Contracts see the bytes.
 #[derive(Drop)]
 pub struct View<'a> {
     bytes: &'a [u8],
     counts: Counts,
-    words: Vec<Word>,
+    words: WordIndex,
     offsets: Offsets,
 }
 
@@ -49,7 +50,7 @@ impl<'a> Model for View<'a> {
 
     ghost view = { λ v. v.bytes.now };
 
-    ghost invariant = { λ v. IsIndex v.bytes.now v.counts v.words.items v.offsets };
+    ghost invariant = { λ v. IsIndex v.bytes.now v.counts v.words v.offsets };
 }
 
 // Where a row of this number begins.
@@ -92,12 +93,17 @@ impl<'a> View<'a> {
             return Err(ImageRefusal::Damaged { at });
         }
         match pass_whole(alloc, bytes) {
-            Ok(passed) => Ok(View {
-                bytes,
-                counts: passed.front.counts,
-                words: passed.front.words,
-                offsets: passed.offsets,
-            }),
+            Ok(passed) => {
+                let (front, offsets) = (passed.front, passed.offsets);
+                let counts = front.counts;
+                let words = WordIndex::new(alloc, front.words)?;
+                Ok(View {
+                    bytes,
+                    counts,
+                    words,
+                    offsets,
+                })
+            }
             Err(refusal) => Err(refusal),
         }
     }
@@ -269,7 +275,7 @@ impl<'a> Tables for View<'a> {
     }
 
     fn word(&self, letters: &[u8; WORD_LENGTH]) -> Option<(u8, u8)> {
-        let word = word_of(letters, &self.words)?;
+        let word = self.words.find(letters)?;
         Some((word.value, word.class))
     }
 }

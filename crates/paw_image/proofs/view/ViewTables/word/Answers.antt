@@ -9,7 +9,7 @@ use Rattle.paw_image.proofs.view.ViewTables.word.Goals as goal
 pub returns : goal.returns
 returns c =
     let bytes = c.self.inside.bytes.now in
-    let spelled = c.deref.ensures.value ∙ c.self.invariant.spelled in
+    let spelled = c.self.invariant.spelled in
     let is = ap (λ (ws : List Word). option_map {U = ℕ × ℕ} (λ (w : Word). (w.value, w.class)) (word_of c.args.letters.now ws)) (sym spelled)
     ∙ sym (ap (option_map {U = ℕ × ℕ} (λ (w : Word). (w.value, w.class))) c.in_ok-word.ensures.value) in
     let kept = meaning_kept (game_read bytes) c.self.invariant.image.valid c.args.letters.now _ is in
