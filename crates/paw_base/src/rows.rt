@@ -249,11 +249,11 @@ pub fn plain_kinds(code: u8) -> (ParamKind, ParamKind)
     ensures first { result.0 ≡ first_kind (plain_code code) }
     ensures second { result.1 ≡ second_kind (plain_code code) }
 {
-    // The plain code is what is left over 128, with no need to ask whether the code is indirect.
-    match plain_row(code % INDIRECT) {
-        Some(row) => (row.first, row.second),
-        None => unreachable!(),
-    }
+    // The plain code is what is left over 128: so nothing asks whether the code is indirect, or has a row.
+    let plain = (code % INDIRECT) as usize;
+    prove!(plain < CONDACTS.len());
+    let row = CONDACTS[plain];
+    (row.1, row.2)
 }
 
 /// The code of the condact with this name, in any case of letters; None where there is none.
