@@ -1,7 +1,7 @@
 -- The selector of a session, and what a crash leaves while it is written.
-use Rattle.std.proofs.Common.{◌≡◌, ◌≢◌, ℕ, ◌+◌, ◌-◌, ◌*◌, ◌%◌, ◌≤◌, ◌<◌, List, [], ◌∷◌, length, ap, ◌∙◌, arith, get_or}
+use Rattle.std.proofs.Common.{◌≡◌, ◌≢◌, ℕ, ◌+◌, ◌-◌, ◌*◌, ◌%◌, ◌≤◌, ◌<◌, List, [], ◌∷◌, length, ap, ◌∙◌, arith, get_or, refl}
 use Rattle.std.proofs.Common.{◌⊎◌, inl, inr}
-use Rattle.paw_stage.specs.Disk.{Disk, put_at, stable, IsStable, disk_written}
+use Rattle.paw_stage.specs.Disk.{Disk, IsStable, disk_written}
 use Rattle.paw_stage.specs.Stage.{Standing, wrote}
 use Rattle.paw_stage.specs.Stage.{InWrite, InSync}
 use Rattle.paw_journal.specs.declared.layout.Slot.{Slot}
@@ -9,7 +9,7 @@ use Rattle.paw_journal.specs.declared.layout.Slot.TheVariants as which
 use Rattle.paw_journal.specs.Session.{recover, recover_by, slot_in_use, kept_digests, slot, session_length, header_length}
 use Rattle.paw_journal.specs.Session.{slot_length}
 use Rattle.paw_journal.specs.inner.Steps.{IsWithin, chosen_session}
-use Rattle.paw_journal.specs.inner.Store.{InStore, CrashLeavesSuch, IsOldOrNew}
+use Rattle.paw_journal.specs.inner.Store.{InStore, CrashLeavesSuch, IsOldOrNew, InWriteAndSync}
 use Rattle.paw_journal.specs.inner.Room.{slot_number}
 use Rattle.paw_journal.proofs.Parts.{put_one, put_below, put_above}
 use Rattle.paw_journal.proofs.Puts.{put_long, stretch_past}
@@ -47,16 +47,16 @@ choosing k old d low long h image l =
       | inr e ↦ inr (recover_is k image e ∙ selector_hidden k image old low n long same)
     ]
 
-pub in_choosing : (k : ℕ) (s m : Standing) → k < 2 → length s.disk.bytes ≡ session_length → IsStable s.disk →
+in_choosing : (k : ℕ) (s m : Standing) → k < 2 → length s.disk.bytes ≡ session_length → IsStable s.disk →
     InWrite s 1 1 m → InStore s (CrashLeavesSuch (IsOldOrNew (recover_by (1 - k) s.disk.bytes) (recover_by k s.disk.bytes))) m
 in_choosing k s m low long h w = in_moved_write 1 2 1 1 s s _ m (moved_none 1 2 s h) (omega arith) (omega arith)
     (omega arith) (λ d i. choosing k s.disk.bytes d low long i) w
 
-pub chose : (x : ℕ) (s t : Standing) (n : ℕ) → length s.disk.bytes ≡ session_length → IsStable s.disk →
+chose : (x : ℕ) (s t : Standing) (n : ℕ) → length s.disk.bytes ≡ session_length → IsStable s.disk →
     t ≡ wrote s (disk_written 1 1 (x ∷ []) s.disk) n → IsMoved 1 2 s t
 chose x s t n long h e = moved_wrote 1 2 1 1 n (x ∷ []) s s t (moved_none 1 2 s h) (omega arith) (omega arith) (omega arith) (omega arith) e
 
-pub in_chosen : (k : ℕ) (s t : Standing) (m : Standing) → k < 2 → length s.disk.bytes ≡ session_length → IsMoved 1 2 s t →
+in_chosen : (k : ℕ) (s t : Standing) (m : Standing) → k < 2 → length s.disk.bytes ≡ session_length → IsMoved 1 2 s t →
     InSync t m → InStore s (CrashLeavesSuch (IsOldOrNew (recover_by (1 - k) s.disk.bytes) (recover_by k s.disk.bytes))) m
 in_chosen k s t m low long h w = in_moved_sync 1 2 s t
     (IsOldOrNew (recover_by (1 - k) s.disk.bytes) (recover_by k s.disk.bytes)) m h
@@ -66,11 +66,13 @@ in_chosen k s t m low long h w = in_moved_sync 1 2 s t
 pub selector_is : (k : ℕ) (old : List ℕ) → k < 2 → length old ≡ session_length → slot_in_use (chosen_session k old) ≡ k
 selector_is k old low long = let h : k % 2 ≡ k = grind arith in ap (λ b. b % 2) (put_one 1 k old (omega arith)) ∙ h
 
--- And a crash leaves just that.
-pub chose_all : (k x n : ℕ) (s t u : Standing) → x ≡ k → t ≡ wrote s (disk_written 1 1 (x ∷ []) s.disk) n →
-    u ≡ record t { disk = stable t.disk.bytes } → u.disk ≡ stable (chosen_session k s.disk.bytes)
-chose_all k x n s t u e w q =
-    ap (λ y. y.disk) q ∙ (ap (λ y. stable y.disk.bytes) w ∙ ap (λ j. stable (put_at 1 (j ∷ []) s.disk.bytes)) e)
+-- The selector is written, and made to last.
+pub in_choice : (k : ℕ) (s m : Standing) → k < 2 → length s.disk.bytes ≡ session_length → IsStable s.disk →
+    InWriteAndSync 1 (k ∷ []) s m → InStore s (CrashLeavesSuch (IsOldOrNew (recover_by (1 - k) s.disk.bytes) (recover_by k s.disk.bytes))) m
+in_choice k s m low long h o = elim o [
+  | inl w ↦ in_choosing k s m low long h w
+  | inr w ↦ in_chosen k s _ m low long (chose k s _ 1 long h refl) w
+]
 
 -- All but the selector is as it was.
 pub chosen_digests : (k : ℕ) (old : List ℕ) → length old ≡ session_length → kept_digests (chosen_session k old) ≡ kept_digests old

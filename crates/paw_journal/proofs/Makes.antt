@@ -9,20 +9,21 @@ use Rattle.std.proofs.lemmas.List.{length-append, length-drop, length-replicate,
 use Rattle.paw_stage.specs.declared.Stage.{Ghosts}
 use Rattle.paw_stage.specs.declared.StageCall.{StageCall}
 use Rattle.paw_stage.specs.Disk.{Range, Disk, is_dirty, IsInWrite, put_at, stable, IsStable, disk_written}
-use Rattle.paw_stage.specs.Stage.{Standing, wrote, with_written, with_store_synced}
+use Rattle.paw_stage.specs.Stage.{Standing, wrote, with_written}
 use Rattle.paw_stage.specs.Stage.{InWrite, InSync}
 use Rattle.paw_base.specs.declared.layout.TheConstants.{VERSION}
 use Rattle.paw_journal.specs.Session.{Digests, IsUnmade, recover, session_mark, zeros, made_mark, session_length}
 use Rattle.paw_journal.specs.Session.{made_header}
 use Rattle.paw_journal.specs.inner.Session.{digests_of}
-use Rattle.paw_journal.specs.inner.Store.{ChangesStoreOnly, InStore, CrashLeavesSuch, LeavesUnmade}
+use Rattle.paw_journal.specs.inner.Store.{ChangesStoreOnly, InStore, CrashLeavesSuch, LeavesUnmade, LeavesMarked}
+use Rattle.paw_journal.specs.inner.Store.{HoldsPut, InWriteAndSync}
 use Rattle.paw_journal.specs.inner.Steps.{IsBlank, IsWithin, LaysBlank}
 use Rattle.paw_journal.specs.inner.Calls.{WritesStore}
 use Rattle.paw_journal.proofs.Calls.{writes_then, writes_weaker}
 use Rattle.paw_journal.proofs.Parts.{put_below, put_end}
 use Rattle.paw_journal.proofs.Recovers.{unmade}
 use Rattle.paw_journal.proofs.Disks.{within_long, within_same}
-use Rattle.paw_journal.proofs.Moved.{beside_none, beside_wrote, written_synced, in_write, in_sync, in_later, moved_none}
+use Rattle.paw_journal.proofs.Moved.{beside_none, beside_wrote, in_write, in_sync, in_later, moved_none}
 use Rattle.paw_journal.proofs.Moved.{moved_wrote, in_moved_write, in_moved_sync}
 
 -- A store that can't be longer than one byte holds no session.
@@ -36,14 +37,18 @@ short_write old d h (inr q) = let e : d.longest ≡ max old.longest 1 = ap (λ x
 pub empty_is_short : (d : Disk) → IsStable d → length d.bytes ≡ 0 → d.longest ≤ 1
 empty_is_short d h n = omega (arith, h.longest)
 
-pub in_beginning : (s m : Standing) → s.disk.longest ≤ 1 → InWrite s 0 1 m → InStore s (CrashLeavesSuch IsUnmade) m
+in_beginning : (s m : Standing) → s.disk.longest ≤ 1 → InWrite s 0 1 m → InStore s (CrashLeavesSuch IsUnmade) m
 in_beginning s m h w = in_write s 0 1 (CrashLeavesSuch IsUnmade) m (λ d i. short_leaves d (short_write s.disk d h i)) w
 
-pub in_begun : (x n : ℕ) (s t : Standing) (m : Standing) → s.disk.longest ≤ 1 →
+in_begun : (x n : ℕ) (s t : Standing) (m : Standing) → s.disk.longest ≤ 1 →
     t ≡ wrote s (disk_written 0 1 (x ∷ []) s.disk) n → InSync t m → InStore s (CrashLeavesSuch IsUnmade) m
 in_begun x n s t m h e w =
     let l : t.disk.longest ≤ 1 = let q : t.disk.longest ≡ max s.disk.longest 1 = ap (λ x. x.disk.longest) e in omega arith in
     in_later s t (CrashLeavesSuch IsUnmade) (CrashLeavesSuch IsUnmade) m (beside_wrote s t _ n e) (λ d p. p) (in_sync t IsUnmade m (short_leaves t.disk l) w)
+
+-- Byte 0 is written to a store that can't be longer, and made to last.
+pub in_first_byte : (x : ℕ) (s m : Standing) → s.disk.longest ≤ 1 → InWriteAndSync 0 (x ∷ []) s m → LeavesUnmade s m
+in_first_byte x s m h o = elim o [ inl w ↦ in_beginning s m h w | inr w ↦ in_begun x 1 s _ m h refl w ]
 
 -- Where byte 0 is stable and 0, no crash leaves a session.
 pub blank_leaves : (held : List ℕ) (d : Disk) → IsBlank held d → CrashLeavesSuch IsUnmade d
@@ -157,19 +162,24 @@ marking old d long h image l =
         ext_get_or 0 image old (omega arith) (λ i b. same i (omega arith)) in
         ap (λ a. a ∷ image) e ∙ ap (λ l. made_mark ∷ l) f
 
-pub in_marking : (s m : Standing) → length s.disk.bytes ≡ session_length → IsStable s.disk →
+in_marking : (s m : Standing) → length s.disk.bytes ≡ session_length → IsStable s.disk →
     InWrite s 0 1 m → InStore s (CrashLeavesSuch (λ r. IsUnmade r ⊎ (r ≡ recover (made_mark ∷ drop 1 s.disk.bytes)))) m
 in_marking s m long h w = in_moved_write 0 1 0 1 s s
     (CrashLeavesSuch (λ r. IsUnmade r ⊎ (r ≡ recover (made_mark ∷ drop 1 s.disk.bytes)))) m (moved_none 0 1 s h) (omega arith)
     (omega arith) (omega arith) (λ d i. marking s.disk.bytes d long i) w
 
-pub in_marked : (x c : ℕ) (s t : Standing) (m : Standing) → length s.disk.bytes ≡ session_length → IsStable s.disk →
+in_marked : (x c : ℕ) (s t : Standing) (m : Standing) → length s.disk.bytes ≡ session_length → IsStable s.disk →
     t ≡ wrote s (disk_written 0 1 (x ∷ []) s.disk) c → InSync t m →
     InStore s (CrashLeavesSuch (λ r. IsUnmade r ⊎ (r ≡ recover (made_mark ∷ drop 1 s.disk.bytes)))) m
 in_marked x c s t m long h e w =
     in_moved_sync 0 1 s t (λ r. IsUnmade r ⊎ (r ≡ recover (made_mark ∷ drop 1 s.disk.bytes))) m
     (moved_wrote 0 1 0 1 c (x ∷ []) s s t (moved_none 0 1 s h) (omega arith) (omega arith) (omega arith) (omega arith) e)
     (λ d i. marking s.disk.bytes d long i) w
+
+-- The mark of a session that is made is written, and made to last.
+pub in_mark : (s m : Standing) → length s.disk.bytes ≡ session_length → IsStable s.disk →
+    InWriteAndSync 0 (made_mark ∷ []) s m → LeavesMarked s m
+in_mark s m long h o = elim o [ inl w ↦ in_marking s m long h w | inr w ↦ in_marked made_mark 1 s _ m long h refl w ]
 
 -- ---- calls ----
 
@@ -183,8 +193,8 @@ unmade_then h k post =
     (λ tells p beside m. in_later _ _ (CrashLeavesSuch IsUnmade) (CrashLeavesSuch IsUnmade) m beside (λ d q. q))
 
 -- A store that was empty, once its first byte was written.
-pub begun_blank : (s t u : Standing) → length s.disk.bytes ≡ 0 → t ≡ with_written 0 (0 ∷ []) s → u ≡ with_store_synced t → LaysBlank (0 ∷ []) s u
-begun_blank s t u n w q = subst (λ d. IsBlank (0 ∷ []) d) (sym (written_synced 0 (0 ∷ []) s t u w q)) (begun s.disk.bytes n)
+pub begun_blank : (s u : Standing) → length s.disk.bytes ≡ 0 → HoldsPut 0 (0 ∷ []) s u → LaysBlank (0 ∷ []) s u
+begun_blank s u n holds = subst (λ d. IsBlank (0 ∷ []) d) (sym holds) (begun s.disk.bytes n)
   where
     begun : (bytes : List ℕ) → length bytes ≡ 0 → IsBlank (0 ∷ []) (stable (put_at 0 (0 ∷ []) bytes))
     begun [] n = record { bytes = refl; long = omega arith; blank = refl; clean = refl }

@@ -14,7 +14,7 @@ ghost use Rattle.paw_journal.specs.inner.Journal.{IsAtRest};
 
 use crate::drafting::CommitDraft;
 use crate::layout::{PIECE_AT, SELECTOR_AT, Slot};
-use crate::store::{sync, write};
+use crate::store::{sync, write, write_and_sync};
 use paw_base::layout::VERSION;
 use paw_stage::{Stage, StageCall};
 
@@ -75,6 +75,5 @@ pub(crate) fn choose<S: Stage>(stage: &mut S, which: Slot) -> Result<(), StageCa
     ensures call { WritesStore S.Stage result (Chooses which) (LeavesSlot which) stage.old stage.new }
     ensures few { IfTelling S.Stage stage.old stage.new (WritesAtMost 1) }
 {
-    write(stage, SELECTOR_AT, &[which.selector()])?;
-    sync(stage)
+    write_and_sync(stage, SELECTOR_AT, &[which.selector()])
 }

@@ -13,7 +13,7 @@ use crate::layout::{
     DIGEST_LENGTH, GAME_AT, HEADER_LENGTH, MADE, MARK_AT, ROUTINES_AT, SELECTOR_AT, Slot,
     VERSION_AT,
 };
-use crate::store::{sync, write};
+use crate::store::{sync, write, write_and_sync};
 use paw_base::layout::VERSION;
 use paw_stage::{Stage, StageCall};
 
@@ -23,8 +23,7 @@ fn write_blank_mark<S: Stage>(stage: &mut S) -> Result<(), StageCall>
     requires empty { S.Tells stage.old → length (S.standing stage.old).disk.bytes ≡ 0 }
     ensures call { WritesStore S.Stage result (LaysBlank (0 ∷ [])) LeavesUnmade stage.old stage.new }
 {
-    write(stage, MARK_AT, &[0])?;
-    sync(stage)
+    write_and_sync(stage, MARK_AT, &[0])
 }
 
 // Writes the header's bytes after the first one: the digests of game and routines, and a selector that chooses slot 0.
@@ -95,6 +94,5 @@ pub(crate) fn mark<S: Stage>(stage: &mut S) -> Result<(), StageCall>
     requires long { S.Tells stage.old → length (S.standing stage.old).disk.bytes ≡ session_length }
     ensures call { WritesStore S.Stage result MarksAsMade LeavesMarked stage.old stage.new }
 {
-    write(stage, MARK_AT, &[MADE])?;
-    sync(stage)
+    write_and_sync(stage, MARK_AT, &[MADE])
 }

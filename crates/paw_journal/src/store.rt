@@ -8,7 +8,7 @@ ghost use Rattle.paw_stage.specs.inner.Stage.{WritesAtMost};
 ghost use Rattle.paw_stage.specs.Stage.{InAttach, InWrite, InSync};
 ghost use Rattle.paw_stage.specs.Across.{IfTelling, FailsOnlyBy};
 ghost use Rattle.paw_stage.specs.inner.Across.{AtEachMoment};
-ghost use Rattle.paw_journal.specs.inner.Store.{Opens};
+ghost use Rattle.paw_journal.specs.inner.Store.{Opens, HoldsPut, InWriteAndSync};
 ghost use Rattle.paw_journal.specs.inner.Calls.{WritesStore, ReadsStore};
 ghost use Rattle.paw_journal.specs.inner.Journal.{IsAtRest, failed_stage_call};
 
@@ -89,4 +89,22 @@ pub(crate) fn sync<S: Stage>(stage: &mut S) -> Result<(), StageCall>
         Ok(_) => Ok(()),
         Err(_) => Err(StageCall::Sync),
     }
+}
+
+/// Writes bytes to the attached store, from an offset on, and makes them last.
+///
+/// # Errors
+/// Write or Sync where that call of the stage failed.
+pub(crate) fn write_and_sync<S: Stage>(
+    stage: &mut S,
+    at: u64,
+    bytes: &[u8],
+) -> Result<(), StageCall>
+    requires attached { S.Tells stage.old → IsSome (S.standing stage.old).attached }
+    requires within { S.Tells stage.old → at ≤ length (S.standing stage.old).disk.bytes }
+    ensures call { WritesStore S.Stage result (HoldsPut at bytes.now) (InWriteAndSync at bytes.now) stage.old stage.new }
+    ensures few { IfTelling S.Stage stage.old stage.new (WritesAtMost (length bytes.now)) }
+{
+    write(stage, at, bytes)?;
+    sync(stage)
 }

@@ -1,8 +1,8 @@
 -- Calls that move the attached store alone.
 use Rattle.std.specs.Prelude.{◌≡◌, ◌≢◌, ◌⊎◌, ℕ, ◌-◌, ◌++◌, length, Some}
 use Rattle.paw_base.specs.Bytes.{Bytes, Name, Text}
-use Rattle.paw_stage.specs.Disk.{Disk, MayLeave, stable}
-use Rattle.paw_stage.specs.Stage.{Standing, file_bytes, with_store_opened}
+use Rattle.paw_stage.specs.Disk.{Disk, MayLeave, put_at, stable}
+use Rattle.paw_stage.specs.Stage.{Standing, file_bytes, with_store_opened, with_written, InWrite, InSync}
 use Rattle.paw_journal.specs.declared.layout.Slot.{Slot}
 use Rattle.paw_journal.specs.declared.store.Attached.{Attached}
 use Rattle.paw_journal.specs.Session.{Digests, Recovered, IsUnmade, recover, recover_by, kept_digests}
@@ -51,11 +51,19 @@ Opens old new name at = (at.length ≡ length (file_bytes old name)) × (new ≡
 abbrev pub HoldsStable : Bytes → Standing → Type 0
 HoldsStable bytes s = s.disk ≡ stable bytes
 
+-- The store has these bytes from an offset on, and is otherwise as it was, and a crash leaves just that.
+abbrev pub HoldsPut : ℕ → Bytes → Standing → Standing → Type 0
+HoldsPut at bytes old new = HoldsStable (put_at at bytes old.disk.bytes) new
+
 -- Both slots were written with these bytes, after all that stood.
 abbrev pub LaysSlots : Bytes → Standing → Standing → Type 0
 LaysSlots bytes old new = HoldsStable (old.disk.bytes ++ bytes ++ bytes) new
 
 -- ---- at a moment inside a call that moves the attached store alone ----
+
+-- These bytes are being written from an offset on, or all of them were and are made to last.
+abbrev pub InWriteAndSync : ℕ → Bytes → Standing → Standing → Type 0
+InWriteAndSync at bytes old m = InWrite old at (length bytes) m ⊎ InSync (with_written at bytes old) m
 
 -- A crash leaves no session.
 abbrev pub LeavesUnmade : Standing → Standing → Type 0
