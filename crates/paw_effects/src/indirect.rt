@@ -36,7 +36,10 @@ fn is_argument<T: Tables>(tables: &T, kind: ParamKind, value: u8) -> bool
 }
 
 // The plain condact of an indirect one, with this value as its first parameter. None exactly where the value breaks
-// the rule of what that parameter names.
+// the rule of what that parameter names. It is a function of its own, and cold, because few condacts of a game are
+// indirect: the loop that reads them then keeps what it needs in registers.
+#[cold]
+#[inline(never)]
 fn plain_with<T: Tables>(tables: &T, c: Condact, value: u8) -> Option<Condact>
     requires indirect { is_indirect c.code ≡ true }
     ensures value { result ≡ plain_with (T.game tables.now) c value }
@@ -62,10 +65,8 @@ pub(crate) fn as_plain<T: Tables>(tables: &T, world: &World, c: Condact) -> Opti
     ensures right { IfSome result (λ d. is_right (T.game tables.now) d ≡ true) }
     ensures kind { IfSome result (λ d. is_condition d ≡ is_condition c) }
 {
-    // A plain code is its own. Asked for here too, it is known to be that of a condition where it was found to be one.
-    let code = plain_code(c.code);
     if c.code < INDIRECT {
-        Some(Condact { code, ..c })
+        Some(c)
     } else {
         plain_with(tables, c, world.flag(c.a))
     }

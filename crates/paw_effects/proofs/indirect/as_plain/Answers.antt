@@ -1,7 +1,5 @@
-use Rattle.std.proofs.Common.{◌≡◌, ◌<◌, ◌∙◌, ℕ, true, refl}
-use Rattle.paw_base.specs.declared.codes.TheConstants.{INDIRECT}
-use Rattle.paw_base.specs.Condacts.{plain_code}
-use Rattle.paw_base.proofs.Table.{plain_below, indirect_of_code}
+use Rattle.std.proofs.Common.{◌≡◌, true, refl}
+use Rattle.paw_base.proofs.Table.{plain_below, plain_of_code, indirect_of_code}
 use Rattle.paw_base.specs.inner.Condacts.{IsPlainCode}
 use Rattle.paw_game.specs.inner.Valid.{is_right}
 use Rattle.paw_game.proofs.Kept.{IfSome-from}
@@ -17,28 +15,13 @@ plain_with-requires g c = record {
       indirect_of_code c.args.c.code (right-code (g.T.Tables.game c.args.tables.now) c.args.c c.requires.condact) c.if-c-lt-INDIRECT.false;
 }
 
-pub plain_code-code-requires : goal.plain_code-code-requires
-plain_code-code-requires g c = record { code = right-code (g.T.Tables.game c.args.tables.now) c.args.c c.requires.condact }
-
--- A plain code is its own.
-own : (code n : ℕ) → n ≡ plain_code code → code < INDIRECT → n ≡ code
-own code n is low = is ∙ rw (plain_below code low) refl
-
 pub returns-then-c-lt-INDIRECT-clause-value : goal.returns-then-c-lt-INDIRECT-clause-value
 unfolding as_plain
-returns-then-c-lt-INDIRECT-clause-value g c =
-    rw (own c.args.c.code c.plain_code-code.result c.plain_code-code.ensures.value c.if-c-lt-INDIRECT.true, plain_below c.args.c.code c.if-c-lt-INDIRECT.true) refl
+returns-then-c-lt-INDIRECT-clause-value g c = rw (plain_below c.args.c.code c.if-c-lt-INDIRECT.true) refl
 
 pub returns-then-c-lt-INDIRECT-clause-plain : goal.returns-then-c-lt-INDIRECT-clause-plain
-returns-then-c-lt-INDIRECT-clause-plain g c = c.plain_code-code.ensures.plain
-
-pub returns-then-c-lt-INDIRECT-clause-right : goal.returns-then-c-lt-INDIRECT-clause-right
-returns-then-c-lt-INDIRECT-clause-right g c =
-    rw (own c.args.c.code c.plain_code-code.result c.plain_code-code.ensures.value c.if-c-lt-INDIRECT.true) c.requires.condact
-
-pub returns-then-c-lt-INDIRECT-clause-kind : goal.returns-then-c-lt-INDIRECT-clause-kind
-returns-then-c-lt-INDIRECT-clause-kind g c =
-    rw (own c.args.c.code c.plain_code-code.result c.plain_code-code.ensures.value c.if-c-lt-INDIRECT.true) refl
+returns-then-c-lt-INDIRECT-clause-plain g c =
+    plain_of_code c.args.c.code (right-code (g.T.Tables.game c.args.tables.now) c.args.c c.requires.condact) c.if-c-lt-INDIRECT.true
 
 pub returns-else-c-lt-INDIRECT-clause-value : goal.returns-else-c-lt-INDIRECT-clause-value
 returns-else-c-lt-INDIRECT-clause-value g c =
