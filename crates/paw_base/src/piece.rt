@@ -16,10 +16,11 @@ pub struct Piece {
 }
 
 impl Model for Piece {
-    ghost use Rattle.std.specs.Prelude.{◌≤◌, List, ℕ, length, vec_capacity};
+    ghost use Rattle.std.specs.Prelude.{◌≤◌, length, vec_capacity};
+    ghost use Rattle.paw_base.specs.Bytes.{Text};
     ghost use Rattle.paw_base.specs.declared.limits.TheConstants.{PIECE_LIMIT};
 
-    ghost Value = { List ℕ };
+    ghost Value = { Text };
 
     ghost view = { λ p. p.text.items };
 

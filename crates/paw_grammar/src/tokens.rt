@@ -23,11 +23,12 @@ pub struct Tokens<'a> {
 }
 
 impl<'a> Model for Tokens<'a> {
-    ghost use Rattle.std.specs.Prelude.{List, ℕ, ◌≤◌};
+    ghost use Rattle.std.specs.Prelude.{◌≤◌};
+    ghost use Rattle.paw_base.specs.Bytes.{Tokens as TokensOf};
     ghost use Rattle.paw_lex.specs.inner.Lines.{LiesIn};
     ghost use Rattle.paw_lex.specs.inner.Tokens.{tokens_from};
 
-    ghost Value = { List (List ℕ) };
+    ghost Value = { TokensOf };
 
     ghost view = { λ t. tokens_from t.source.now t.line t.at };
 

@@ -13,7 +13,7 @@ use Rattle.paw_stage.specs.Disk.{IsStable}
 use Rattle.paw_stage.specs.Stage.{Standing, IsCut, file_bytes, with_shown}
 use Rattle.paw_stage.specs.Stage.{InAsk, InShow}
 use Rattle.paw_stage.specs.Moments.{Passes}
-use Rattle.paw_stage.specs.Across.{IsOneOf}
+use Rattle.paw_stage.specs.AcrossCalls.{IsOneOf}
 use Rattle.paw_play.specs.Calls.{session_calls}
 use Rattle.paw_play.proofs.Walking.{drop_more, drop_all}
 use Rattle.paw_host.specs.Names.{Request, line_parted, parted_at, request_in, request_of, is_name, store_name}

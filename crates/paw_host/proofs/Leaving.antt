@@ -5,7 +5,7 @@ use Rattle.std.specs.Prelude.{OnOk}
 use Rattle.paw_stage.specs.declared.Stage.{Ghosts}
 use Rattle.paw_stage.specs.declared.StageCall.{StageCall}
 use Rattle.paw_stage.specs.declared.StageCall.TheVariants as call
-use Rattle.paw_stage.specs.Across.{IsOneOf, FailsOnlyBy}
+use Rattle.paw_stage.specs.AcrossCalls.{IsOneOf, FailsOnlyBy}
 use Rattle.paw_stage.specs.Stage.{Standing, with_store_opened}
 use Rattle.paw_journal.specs.Journal.{writing_calls}
 use Rattle.paw_journal.specs.inner.Journal.{IsAtRest}

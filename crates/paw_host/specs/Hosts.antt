@@ -4,7 +4,7 @@ use Rattle.paw_base.specs.Bytes.{Name, RoutineAnswers, Seed}
 use Rattle.paw_game.specs.Game.{GameLists}
 use Rattle.paw_effects.specs.Story.{Story, story_of}
 use Rattle.paw_stage.specs.Stage.{Standing}
-use Rattle.paw_stage.specs.Across.{IsOneOf}
+use Rattle.paw_stage.specs.AcrossCalls.{IsOneOf}
 use Rattle.paw_stage.specs.declared.StageCall.TheVariants as call
 use Rattle.paw_play.specs.Calls.{session_calls}
 use Rattle.paw_play.specs.ImageFiles.{Holds, HoldsDamage}

@@ -2,7 +2,7 @@
 
 ghost use Rattle.std.specs.Prelude.{◌≡◌, ◌↔◌, ◌≢◌, ◌++◌, None, IfSome};
 ghost use Rattle.paw_base.specs.Bytes.{RoutineAnswers};
-ghost use Rattle.paw_stage.specs.Across.{IfTelling, EachMoment, FailsOnlyBy};
+ghost use Rattle.paw_stage.specs.AcrossCalls.{IfTelling, EachMoment, FailsOnlyBy};
 ghost use Rattle.paw_stage.specs.Disk.{IsStable};
 ghost use Rattle.paw_stage.specs.Loads.{load_calls};
 ghost use Rattle.paw_routines.specs.Routines.{AreAnswersOf, HaveAnswers};

@@ -3,7 +3,7 @@
 ghost use Rattle.std.specs.Prelude.{◌≡◌, ◌≢◌, ◌≤◌, [], Some, true, codes, length, IfOk, OnOk, IfSome, IfNone};
 ghost use Rattle.paw_base.specs.declared.limits.TheConstants.{LINE_LIMIT};
 ghost use Rattle.paw_stage.specs.Disk.{IsStable};
-ghost use Rattle.paw_stage.specs.Across.{IfTelling, EachMoment, FailsOnlyBy};
+ghost use Rattle.paw_stage.specs.AcrossCalls.{IfTelling, EachMoment, FailsOnlyBy};
 ghost use Rattle.paw_turn.specs.inner.Player.{IsSeated};
 ghost use Rattle.paw_journal.specs.inner.Journal.{failed_stage_call};
 ghost use Rattle.paw_play.specs.Calls.{session_calls};

@@ -103,11 +103,12 @@ pub(crate) struct StoreName {
 }
 
 impl Model for StoreName {
-    ghost use Rattle.std.specs.Prelude.{◌≤◌, List, ℕ, vec_capacity};
+    ghost use Rattle.std.specs.Prelude.{◌≤◌, vec_capacity};
     ghost use Rattle.std.specs.Str.{IsUtf8};
+    ghost use Rattle.paw_base.specs.Bytes.{Name};
     ghost use Rattle.paw_host.specs.declared.names.TheConstants.{STORE_LIMIT};
 
-    ghost Value = { List ℕ };
+    ghost Value = { Name };
 
     ghost view = { λ n. n.bytes.items };
 

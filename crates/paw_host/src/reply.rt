@@ -17,10 +17,11 @@ pub(crate) struct Reply {
 }
 
 impl Model for Reply {
-    ghost use Rattle.std.specs.Prelude.{◌≤◌, List, ℕ, length, vec_capacity};
+    ghost use Rattle.std.specs.Prelude.{◌≤◌, length, vec_capacity};
+    ghost use Rattle.paw_base.specs.Bytes.{Text};
     ghost use Rattle.paw_host.specs.declared.reply.TheConstants.{REPLY_LIMIT};
 
-    ghost Value = { List ℕ };
+    ghost Value = { Text };
 
     ghost view = { λ r. r.text.items };
 

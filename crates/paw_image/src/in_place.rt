@@ -11,12 +11,12 @@ use std::alloc::Global;
 
 /// Something of which an image has a list, passed over in place.
 pub trait InPlace {
-    ghost use Rattle.std.specs.Prelude.{List, ℕ};
+    ghost use Rattle.paw_base.specs.Bytes.{Bytes};
     ghost use Rattle.paw_image.specs.Damage.{Passing, ImagePreface};
     ghost use Rattle.paw_read_error.specs.inner.Gives.{Gives};
 
     /// The bytes after the row at the front, or its first fault.
-    ghost passing: { ImagePreface → List ℕ → Passing };
+    ghost passing: { ImagePreface → Bytes → Passing };
 
     /// The bytes after the row at the front, where each of its fields follows its rule.
     fn pass<'a>(rules: &FieldRules, bytes: &'a [u8]) -> Result<&'a [u8], ReadFault>

@@ -11,10 +11,11 @@ use std::alloc::{AllocError, Global};
 
 /// Something of which an image has a list: a row is spelled by some bytes.
 pub trait Row {
-    ghost use Rattle.std.specs.Prelude.{◌≡◌, ◌<◌, ◌^◌, ◌++◌, List, ℕ, length, OnOk};
+    ghost use Rattle.std.specs.Prelude.{◌≡◌, ◌<◌, ◌^◌, ◌++◌, length, OnOk};
+    ghost use Rattle.paw_base.specs.Bytes.{Bytes};
 
     /// The bytes that spell a row.
-    ghost spelling: { Self → List ℕ };
+    ghost spelling: { Self → Bytes };
 
     /// What a row must be to be spelled: no number in it is too large for its bytes.
     ghost fits: { Self → Type 0 };
@@ -33,12 +34,12 @@ pub trait Row {
 
 /// Something of which an image has a list, read where it stands at the front of bytes.
 pub trait ReadRow: Drop {
-    ghost use Rattle.std.specs.Prelude.{List, ℕ};
+    ghost use Rattle.paw_base.specs.Bytes.{Bytes};
     ghost use Rattle.paw_image.specs.Reading.{Reading};
     ghost use Rattle.paw_read_error.specs.inner.Gives.{Gives};
 
     /// The row at the front of these bytes, and the bytes after it.
-    ghost reading: { List ℕ → Reading Self };
+    ghost reading: { Bytes → Reading Self };
 
     /// Reads the row at the front of the bytes, and gives the bytes after it.
     fn read(alloc: Global, bytes: &[u8]) -> Result<(Self, &[u8]), ReadFault>

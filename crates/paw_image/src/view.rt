@@ -43,10 +43,10 @@ pub struct View<'a> {
 }
 
 impl<'a> Model for View<'a> {
-    ghost use Rattle.std.specs.Prelude.{List, ℕ};
+    ghost use Rattle.paw_base.specs.Bytes.{Bytes};
     ghost use Rattle.paw_image.specs.inner.Views.{IsIndex};
 
-    ghost Value = { List ℕ };
+    ghost Value = { Bytes };
 
     ghost view = { λ v. v.bytes.now };
 

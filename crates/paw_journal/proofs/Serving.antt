@@ -4,7 +4,7 @@ use Rattle.std.specs.Prelude.{Option, Some, None}
 use Rattle.paw_stage.specs.declared.StageCall.{StageCall}
 use Rattle.paw_stage.specs.declared.Stage.{Ghosts}
 use Rattle.paw_stage.specs.Stage.{CountsFailure}
-use Rattle.paw_stage.specs.Across.{IsOneOf, FailsOnlyBy}
+use Rattle.paw_stage.specs.AcrossCalls.{IsOneOf, FailsOnlyBy}
 use Rattle.paw_stage.proofs.Counted.{CountsFailure_same, CountsFailure_on}
 
 -- ---- lists ----

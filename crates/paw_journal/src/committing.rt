@@ -4,7 +4,7 @@ ghost use Rattle.std.specs.Prelude.{◌≡◌, ◌+◌, ◌≤◌, length, IsSom
 ghost use Rattle.paw_base.specs.declared.limits.TheConstants.{PIECE_LIMIT};
 ghost use Rattle.paw_stage.specs.Disk.{put_at};
 ghost use Rattle.paw_stage.specs.inner.Stage.{WritesAtMost};
-ghost use Rattle.paw_stage.specs.Across.{IfTelling};
+ghost use Rattle.paw_stage.specs.AcrossCalls.{IfTelling};
 ghost use Rattle.paw_journal.specs.Session.{session_length, slot_length, slot_head};
 ghost use Rattle.paw_journal.specs.inner.Room.{slot_number};
 ghost use Rattle.paw_journal.specs.inner.Store.{LeavesSame, LeavesSlot};

@@ -1,7 +1,7 @@
 // A session: making one, finding one, and committing to it.
 
 ghost use Rattle.std.specs.Prelude.{◌≡◌, length, OnOk, IfOk, IfErr};
-ghost use Rattle.paw_stage.specs.Across.{IfTelling};
+ghost use Rattle.paw_stage.specs.AcrossCalls.{IfTelling};
 ghost use Rattle.paw_journal.specs.Session.{BelongsTo, recover, kept_digests, piece_length};
 ghost use Rattle.paw_journal.specs.inner.Session.{digests_of};
 ghost use Rattle.paw_journal.specs.inner.Written.{WritesLittle};

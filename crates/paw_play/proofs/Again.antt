@@ -16,7 +16,7 @@ use Rattle.paw_state.proofs.Ruled.{each_of}
 use Rattle.paw_stage.specs.declared.StageCall.{StageCall}
 use Rattle.paw_stage.specs.declared.StageCall.TheVariants as call
 use Rattle.paw_stage.specs.declared.Stage.{Ghosts}
-use Rattle.paw_stage.specs.Across.{IsOneOf, FailsOnlyBy, EachMoment, InTwoParts}
+use Rattle.paw_stage.specs.AcrossCalls.{IsOneOf, FailsOnlyBy, EachMoment, InTwoParts}
 use Rattle.paw_journal.specs.inner.Session.{digests_of}
 use Rattle.paw_journal.specs.inner.Journal.{IsSessionRefused, outside}
 use Rattle.paw_journal.specs.declared.refusal.JournalRefusal.{JournalRefusal}

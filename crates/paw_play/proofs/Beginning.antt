@@ -16,7 +16,7 @@ use Rattle.paw_turn.specs.declared.Step.{Step}
 use Rattle.paw_turn.specs.declared.Step.TheVariants as step
 use Rattle.paw_journal.specs.Session.{Digests, Shown, IsUnmade, recover, kept_digests, made_session}
 use Rattle.paw_journal.specs.inner.Store.{ChangesStoreOnly, InStore, CrashLeavesSuch}
-use Rattle.paw_stage.specs.Across.{IsOneOf}
+use Rattle.paw_stage.specs.AcrossCalls.{IsOneOf}
 use Rattle.paw_journal.specs.Journal.{writing_calls}
 use Rattle.paw_play.specs.declared.PlayEnd.{PlayEnd}
 use Rattle.paw_play.specs.declared.PlayEnd.TheVariants as end
@@ -26,7 +26,7 @@ use Rattle.paw_play.specs.Played.{PlayedSession}
 use Rattle.paw_play.specs.Keeping.{InPlay, InMaking, StaysAttached, RestsWith}
 use Rattle.paw_play.specs.Play.{with_store}
 use Rattle.paw_play.specs.inner.Calls.{unless_ended}
-use Rattle.paw_play.specs.inner.Telling.{Plain}
+use Rattle.paw_play.specs.inner.ShowSteps.{Plain}
 use Rattle.paw_turn.specs.inner.Player.{IsStanding}
 use Rattle.paw_turn.proofs.Halting.{halted_stands}
 use Rattle.paw_reading.specs.declared.places.Halt.TheVariants as halt
@@ -35,7 +35,7 @@ use Rattle.paw_play.specs.inner.OnTheWay.{BegunAs, Begins, begun_with}
 use Rattle.paw_play.proofs.Kept.{KeepsLines, step_kept}
 use Rattle.paw_play.proofs.Written.{made_bytes}
 use Rattle.paw_play.proofs.Resting.{rests_on}
-use Rattle.paw_play.proofs.Telling.{shows_piece}
+use Rattle.paw_play.proofs.ShownSteps.{shows_piece}
 use Rattle.paw_play.proofs.Walking.{walk_begins, text_shown}
 use Rattle.paw_effects.specs.Story.{Story}
 

@@ -4,7 +4,7 @@ use Rattle.std.specs.Prelude.{IfSome, IfOk, IfErr}
 use Rattle.paw_stage.specs.Stage.{Standing}
 use Rattle.paw_stage.specs.declared.StageCall.{StageCall}
 use Rattle.paw_stage.specs.declared.Stage.{Ghosts}
-use Rattle.paw_stage.specs.Across.{IsOneOf, FailsOnlyBy}
+use Rattle.paw_stage.specs.AcrossCalls.{IsOneOf, FailsOnlyBy}
 use Rattle.paw_journal.specs.Journal.{writing_calls}
 use Rattle.paw_journal.specs.declared.journal.Journal.{Journal}
 use Rattle.paw_journal.specs.inner.Room.{Room}

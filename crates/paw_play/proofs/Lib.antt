@@ -1,5 +1,5 @@
 pub mod Halts
-mod Telling
+mod ShownSteps
 pub mod Walking
 mod States
 pub mod Kept

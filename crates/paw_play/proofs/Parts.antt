@@ -2,7 +2,7 @@
 use Rattle.std.proofs.Common.{◌≡◌, ◌⊎◌, ℕ, ◌≤◌, List, refl, sym, ◌∙◌, subst, arith, inl, inr}
 use Rattle.paw_stage.specs.Stage.{Standing, Unattached, made_if_missing}
 use Rattle.paw_stage.specs.Stage.{InAttach}
-use Rattle.paw_stage.specs.Across.{EachMoment, InTwoParts, first_alone, both}
+use Rattle.paw_stage.specs.AcrossCalls.{EachMoment, InTwoParts, first_alone, both}
 use Rattle.paw_stage.specs.declared.Stage.{Ghosts}
 use Rattle.paw_stage.proofs.Time.{Passes_map, Passes_on}
 use Rattle.paw_play.specs.Play.{NotYet}

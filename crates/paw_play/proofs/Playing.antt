@@ -21,7 +21,7 @@ use Rattle.paw_turn.specs.declared.Step.{Step}
 use Rattle.paw_turn.specs.declared.Step.TheVariants as step
 use Rattle.paw_journal.specs.Session.{Shown, recover, kept_digests, session_committed}
 use Rattle.paw_journal.specs.inner.Store.{ChangesStoreOnly, InStore, CrashLeavesSuch, IsOldOrNew}
-use Rattle.paw_stage.specs.Across.{IsOneOf}
+use Rattle.paw_stage.specs.AcrossCalls.{IsOneOf}
 use Rattle.paw_journal.specs.Journal.{writing_calls}
 use Rattle.paw_play.specs.declared.PlayEnd.{PlayEnd}
 use Rattle.paw_play.specs.declared.PlayEnd.TheVariants as end
@@ -30,7 +30,7 @@ use Rattle.paw_play.specs.Played.{PlayedSession}
 use Rattle.paw_play.specs.Keeping.{AgreesWith, IsUpToDateWith, InPlay, StaysAttached, RestsWith, KeepsAllButLast}
 use Rattle.paw_play.specs.Play.{with_store, Uncommitted, PlaysOn}
 use Rattle.paw_play.specs.inner.Calls.{unless_ended}
-use Rattle.paw_play.specs.inner.Telling.{Plain}
+use Rattle.paw_play.specs.inner.ShowSteps.{Plain}
 use Rattle.paw_turn.specs.inner.Player.{IsStanding, step_halt}
 use Rattle.paw_turn.proofs.Halting.{halted_stands}
 use Rattle.paw_reading.specs.declared.places.Halt.TheVariants as halt
@@ -40,7 +40,7 @@ use Rattle.paw_play.specs.Written.{bytes_before, store_bytes_after}
 use Rattle.paw_play.proofs.Kept.{KeepsLines, step_kept}
 use Rattle.paw_play.proofs.Written.{more_bytes}
 use Rattle.paw_play.proofs.Resting.{rests_on}
-use Rattle.paw_play.proofs.Telling.{shows_piece}
+use Rattle.paw_play.proofs.ShownSteps.{shows_piece}
 use Rattle.paw_play.proofs.Walking.{walks_on, long_walk, none_left, none_asked, text_so_far, text_shown, read_after}
 use Rattle.paw_play.proofs.Walking.{drop_more}
 use Rattle.paw_play.proofs.Walking.{stands_after, shown_nothing}

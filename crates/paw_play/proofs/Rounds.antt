@@ -10,7 +10,7 @@ use Rattle.paw_stage.specs.Disk.{MayLeave}
 use Rattle.paw_stage.specs.Stage.{Standing, Files, Unattached, bytes_or_none}
 use Rattle.paw_stage.specs.declared.StageCall.{StageCall}
 use Rattle.paw_stage.specs.declared.StageCall.TheVariants as call
-use Rattle.paw_stage.specs.Across.{IsOneOf}
+use Rattle.paw_stage.specs.AcrossCalls.{IsOneOf}
 use Rattle.paw_effects.specs.Standing.{AreBytes}
 use Rattle.paw_effects.specs.Story.{Story}
 use Rattle.paw_reading.specs.Bounds.{IsLine}

@@ -25,13 +25,13 @@ use Rattle.paw_play.specs.declared.PlayEnd.{PlayEnd}
 use Rattle.paw_play.specs.declared.PlayEnd.TheVariants as end
 use Rattle.paw_stage.specs.declared.StageCall.TheVariants as call
 use Rattle.paw_play.specs.Walk.{EndingOf, first_lines, with_lines_taken, text_before, PartShown, WalkWaits, WalkHalts}
-use Rattle.paw_play.specs.inner.Telling.{ShowSteps, seat_text, shown_pieces, HaveSteps, KeepsShown, shown_run, shown_ending}
-use Rattle.paw_play.specs.inner.Telling.{with_shown_steps}
+use Rattle.paw_play.specs.inner.ShowSteps.{ShowSteps, seat_text, shown_pieces, HaveSteps, KeepsShown, shown_run, shown_ending}
+use Rattle.paw_play.specs.inner.ShowSteps.{with_shown_steps}
 use Rattle.paw_turn.specs.inner.Player.{IsStanding}
 use Rattle.paw_play.specs.inner.OnTheWay.{IsWalking, ShowsStep, WalksTo}
 use Rattle.paw_turn.proofs.Halting.{plays_halted}
-use Rattle.paw_play.proofs.Telling.{pieces_more, told_more, steps_more, told_none, steps_none, waits_told, halts_told}
-use Rattle.paw_play.proofs.Telling.{same_lines, told_is}
+use Rattle.paw_play.proofs.ShownSteps.{pieces_more, told_more, steps_more, told_none, steps_none, waits_told, halts_told}
+use Rattle.paw_play.proofs.ShownSteps.{same_lines, told_is}
 use Rattle.paw_effects.specs.Story.{Story}
 
 -- ---- lines ----

@@ -2,7 +2,7 @@
 use Rattle.std.specs.Prelude.{take, ◌-◌, ◌≡◌, ◌≢◌, ◌⊎◌, ℕ, suc, ◌<◌, ◌≤◌, [], length, None, false, Some}
 use Rattle.paw_base.specs.Bytes.{Bytes, Name, Text, zeros}
 use Rattle.paw_stage.specs.Stage.{Standing, Unattached, file_bytes, made_if_missing, with_store_opened}
-use Rattle.paw_stage.specs.Across.{IsOneOf}
+use Rattle.paw_stage.specs.AcrossCalls.{IsOneOf}
 use Rattle.paw_stage.specs.declared.StageCall.{StageCall}
 use Rattle.paw_stage.specs.declared.StageCall.TheVariants as call
 use Rattle.paw_base.specs.declared.limits.TheConstants.{EVENT_LIMIT}

@@ -1,4 +1,4 @@
 -- Words of contracts between crates, and of proofs. What a reader must believe doesn't reach them.
 pub mod Calls
-pub mod Telling
+pub mod ShowSteps
 pub mod OnTheWay

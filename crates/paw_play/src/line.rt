@@ -2,7 +2,7 @@
 
 ghost use Rattle.std.specs.Prelude.{◌≡◌, ◌+◌, ◌*◌, ◌<◌, ◌≤◌, take, length, IfOk, IfErr};
 ghost use Rattle.paw_base.specs.declared.limits.TheConstants.{EVENT_LIMIT, READ_LIMIT};
-ghost use Rattle.paw_stage.specs.Across.{IfTelling, EachMoment, FailsOnlyBy};
+ghost use Rattle.paw_stage.specs.AcrossCalls.{IfTelling, EachMoment, FailsOnlyBy};
 ghost use Rattle.paw_turn.specs.inner.Player.{IsSeated};
 ghost use Rattle.paw_turn.specs.inner.Parts.{IsStanding};
 ghost use Rattle.paw_journal.specs.Session.{state_length, piece_length};

@@ -6,7 +6,7 @@ ghost use Rattle.paw_base.specs.Bytes.{Name};
 ghost use Rattle.paw_base.specs.declared.limits.TheConstants.{EVENT_LIMIT, READ_LIMIT};
 ghost use Rattle.paw_game.specs.Image.{image};
 ghost use Rattle.paw_stage.specs.Disk.{IsStable};
-ghost use Rattle.paw_stage.specs.Across.{IfTelling, EachMoment, InTwoParts, FailsOnlyBy};
+ghost use Rattle.paw_stage.specs.AcrossCalls.{IfTelling, EachMoment, InTwoParts, FailsOnlyBy};
 ghost use Rattle.paw_routines.specs.Routines.{HaveAnswers};
 ghost use Rattle.paw_routines.specs.Measure.{measure};
 ghost use Rattle.paw_journal.specs.inner.Session.{digests_of};

@@ -8,7 +8,7 @@ use std::alloc::Global;
 pub trait Preface: Drop {
     ghost use Rattle.std.specs.Prelude.{◌≡◌, ◌≤◌};
     ghost use Rattle.paw_base.specs.declared.limits.TheConstants.{STEP_LIMIT};
-    ghost use Rattle.paw_play.specs.inner.Telling.{ShowSteps, KeepsShown, preface};
+    ghost use Rattle.paw_play.specs.inner.ShowSteps.{ShowSteps, KeepsShown, preface};
 
     /// Whether the pieces are shown as they are or traced.
     ghost telling: { ShowSteps };
@@ -34,7 +34,7 @@ pub trait Preface: Drop {
 pub struct Nothing;
 
 impl Preface for Nothing {
-    ghost use Rattle.paw_play.specs.inner.Telling.{Plain};
+    ghost use Rattle.paw_play.specs.inner.ShowSteps.{Plain};
 
     ghost telling = { Plain };
 

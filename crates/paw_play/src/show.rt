@@ -2,8 +2,8 @@
 
 ghost use Rattle.std.specs.Prelude.{◌≡◌, ◌<◌, [], ◌∷◌, length, OnErr, IsErr};
 ghost use Rattle.paw_stage.specs.Stage.{InShow, failed_in, with_shown};
-ghost use Rattle.paw_stage.specs.Across.{IfTelling, FailsOnlyBy};
-ghost use Rattle.paw_stage.specs.inner.Across.{OnSuccess, AtEachMoment};
+ghost use Rattle.paw_stage.specs.AcrossCalls.{IfTelling, FailsOnlyBy};
+ghost use Rattle.paw_stage.specs.inner.AcrossCalls.{OnSuccess, AtEachMoment};
 ghost use Rattle.paw_stage.specs.declared.StageCall.TheVariants as call;
 
 use paw_stage::{Failed, Stage};

@@ -6,7 +6,7 @@ ghost use Rattle.paw_base.specs.inner.Piece.{Puts};
 ghost use Rattle.paw_base.specs.Condacts.{name_of};
 ghost use Rattle.paw_base.specs.declared.limits.TheConstants.{STEP_LIMIT, PIECE_LIMIT};
 ghost use Rattle.paw_play.specs.Traces.{step_address, answer_text, step_line, more_line};
-ghost use Rattle.paw_play.specs.inner.Telling.{kept_text};
+ghost use Rattle.paw_play.specs.inner.ShowSteps.{kept_text};
 
 use crate::preface::Preface;
 use itoa::Buffer;
@@ -116,7 +116,7 @@ pub struct StepLines {
 }
 
 impl Preface for StepLines {
-    ghost use Rattle.paw_play.specs.inner.Telling.{Stepped};
+    ghost use Rattle.paw_play.specs.inner.ShowSteps.{Stepped};
 
     ghost telling = { Stepped };
 

@@ -4,13 +4,13 @@ ghost use Rattle.std.specs.Prelude.{◌≡◌, ◌+◌, ◌<◌, ◌≤◌, ◌^
 ghost use Rattle.paw_base.specs.declared.limits.TheConstants.{EVENT_LIMIT, READ_LIMIT};
 ghost use Rattle.paw_routines.specs.Routines.{HaveAnswers};
 ghost use Rattle.paw_stage.specs.Stage.{Standing, InShow, failed_in, with_shown};
-ghost use Rattle.paw_stage.specs.Across.{IfTelling, FailsOnlyBy};
-ghost use Rattle.paw_stage.specs.inner.Across.{OnSuccess, AtEachMoment};
+ghost use Rattle.paw_stage.specs.AcrossCalls.{IfTelling, FailsOnlyBy};
+ghost use Rattle.paw_stage.specs.inner.AcrossCalls.{OnSuccess, AtEachMoment};
 ghost use Rattle.paw_stage.specs.declared.StageCall.TheVariants as call;
 ghost use Rattle.paw_reading.specs.Turn.{reading};
 ghost use Rattle.paw_turn.specs.inner.Player.{IsSeated};
 ghost use Rattle.paw_play.specs.Walk.{EndingOf, Walks};
-ghost use Rattle.paw_play.specs.inner.Telling.{seat_text, with_shown_steps};
+ghost use Rattle.paw_play.specs.inner.ShowSteps.{seat_text, with_shown_steps};
 ghost use Rattle.paw_play.specs.inner.OnTheWay.{EachStory, IsWalking, StillPlays, WalksTo, ShowsStep, end_if_no_piece};
 ghost use Rattle.paw_play.specs.Calls.{walk_calls};
 ghost use Rattle.paw_play.specs.inner.Calls.{IsNotForCall, call_of_end, failed_so_far};

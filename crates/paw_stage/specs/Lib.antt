@@ -1,6 +1,6 @@
 pub mod Disk
 pub mod Stage
 pub mod Moments
-pub mod Across
+pub mod AcrossCalls
 pub mod Loads
 pub mod inner

@@ -1,6 +1,6 @@
 -- Definitions for contracts between crates, and for proofs. Nothing that a reader must believe rests on them.
 pub mod Stage
-pub mod Across
+pub mod AcrossCalls
 pub mod Loads
 pub mod Failures
 pub mod Files

@@ -70,7 +70,8 @@ pub enum Asked {
 /// A store is a file. What a crash leaves of it follows the disk of `specs/Disk.antt`: any bytes wherever it was
 /// written since the last sync, and all others as they were.
 pub trait Stage {
-    ghost use Rattle.std.specs.Prelude.{◌≡◌, ◌≤◌, ◌+◌, ◌↔◌, ℕ, List, length, Some, IsSome};
+    ghost use Rattle.std.specs.Prelude.{◌≡◌, ◌≤◌, ◌+◌, ◌↔◌, ℕ, length, Some, IsSome};
+    ghost use Rattle.paw_base.specs.Bytes.{Name};
     ghost use Rattle.paw_stage.specs.declared.StageCall.{StageCall};
     ghost use Rattle.paw_stage.specs.declared.StageCall.TheVariants as call;
     ghost use Rattle.paw_stage.specs.Disk.{IsStable};
@@ -181,6 +182,6 @@ pub trait Stage {
     ghost counts_now: { (s : Self) (t : ℕ) → Tells s → t ≤ clock s → since s t (standing s) };
 
     /// While a store is attached, the file of its name holds the store's bytes.
-    ghost files_hold: { (s : Self) (name : List ℕ) → Tells s → (standing s).attached ≡ Some name →
+    ghost files_hold: { (s : Self) (name : Name) → Tells s → (standing s).attached ≡ Some name →
         file_bytes (standing s) name ≡ (standing s).disk.bytes };
 }

@@ -2,8 +2,9 @@
 
 ghost use Rattle.std.specs.Prelude.{◌≡◌, ◌↔◌, ◌≤◌, ◌<◌, ◌+◌, ◌++◌, ◌∷◌, [], IsTrue, IsFalse, IfOk, IfSome, IfNone};
 ghost use Rattle.std.specs.Prelude.{IsSome};
-ghost use Rattle.std.specs.Prelude.{None, OnOk, OnErr, length, take, drop, vec_len, vec_capacity, List, ℕ};
+ghost use Rattle.std.specs.Prelude.{None, OnOk, OnErr, length, take, drop, vec_len, vec_capacity};
 ghost use Rattle.std.specs.Option.{option_map};
+ghost use Rattle.paw_base.specs.Bytes.{Name};
 ghost use Rattle.paw_stage.specs.Stage.{Standing, bytes_or_none};
 ghost use Rattle.paw_stage.specs.inner.Stage.{IfAttached};
 ghost use Rattle.paw_stage.specs.inner.Done.{call_of, call_at, added_file, fresh, after_call_of, after, calls_made};
@@ -291,7 +292,7 @@ fn show_text(text: &mut Vec<u8>, kind: CallKind, bytes: &[u8])
 
 // How many bytes a call wrote to the store.
 fn bytes_written(kind: CallKind, bytes: &[u8]) -> usize
-    ensures counted { (s : Standing) (name : List ℕ) →
+    ensures counted { (s : Standing) (name : Name) →
         (after_call_of kind name bytes.now s).written ≡ s.written + result }
     ensures most { result ≤ length bytes.now }
 {

@@ -2,8 +2,9 @@
 
 ghost use Rattle.std.specs.Prelude.{◌≡◌, ◌↔◌, ◌⊎◌, ◌≤◌, ◌<◌, ◌+◌, ◌-◌, ◌^◌, ◌++◌, ◌∷◌, ◌||◌, min, max};
 ghost use Rattle.std.specs.Prelude.{true, [], IfOk, IfSome, IfNone, IsSome, Some, None, length, take, drop};
-ghost use Rattle.std.specs.Prelude.{slice_range, replicate, List, ℕ};
+ghost use Rattle.std.specs.Prelude.{slice_range, replicate, List};
 ghost use Rattle.std.specs.Option.{option_map};
+ghost use Rattle.paw_base.specs.Bytes.{Bytes};
 ghost use Rattle.paw_stage.specs.declared.log.CallKind.TheVariants as kind;
 ghost use Rattle.paw_stage.specs.Disk.{put_at};
 ghost use Rattle.paw_stage.specs.Stage.{Standing, file_bytes};
@@ -113,7 +114,7 @@ pub fn crash(calls: &[Call], room: &[u8], alloc: Global, pick: u8) -> Result<Vec
 
 /// How many calls of the stage these are; a file that was put there between them isn't counted.
 pub fn calls_made(calls: &[Call]) -> usize
-    ensures value { (room : List ℕ) → result ≡ calls_made (all_done room calls.now) }
+    ensures value { (room : Bytes) → result ≡ calls_made (all_done room calls.now) }
 {
     let mut made = 0;
     for k in 0..calls.len() {

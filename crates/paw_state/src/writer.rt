@@ -16,11 +16,12 @@ pub(crate) struct Writer {
 }
 
 impl Model for Writer {
-    ghost use Rattle.std.specs.Prelude.{◌≡◌, ◌-◌, ◌≤◌, List, ℕ, take, drop};
+    ghost use Rattle.std.specs.Prelude.{◌≡◌, ◌-◌, ◌≤◌, take, drop};
+    ghost use Rattle.paw_base.specs.Bytes.{Bytes};
     ghost use Rattle.paw_state.specs.declared.fields.TheConstants.{STATE_ROOM};
     ghost use Rattle.paw_state.specs.State.{zeros};
 
-    ghost Value = { List ℕ };
+    ghost Value = { Bytes };
 
     ghost view = { λ w. take w.count w.bytes };
 

@@ -5,7 +5,7 @@ use Rattle.paw_base.specs.declared.fault.SourceFault.{SourceFault}
 use Rattle.paw_game.specs.Game.{GameLists}
 use Rattle.paw_stage.specs.declared.Stage.{Ghosts}
 use Rattle.paw_stage.specs.declared.StageCall.{StageCall}
-use Rattle.paw_stage.specs.Across.{FailsOnlyBy}
+use Rattle.paw_stage.specs.AcrossCalls.{FailsOnlyBy}
 use Rattle.paw_journal.specs.declared.refusal.JournalRefusal.TheVariants as refusal
 use Rattle.paw_play.specs.inner.Calls.{call_of_end}
 use Rattle.paw_play.specs.declared.PlayEnd.{PlayEnd}

@@ -3,7 +3,7 @@ use Rattle.std.proofs.Common.{◌≡◌, List, ℕ, sym, ap, subst}
 use Rattle.paw_game.specs.Game.{GameLists}
 use Rattle.paw_effects.specs.Story.{Story, story_of}
 use Rattle.paw_stage.specs.Stage.{Standing}
-use Rattle.paw_stage.specs.Across.{InTwoParts}
+use Rattle.paw_stage.specs.AcrossCalls.{InTwoParts}
 use Rattle.paw_stage.specs.declared.Stage.{Ghosts}
 use Rattle.paw_play.specs.declared.PlayEnd.{PlayEnd}
 use Rattle.paw_play.specs.Keeping.{InNewSession, InPlay}

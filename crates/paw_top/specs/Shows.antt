@@ -3,7 +3,7 @@ use Rattle.std.specs.Prelude.{◌≡◌, ◌≤◌, ◌<◌, ℕ, length, Some, 
 use Rattle.paw_base.specs.Bytes.{Bytes, Name, Text}
 use Rattle.paw_stage.specs.Stage.{Standing, with_shown, InShow}
 use Rattle.paw_stage.specs.declared.StageCall.TheVariants as call
-use Rattle.paw_stage.specs.Across.{IsOneOf}
+use Rattle.paw_stage.specs.AcrossCalls.{IsOneOf}
 use Rattle.paw_wrap.specs.FirstFit.{first_fit}
 use Rattle.paw_wrap.specs.declared.columns.TheConstants.{WRAP_LIMIT}
 use Rattle.paw_top.specs.Answers.{load_memory}

@@ -4,7 +4,7 @@ ghost use Rattle.std.specs.Prelude.{◌≡◌, ◌≢◌, ◌∷◌, string_byte
 ghost use Rattle.paw_check.specs.Shown.{verdict_text};
 ghost use Rattle.paw_check.specs.Verdicts.{bounds};
 ghost use Rattle.paw_stage.specs.declared.StageCall.TheVariants as call;
-ghost use Rattle.paw_stage.specs.Across.{FailsOnlyBy, IsOneOf};
+ghost use Rattle.paw_stage.specs.AcrossCalls.{FailsOnlyBy, IsOneOf};
 ghost use Rattle.paw_stage.specs.Loads.{load_calls};
 ghost use Rattle.paw_top.specs.Answers.{IfMemory, load_memory, failed_call};
 ghost use Rattle.paw_top.specs.Check.{Checks};

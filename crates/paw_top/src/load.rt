@@ -2,8 +2,8 @@
 
 ghost use Rattle.std.specs.Prelude.{◌≢◌, IfOk, IfErr};
 ghost use Rattle.paw_stage.specs.Stage.{Still};
-ghost use Rattle.paw_stage.specs.Across.{IfTelling, FailsOnlyBy, IsOneOf};
-ghost use Rattle.paw_stage.specs.inner.Across.{AtEachMoment};
+ghost use Rattle.paw_stage.specs.AcrossCalls.{IfTelling, FailsOnlyBy, IsOneOf};
+ghost use Rattle.paw_stage.specs.inner.AcrossCalls.{AtEachMoment};
 ghost use Rattle.paw_stage.specs.Loads.{load_calls};
 ghost use Rattle.paw_top.specs.Answers.{IfMemory, load_memory};
 ghost use Rattle.paw_top.specs.inner.Answers.{failed_or};

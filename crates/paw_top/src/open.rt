@@ -3,7 +3,7 @@
 ghost use Rattle.std.specs.Prelude.{◌≡◌, ◌≢◌, Some, None, IfOk, IfErr};
 ghost use Rattle.paw_base.specs.Bytes.{Bytes};
 ghost use Rattle.paw_game.specs.Game.{GameLists};
-ghost use Rattle.paw_stage.specs.Across.{IsOneOf};
+ghost use Rattle.paw_stage.specs.AcrossCalls.{IsOneOf};
 ghost use Rattle.paw_image.specs.Damage.{bad};
 ghost use Rattle.paw_image.specs.Images.{IsImage};
 ghost use Rattle.paw_image.specs.inner.Images.{AtDamage};

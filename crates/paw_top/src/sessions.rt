@@ -3,13 +3,13 @@
 ghost use Rattle.std.specs.Prelude.{◌≡◌, ◌≢◌, [], ◌∷◌, ◌++◌};
 ghost use Rattle.paw_base.specs.Bytes.{RoutineAnswers};
 ghost use Rattle.paw_effects.specs.Story.{Story};
-ghost use Rattle.paw_play.specs.inner.Telling.{with_shown_steps};
+ghost use Rattle.paw_play.specs.inner.ShowSteps.{with_shown_steps};
 ghost use Rattle.paw_play.specs.Calls.{walk_calls, session_calls};
 ghost use Rattle.paw_play.specs.Keeping.{InNewSession, InPlay};
 ghost use Rattle.paw_play.specs.Play.{NotYet, store_bytes};
 ghost use Rattle.paw_play.specs.Played.{PlayedSession, GoesOnFrom, session_begun};
 ghost use Rattle.paw_reading.specs.Turn.{reading};
-ghost use Rattle.paw_stage.specs.Across.{IfTelling, InTwoParts, FailsOnlyBy, IsOneOf};
+ghost use Rattle.paw_stage.specs.AcrossCalls.{IfTelling, InTwoParts, FailsOnlyBy, IsOneOf};
 ghost use Rattle.paw_routines.specs.Routines.{AreAnswersOf, HaveAnswers};
 ghost use Rattle.paw_stage.specs.Disk.{IsStable};
 ghost use Rattle.paw_stage.specs.Loads.{load_calls};

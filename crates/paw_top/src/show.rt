@@ -1,7 +1,7 @@
 // Showing what a command ends with, and the commands that only show something of a file.
 
 ghost use Rattle.std.specs.Prelude.{◌≢◌, ◌<◌, [], ◌∷◌};
-ghost use Rattle.paw_stage.specs.Across.{IfTelling, FailsOnlyBy, IsOneOf};
+ghost use Rattle.paw_stage.specs.AcrossCalls.{IfTelling, FailsOnlyBy, IsOneOf};
 ghost use Rattle.paw_stage.specs.declared.StageCall.TheVariants as call;
 ghost use Rattle.paw_stage.specs.Loads.{load_calls};
 ghost use Rattle.paw_top.specs.Answers.{IfMemory, load_memory, failed_call};

@@ -3,7 +3,7 @@
 ghost use Rattle.std.specs.Prelude.{◌≡◌, ◌≢◌, ℕ, [], ◌∷◌, None};
 ghost use Rattle.paw_stage.specs.Stage.{Standing};
 ghost use Rattle.paw_stage.specs.declared.StageCall.TheVariants as call;
-ghost use Rattle.paw_stage.specs.Across.{FailsOnlyBy, IsOneOf};
+ghost use Rattle.paw_stage.specs.AcrossCalls.{FailsOnlyBy, IsOneOf};
 ghost use Rattle.paw_trial.specs.Trial.{trial_reading};
 ghost use Rattle.paw_trial.specs.inner.Trial.{TrialStopsAs};
 ghost use Rattle.paw_top.specs.Answers.{IfMemory, failed_call};

@@ -18,10 +18,11 @@ pub struct Places {
 }
 
 impl Model for Places {
-    ghost use Rattle.std.specs.Prelude.{List, ℕ, take};
+    ghost use Rattle.std.specs.Prelude.{take};
+    ghost use Rattle.paw_base.specs.Bytes.{ObjectPlaces};
     ghost use Rattle.paw_world.specs.inner.PlaceSets.{AreSetsOf};
 
-    ghost Value = { List ℕ };
+    ghost Value = { ObjectPlaces };
 
     ghost view = { λ p. take p.count p.places };
 

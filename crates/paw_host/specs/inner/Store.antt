@@ -5,7 +5,7 @@ use Rattle.paw_stage.specs.declared.Stage.{Ghosts}
 use Rattle.paw_stage.specs.declared.StageCall.{StageCall}
 use Rattle.paw_stage.specs.Disk.{IsStable}
 use Rattle.paw_stage.specs.Stage.{Standing}
-use Rattle.paw_stage.specs.Across.{FailsOnlyBy, IfTelling, EachMoment}
+use Rattle.paw_stage.specs.AcrossCalls.{FailsOnlyBy, IfTelling, EachMoment}
 use Rattle.paw_journal.specs.declared.store.Attached.{Attached}
 use Rattle.paw_journal.specs.inner.Journal.{IsAtRest}
 

@@ -103,7 +103,7 @@ pub record IsSorted (order : Order) : Type 0 where
 
 -- The ranks of the entries at these offsets, sorted. They are not too many, and each byte is one, so that a rank gives
 -- the verb, the noun and the number.
-pub record IsOrder (bytes offsets : List ℕ) (order : Order) : Type 0 where
+pub record IsOrder (bytes : Bytes) (offsets : List ℕ) (order : Order) : Type 0 where
   pub same : IsPermutation (ranks_at bytes 0 offsets) order.ranks.items
   pub few : length offsets ≤ ENTRY_LIMIT
   pub fits : (at : ℕ) → slice_index bytes at < 256

@@ -4,8 +4,8 @@ use Rattle.paw_stage.specs.declared.Stage.{Ghosts}
 use Rattle.paw_stage.specs.declared.StageCall.{StageCall}
 use Rattle.paw_stage.specs.declared.StageCall.TheVariants as call
 use Rattle.paw_stage.specs.Stage.{Standing, Still}
-use Rattle.paw_stage.specs.Across.{FailsOnlyBy, IfTelling}
-use Rattle.paw_stage.specs.inner.Across.{OnSuccess, AtEachMoment}
+use Rattle.paw_stage.specs.AcrossCalls.{FailsOnlyBy, IfTelling}
+use Rattle.paw_stage.specs.inner.AcrossCalls.{OnSuccess, AtEachMoment}
 use Rattle.paw_journal.specs.Journal.{writing_calls}
 use Rattle.paw_journal.specs.inner.Journal.{failed_stage_call}
 use Rattle.paw_journal.specs.inner.Store.{ChangesStoreOnly}

@@ -42,7 +42,7 @@ use Rattle.paw_play.specs.Walk.{end_halt, EndingOf, first_lines, text_for, text_
 use Rattle.paw_play.specs.Played.{PlayedSession}
 use Rattle.paw_play.specs.Keeping.{StaysAttached, RestsWith}
 use Rattle.paw_play.specs.Play.{PlaysOn, with_store}
-use Rattle.paw_play.specs.inner.Telling.{ShowSteps, Plain, HaveSteps, KeepsShown, shown_pieces, with_shown_steps}
+use Rattle.paw_play.specs.inner.ShowSteps.{ShowSteps, Plain, HaveSteps, KeepsShown, shown_pieces, with_shown_steps}
 
 -- ---- a walk ----
 

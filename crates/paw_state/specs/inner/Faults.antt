@@ -4,6 +4,7 @@ use Rattle.std.specs.Prelude.{ℕ, suc, ◌+◌, ◌-◌, ◌==◌, Bool, List, 
 use Rattle.std.specs.Prelude.{Err}
 use Rattle.std.specs.Prelude.{length, take, drop, is_some, nat_le, if◌then◌else◌}
 use Rattle.std.specs.Option.{option_or}
+use Rattle.paw_base.specs.Bytes.{ObjectPlaces}
 use Rattle.paw_base.specs.declared.codes.TheConstants.{PROCESS}
 use Rattle.paw_game.specs.Game.{GameLists}
 use Rattle.paw_game.specs.Tables.{head_at, condact_at}
@@ -42,7 +43,7 @@ abbrev pub is_zero : ℕ → Bool
 is_zero b = b == 0
 
 -- The first fault of the bytes for places: those of the objects come first, each a place of the game; the others are 0.
-abbrev pub places_fault : GameLists → ℕ → List ℕ → Option ℕ
+abbrev pub places_fault : GameLists → ℕ → ObjectPlaces → Option ℕ
 places_fault g at places = first (
     first_not (is_place (length g.locations)) at (take (length g.objects) places)
     ∷ first_not is_zero (at + length g.objects) (drop (length g.objects) places)

@@ -1,6 +1,7 @@
 -- The sets of the objects that stand at each place.
 use Rattle.std.specs.Prelude.{◌≡◌, ℕ, ◌==◌, ◌<◌, ◌≤◌, List, length, slice_index, if◌then◌else◌, []}
 use Rattle.std.specs.List.{slice_index_or}
+use Rattle.paw_base.specs.Bytes.{ObjectPlaces}
 use Rattle.paw_base.specs.declared.limits.TheConstants.{OBJECT_LIMIT}
 use Rattle.paw_world.specs.inner.ObjectSet.{member}
 
@@ -10,7 +11,7 @@ stands_in sets p o = member (slice_index_or sets p []) o
 
 -- There is room for all objects that a game may have, of which `count` are there, and a set for each byte as a place:
 -- an object is in the set of its own place and in no other, and no set has a number that isn't below the count.
-pub record AreSetsOf (sets : List (List ℕ)) (count : ℕ) (places : List ℕ) : Type 0 where
+pub record AreSetsOf (sets : List (List ℕ)) (count : ℕ) (places : ObjectPlaces) : Type 0 where
   pub few : count ≤ OBJECT_LIMIT
   pub room : length places ≡ OBJECT_LIMIT
   pub for_each : length sets ≡ 256

@@ -1,7 +1,7 @@
 -- The world of a game: definitions for contracts and proofs, besides those of specs/World.antt.
 use Rattle.std.specs.Prelude.{◌≡◌, ℕ, ◌-◌, ◌≤◌, not, List, length, Option, None, Some, slice_index, slice_set}
 use Rattle.std.specs.Option.{option_map_or}
-use Rattle.paw_base.specs.Bytes.{Bytes}
+use Rattle.paw_base.specs.Bytes.{Bytes, ObjectPlaces}
 use Rattle.paw_base.specs.declared.limits.TheConstants.{OBJECT_LIMIT, FLAG_COUNT}
 use Rattle.paw_base.specs.declared.parts.ObjectFacts.{ObjectFacts}
 use Rattle.paw_world.specs.inner.Places.{least_at, left_above}
@@ -56,7 +56,7 @@ kept_place w n o = place_in_position (kept_position w n) o
 
 -- The parts of a world: its flags, not too many places, room for the facts of all objects, and positions of the same
 -- size.
-pub record IsStored (facts : List ObjectFacts) (flags : Bytes) (places : List ℕ) (saved : Option Position)
+pub record IsStored (facts : List ObjectFacts) (flags : Bytes) (places : ObjectPlaces) (saved : Option Position)
     (kept : List (Option Position)) : Type 0 where
   pub objects : length places ≤ OBJECT_LIMIT
   pub facts_room : length facts ≡ OBJECT_LIMIT

@@ -2,7 +2,7 @@ use Rattle.std.proofs.Common.{◌≡◌, ◌⊎◌, ◌∙◌, ℕ, List, sym, s
 use Rattle.std.proofs.lemmas.Result.{on_ok_weaker}
 use Rattle.std.specs.Option.{option_copied}
 use Rattle.paw_stage.specs.Stage.{Standing, Unattached, file_bytes, with_store_opened}
-use Rattle.paw_stage.specs.Across.{EachMoment}
+use Rattle.paw_stage.specs.AcrossCalls.{EachMoment}
 use Rattle.paw_stage.proofs.Time.{Passes_map, Passes_on}
 use Rattle.paw_journal.specs.inner.Journal.{failed_stage_call}
 use Rattle.paw_journal.proofs.Serving.{serves_among}

@@ -1,7 +1,7 @@
 use Rattle.std.proofs.Common.{◌≡◌, ◌+◌, ◌++◌, ◌∙◌, ◌<◌, ℕ, List, ap, arith, length}
 use Rattle.paw_base.specs.declared.limits.TheConstants.{EVENT_LIMIT}
 use Rattle.paw_stage.specs.Stage.{Standing}
-use Rattle.paw_stage.specs.Across.{EachMoment}
+use Rattle.paw_stage.specs.AcrossCalls.{EachMoment}
 use Rattle.paw_stage.proofs.Time.{Passes_map, Passes_none}
 use Rattle.paw_journal.specs.Session.{Shown}
 use Rattle.paw_routines.specs.Routines.{AreAnswersOf}

@@ -4,7 +4,7 @@ use Rattle.paw_base.specs.declared.limits.TheConstants.{EVENT_LIMIT}
 use Rattle.paw_routines.specs.Routines.{AreAnswersOf, HaveAnswers}
 use Rattle.paw_effects.specs.Story.{story_of}
 use Rattle.paw_stage.specs.Stage.{Standing}
-use Rattle.paw_stage.specs.Across.{FailsOnlyBy}
+use Rattle.paw_stage.specs.AcrossCalls.{FailsOnlyBy}
 use Rattle.paw_stage.specs.Moments.{Passes}
 use Rattle.paw_turn.specs.inner.Player.{IsSeated}
 use Rattle.paw_journal.specs.inner.Journal.{KeptIn}

@@ -1,7 +1,7 @@
 use Rattle.std.proofs.Common.{None, [], ◌∷◌, ◌≡◌, refl, sym, ◌∙◌, subst}
 use Rattle.paw_stage.specs.Stage.{Standing}
 use Rattle.paw_stage.proofs.Time.{Passes_on, Passes_none}
-use Rattle.paw_stage.specs.Across.{InTwoParts}
+use Rattle.paw_stage.specs.AcrossCalls.{InTwoParts}
 use Rattle.sha2.specs.Sha256.{sha256}
 use Rattle.paw_game.specs.Image.{image}
 use Rattle.paw_journal.specs.Session.{Digests, BelongsTo, recover, kept_digests}

@@ -3,9 +3,9 @@ use Rattle.std.specs.Prelude.{Result, Ok, Err, OnOk, OnErr}
 use Rattle.paw_stage.specs.Stage.{Standing, InShow, failed_in, with_shown}
 use Rattle.paw_stage.specs.declared.StageCall.TheVariants as call
 use Rattle.paw_stage.proofs.Time.{Passes_map, Passes_on}
-use Rattle.paw_play.specs.inner.Telling.{preface}
+use Rattle.paw_play.specs.inner.ShowSteps.{preface}
 use Rattle.paw_journal.proofs.Serving.{serves_then}
-use Rattle.paw_play.proofs.Telling.{part_before, both_shown, part_after}
+use Rattle.paw_play.proofs.ShownSteps.{part_before, both_shown, part_after}
 use Rattle.paw_play.proofs.walk.show_last.Goals as goal
 
 -- What follows from what an answer means.

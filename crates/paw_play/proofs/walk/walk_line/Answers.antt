@@ -1,5 +1,5 @@
 use Rattle.std.proofs.Common.{refl, sym, subst, inl}
-use Rattle.paw_play.specs.inner.Telling.{KeepsShown}
+use Rattle.paw_play.specs.inner.ShowSteps.{KeepsShown}
 use Rattle.paw_play.proofs.Walking.{walks_on, none_left, none_asked}
 use Rattle.paw_journal.proofs.Serving.{serves_done, serves_then}
 use Rattle.paw_effects.specs.Story.{story_of}

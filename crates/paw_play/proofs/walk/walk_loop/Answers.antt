@@ -3,7 +3,7 @@ use Rattle.paw_base.specs.declared.limits.TheConstants.{EVENT_LIMIT}
 use Rattle.paw_routines.specs.Routines.{AreAnswersOf, HaveAnswers}
 use Rattle.paw_reading.specs.Turn.{reading}
 use Rattle.paw_play.specs.Walk.{Walks}
-use Rattle.paw_play.specs.inner.Telling.{with_shown_steps, KeepsShown}
+use Rattle.paw_play.specs.inner.ShowSteps.{with_shown_steps, KeepsShown}
 use Rattle.paw_play.specs.inner.OnTheWay.{IsWalking}
 use Rattle.paw_play.proofs.Walking.{walk_starts}
 use Rattle.paw_journal.proofs.Serving.{serves_then}

@@ -4,7 +4,7 @@ use Rattle.paw_image.specs.inner.Views.{game_read}
 use Rattle.paw_effects.specs.Story.{story_of}
 use Rattle.paw_stage.specs.Stage.{Standing}
 use Rattle.paw_stage.proofs.Time.{Passes_map}
-use Rattle.paw_stage.specs.Across.{first_alone}
+use Rattle.paw_stage.specs.AcrossCalls.{first_alone}
 use Rattle.paw_play.specs.Calls.{session_calls}
 use Rattle.paw_play.specs.Keeping.{InPlay}
 use Rattle.paw_play.specs.Play.{NotYet}

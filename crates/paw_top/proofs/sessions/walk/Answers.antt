@@ -5,7 +5,7 @@ use Rattle.paw_effects.specs.Story.{story_of}
 use Rattle.paw_reading.specs.Turn.{reading}
 use Rattle.paw_play.specs.Calls.{walk_calls}
 use Rattle.paw_play.specs.Walk.{Walks}
-use Rattle.paw_play.specs.inner.Telling.{with_shown_steps}
+use Rattle.paw_play.specs.inner.ShowSteps.{with_shown_steps}
 use Rattle.paw_top.specs.Ends.{plays}
 use Rattle.paw_stage.specs.Loads.{load_calls}
 use Rattle.paw_top.proofs.Answering.{played_serves}

@@ -1,6 +1,6 @@
 use Rattle.std.proofs.Common.{◌≤◌, ℕ, List, None}
 use Rattle.paw_stage.specs.Disk.{IsStable}
-use Rattle.paw_stage.specs.Across.{FailsOnlyBy}
+use Rattle.paw_stage.specs.AcrossCalls.{FailsOnlyBy}
 use Rattle.paw_stage.specs.Moments.{Passes}
 use Rattle.paw_routines.specs.Routines.{AreAnswersOf}
 use Rattle.paw_effects.specs.Story.{story_of}

@@ -1,9 +1,9 @@
 -- What happened at a stage across a call, or across several in a row: definitions for contracts and proofs, besides
--- those of specs/Across.antt.
+-- those of specs/AcrossCalls.antt.
 use Rattle.std.specs.Prelude.{Result, OnOk}
 use Rattle.paw_stage.specs.Stage.{Standing}
 use Rattle.paw_stage.specs.declared.Stage.{Ghosts}
-use Rattle.paw_stage.specs.Across.{IfTelling, EachMoment}
+use Rattle.paw_stage.specs.AcrossCalls.{IfTelling, EachMoment}
 
 -- The same, but only where the calls were done.
 abbrev pub OnSuccess : {S A E : Type 0} → Ghosts S → S → S → Result A E → (Standing → Standing → Type 0) → Type 0

@@ -18,8 +18,8 @@ use Rattle.paw_turn.specs.inner.Player.{PlayerView, run_at}
 use Rattle.paw_turn.specs.declared.Step.{Step}
 use Rattle.paw_turn.specs.declared.Step.TheVariants as step
 use Rattle.paw_play.specs.Traces.{step_line, more_line, steps_text, traced_pieces}
-use Rattle.paw_play.specs.inner.Telling.{ShowSteps, Plain, Stepped, kept_text, seat_text, HaveSteps, KeepsShown}
-use Rattle.paw_play.specs.inner.Telling.{shown_pieces, shown_run, shown_ending}
+use Rattle.paw_play.specs.inner.ShowSteps.{ShowSteps, Plain, Stepped, kept_text, seat_text, HaveSteps, KeepsShown}
+use Rattle.paw_play.specs.inner.ShowSteps.{shown_pieces, shown_run, shown_ending}
 use Rattle.paw_turn.specs.inner.Player.{IsStanding}
 use Rattle.paw_play.specs.inner.OnTheWay.{end_if_no_piece}
 
