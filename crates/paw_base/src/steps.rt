@@ -3,7 +3,7 @@
 ghost use Rattle.std.specs.Prelude.{◌≡◌, ◌<◌, ◌≤◌, take};
 ghost use Rattle.paw_base.specs.declared.limits.TheConstants.{STEP_LIMIT};
 ghost use Rattle.paw_base.specs.inner.Steps.{KeptSteps};
-ghost use Rattle.paw_base.specs.inner.Steps.{no_steps, with_step_noted};
+ghost use Rattle.paw_base.specs.inner.Steps.{no_steps, steps_only_counted, with_step_noted};
 
 use crate::limits::STEP_LIMIT;
 use std::marker::Model;
@@ -28,8 +28,8 @@ const NO_STEP: StepRow = StepRow {
     yes: false,
 };
 
-/// The condacts that were read for a piece: how many there were, and the first ones, at most as many as are to be kept. It
-/// takes no memory.
+/// The condacts that were read for a piece: how many there were, and the first 1,000, or none where they are only counted.
+/// It takes no memory.
 #[derive(Drop)]
 pub struct Steps {
     rows: [StepRow; STEP_LIMIT],
@@ -50,19 +50,25 @@ impl Model for Steps {
 }
 
 impl Steps {
-    /// No steps. Of those that are noted this number is kept at most, the first ones; all are counted.
-    pub fn new(most: usize) -> Steps
-        requires most { most ≤ STEP_LIMIT }
-        ensures value { result ≡ no_steps most }
+    /// No steps. Of those that are noted the first 1,000 are kept; all are counted.
+    pub fn new() -> Steps
+        ensures value { result ≡ no_steps STEP_LIMIT }
     {
         Steps {
             rows: [NO_STEP; STEP_LIMIT],
             count: 0,
-            most,
+            most: STEP_LIMIT,
         }
     }
 
-    /// Forgets all steps. As many as before may be kept from here on.
+    /// Keeps no steps from here on, and only counts them.
+    pub fn count_only(&mut self)
+        ensures value { self.new ≡ steps_only_counted self.old }
+    {
+        self.most = 0;
+    }
+
+    /// Forgets all steps. Where they are only counted, so are those to come.
     pub fn clear(&mut self)
         ensures value { self.new ≡ no_steps self.old.most }
     {

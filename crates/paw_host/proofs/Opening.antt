@@ -15,6 +15,7 @@ use Rattle.paw_effects.specs.declared.act.Prompt.{Prompt}
 use Rattle.paw_effects.specs.declared.act.Prompt.TheVariants as prompt
 use Rattle.paw_reading.specs.declared.places.Halt.TheVariants as halt
 use Rattle.paw_reading.specs.Turn.{reading, going_on_from, pieces_of}
+use Rattle.paw_process.specs.inner.OpenTables.{only_counting}
 use Rattle.paw_turn.specs.inner.Player.{PlayerView, run_at, PlaysTo, IsSeated, StandsClosed}
 use Rattle.paw_turn.specs.inner.Parts.{seat_at, prompt_step}
 use Rattle.paw_turn.specs.declared.Step.{Step}
@@ -151,7 +152,7 @@ waits_step prompt.Over p h = cc
 module _ {F : Type 0} (g : Story) (seed : ℕ) (es : List (List ℕ)) (digests : Digests) (bytes piece : List ℕ) (r : Restored) (routines : Routines F)
     (seat : PlayerView F)
     (played : IsPlayedWith g seed es) (stands : Stands g seed es bytes) (shows : ShowsState g.game digests bytes (state_read r) piece)
-    (is : seat ≡ seat_at g.game routines r.world r.machine r.pending r.prompt) where
+    (is : seat ≡ seat_at g.game routines r.world (only_counting r.machine) r.pending r.prompt) where
   goes : (fs : List (List ℕ)) → going_on g (state_read r) piece fs ≡ going_on_from g r.prompt (reverse r.machine.frames) (run_at seat (piece ∷ []) [] fs)
   goes fs = goes_on_from g r.world r.machine r.pending r.prompt r.events r.piece piece fs
       ∙ ap (λ (q : PlayerView F). going_on_from g r.prompt (reverse r.machine.frames) (run_at q (piece ∷ []) [] fs)) (sym is)
@@ -192,7 +193,7 @@ module _ {F : Type 0} (g : Story) (seed : ℕ) (es : List (List ℕ)) (digests :
 -- A player is seated with what was read of a session of the story.
 pub taken_up : {F : Type 0} (g : Story) (digests : Digests) (bytes state buffer piece : List ℕ) (r : Restored) (routines : Routines F) (seat : PlayerView F) →
     recover bytes ≡ session_shown digests state piece → buffer ≡ state → IsOfStory g digests → IsRead g.game buffer r →
-    piece_length buffer ≡ r.piece → seat ≡ seat_at g.game routines r.world r.machine r.pending r.prompt →
+    piece_length buffer ≡ r.piece → seat ≡ seat_at g.game routines r.world (only_counting r.machine) r.pending r.prompt →
     ShowsSome g bytes × ((seed : ℕ) (es : List (List ℕ)) → IsPlayedWith g seed es → Stands g seed es bytes →
     SitsAt g seed es seat × (r.events ≡ length es) × (take 65535 piece ≡ last_piece (pieces_of (reading g seed es))))
 taken_up {F} g digests bytes state buffer piece r routines seat shown same belongs read told is =

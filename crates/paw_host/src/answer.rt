@@ -11,7 +11,8 @@ ghost use Rattle.paw_stage.specs.declared.StageCall.TheVariants as call;
 ghost use Rattle.paw_routines.specs.Routines.{HaveAnswers};
 ghost use Rattle.paw_reading.specs.Turn.{reading};
 ghost use Rattle.paw_turn.specs.inner.Player.{IsSeated, PlaysTo};
-ghost use Rattle.paw_turn.specs.inner.Parts.{IsStanding, prompt_at};
+ghost use Rattle.paw_process.specs.inner.OpenTables.{only_counting};
+ghost use Rattle.paw_turn.specs.inner.Parts.{Fits, IsStanding, prompt_at, seat_at};
 ghost use Rattle.paw_turn.specs.declared.Step.TheVariants as step;
 ghost use Rattle.paw_journal.specs.Journal.{writing_calls};
 ghost use Rattle.paw_journal.specs.inner.Store.{ChangesStoreOnly};
@@ -37,7 +38,7 @@ use paw_game::tables::Tables;
 use paw_journal::{Attached, Journal, JournalRefusal, Room, attach};
 use paw_play::line::{commit, put_state};
 use paw_stage::{Stage, StageCall};
-use paw_state::{STATE_ROOM, read_state};
+use paw_state::{Restored, STATE_ROOM, read_state};
 use paw_turn::{Player, Step};
 
 /// The game that is hosted: its tables, the digests of its image and of its routines, and the seed of new sessions.
@@ -124,6 +125,23 @@ fn begin_session<S: Stage, T: Tables, F: Fn(u8, u8) -> u8>(
     Ok(Some(Opened { journal, events: 0 }))
 }
 
+// Seats the player where a state was kept. It only counts its steps.
+fn seat<T: Tables, F: Fn(u8, u8) -> u8>(player: &mut Player<'_, T, F>, restored: Restored)
+    requires seated { IsSeated player.old }
+    requires fits { Fits player.old.game restored.world restored.machine restored.pending restored.prompt }
+    ensures value { player.new ≡ seat_at player.old.game player.old.routines
+        restored.world (only_counting restored.machine) restored.pending restored.prompt }
+    ensures seated { IsSeated player.new }
+{
+    player.seat(
+        restored.world,
+        restored.machine,
+        restored.pending,
+        restored.prompt,
+    );
+    player.count_steps_only();
+}
+
 // Resumes the session of the attached store. None where it has no session of the game.
 fn resume_player<S: Stage, T: Tables, F: Fn(u8, u8) -> u8>(
     stage: &mut S,
@@ -162,12 +180,7 @@ fn resume_player<S: Stage, T: Tables, F: Fn(u8, u8) -> u8>(
         Err(_) => return Ok(None),
     };
     let events = restored.events;
-    player.seat(
-        restored.world,
-        restored.machine,
-        restored.pending,
-        restored.prompt,
-    );
+    seat(player, restored);
     Ok(Some(Opened { journal, events }))
 }
 

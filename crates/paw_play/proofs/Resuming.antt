@@ -15,7 +15,7 @@ use Rattle.paw_effects.specs.declared.act.Prompt.TheVariants as prompt
 use Rattle.paw_reading.specs.declared.places.Frame.{Frame}
 use Rattle.paw_reading.specs.Run.{Run}
 use Rattle.paw_reading.specs.Turn.{Ending, WaitsAt, going_on_from, text_of}
-use Rattle.paw_process.specs.inner.OpenTables.{OpenTables}
+use Rattle.paw_process.specs.inner.OpenTables.{OpenTables, only_counting}
 use Rattle.paw_process.specs.Kept.{frames_at}
 use Rattle.paw_process.proofs.Again.{path_again}
 use Rattle.paw_turn.specs.inner.Player.{PlayerView, run_with, IsSeated, StandsClosed}
@@ -115,19 +115,17 @@ read_session g name piece r first = from_state g (state_read r) piece (kept_dige
 pub record MadeOfRead {F : Type 0} (g : Story) (name piece : List ℕ) (r : Restored) (first : Standing) (routines : Routines F)
     (seat : PlayerView F) : Type 0 where
   pub long : length piece ≡ r.piece
-  pub is : seat ≡ seat_at g.game routines r.world r.machine r.pending r.prompt
+  pub is : seat ≡ seat_at g.game routines r.world (only_counting r.machine) r.pending r.prompt
+  pub stands : StandsClosed (prompt_step r.prompt) r.machine
   pub seated : IsSeated seat
   pub store : IsRestingStore name first
   pub state : ShowsState g.game (kept_digests first.disk.bytes) first.disk.bytes (state_read r) piece
 
 module _ {F : Type 0} {g : Story} {name piece : List ℕ} {r : Restored} {first : Standing} {routines : Routines F} {seat : PlayerView F}
     (u : MadeOfRead g name piece r first routines seat) where
-  machine_stands : StandsClosed (prompt_step r.prompt) r.machine
-  machine_stands = subst (λ (q : PlayerView F). StandsClosed q.last q.machine) u.is u.seated.machine
-
   text_is : text_of (going_on g (state_read r) piece []) ≡ piece
   text_is = ap text_of (goes_on_from g r.world r.machine r.pending r.prompt r.events r.piece piece [])
-      ∙ text_at (kept_digests first.disk.bytes) g r.world r.machine r.pending r.events r.piece piece u.long r.prompt machine_stands
+      ∙ text_at (kept_digests first.disk.bytes) g r.world r.machine r.pending r.events r.piece piece u.long r.prompt u.stands
 
   keeps_now : IsKept (kept_digests first.disk.bytes) (r.events + 0) (going_on g (state_read r) piece []) (recover first.disk.bytes)
   keeps_now =
@@ -135,7 +133,7 @@ module _ {F : Type 0} {g : Story} {name piece : List ℕ} {r : Restored} {first 
       subst (IsKept digests (r.events + 0) (going_on g (state_read r) piece [])) (sym u.state.shown)
       (subst (λ e. IsKept digests (r.events + 0) e (Shown digests (kept_bytes (state_read r)) piece))
       (sym (goes_on_from g r.world r.machine r.pending r.prompt r.events r.piece piece []))
-      (kept_at digests g r.world r.machine r.pending r.events r.piece piece u.long r.prompt machine_stands))
+      (kept_at digests g r.world r.machine r.pending r.events r.piece piece u.long r.prompt u.stands))
 
   rests_first : RestsWith (read_session g name piece r first) first first 0
   rests_first = record {

@@ -11,7 +11,7 @@ use Rattle.paw_effects.specs.Story.{Story}
 use Rattle.paw_effects.specs.inner.Worlds.{StandsIn}
 use Rattle.paw_effects.specs.inner.Standing.{MayBePosition, IsWorldOf}
 use Rattle.paw_reading.specs.Turn.{text_of}
-use Rattle.paw_process.specs.inner.OpenTables.{OpenTables}
+use Rattle.paw_process.specs.inner.OpenTables.{OpenTables, only_counting}
 use Rattle.paw_routines.specs.declared.routines.Routines.{Routines}
 use Rattle.paw_stage.specs.Stage.{Standing}
 use Rattle.paw_process.specs.Kept.{waiting_code}
@@ -105,7 +105,7 @@ read_fits g bytes r is =
 pub resumed : {F : Type 0} (g : Story) (name buffer state piece : List ℕ) (r : Restored) (first : Standing) (routines : Routines F) (seat : PlayerView F) →
     recover first.disk.bytes ≡ Shown (kept_digests first.disk.bytes) (take state_length state) piece → buffer ≡ state → IsRead g.game buffer r →
     piece_length buffer ≡ r.piece →
-    seat ≡ seat_at g.game routines r.world r.machine r.pending r.prompt → IsSeated seat → IsRestingStore name first →
+    seat ≡ seat_at g.game routines r.world (only_counting r.machine) r.pending r.prompt → IsSeated seat → IsRestingStore name first →
     MadeOfRead g name piece r first routines seat
 resumed g name buffer state piece r first routines seat shown same read long is seated store =
     let bytes : List ℕ = first.disk.bytes in
@@ -115,6 +115,7 @@ resumed g name buffer state piece r first routines seat shown same read long is 
     record {
       long = buffer_long bytes digests buffer piece r.piece there long read.fits.piece;
       is = is;
+      stands = (read_fits g.game buffer r read).machine;
       seated = seated;
       store = store;
       state = record { keeps = read.keeps; fits = read.fits; shown = shows_kept digests bytes buffer piece (state_read r) there read.are };
@@ -125,7 +126,7 @@ pub one_session : {F : Type 0} (g : Story) (name piece : List ℕ) (r : Restored
     (digests : Digests) (st : State) (other : List ℕ) → MadeOfRead g name piece r first routines seat →
     ShowsState g.game digests first.disk.bytes st other → read_session g name piece r first ≡ from_state g st other digests name
 one_session g name piece r first routines seat digests st other u shows =
-    let valid : Valid g.game = subst Valid (seat_game g.game routines r.world r.machine r.pending r.prompt seat u.is) u.seated.valid in
+    let valid : Valid g.game = subst Valid (seat_game g.game routines r.world (only_counting r.machine) r.pending r.prompt seat u.is) u.seated.valid in
     one_state g (kept_digests first.disk.bytes) digests first.disk.bytes name (state_read r) st piece other valid u.state shows
 
 -- ---- a state that bytes show ----

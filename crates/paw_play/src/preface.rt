@@ -2,12 +2,17 @@
 
 use paw_base::fault::NoRoom;
 use paw_base::steps::Steps;
+use paw_game::tables::Tables;
+use paw_routines::routines::Routines;
+use paw_turn::Player;
 use std::alloc::Global;
 
 /// What a walk shows before each piece.
 pub trait Preface: Drop {
-    ghost use Rattle.std.specs.Prelude.{◌≡◌, ◌≤◌};
-    ghost use Rattle.paw_base.specs.declared.limits.TheConstants.{STEP_LIMIT};
+    ghost use Rattle.std.specs.Prelude.{◌≡◌, IfOk};
+    ghost use Rattle.paw_effects.specs.declared.act.Prompt.TheVariants as prompt;
+    ghost use Rattle.paw_turn.specs.declared.Step.TheVariants as step;
+    ghost use Rattle.paw_turn.specs.inner.Player.{IsNew, IsSeated};
     ghost use Rattle.paw_play.specs.inner.ShowSteps.{ShowSteps, KeepsShown, preface};
 
     /// Whether the pieces are shown as they are or traced.
@@ -19,10 +24,22 @@ pub trait Preface: Drop {
     /// NoRoom where there is none.
     fn new(alloc: Global) -> Result<Self, NoRoom>;
 
-    /// How many steps of a piece are to be kept for its text: none where it shows none.
-    fn most_steps() -> usize
-        ensures keeps { KeepsShown telling result }
-        ensures few { result ≤ STEP_LIMIT };
+    /// A player at the start of a game, which keeps its steps where they are shown, and otherwise only counts them.
+    ///
+    /// # Errors
+    /// NoRoom where there is no memory for a piece.
+    fn player<'a, T: Tables, F: Fn(u8, u8) -> u8>(
+        alloc: Global,
+        tables: &'a T,
+        routines: &'a Routines<F>,
+        seed: u64,
+    ) -> Result<Player<'a, T, F>, NoRoom>
+        ensures game { IfOk result (λ p. p.game ≡ T.game tables.now) }
+        ensures routines { IfOk result (λ p. p.routines ≡ routines.now) }
+        ensures new { IfOk result (λ p. IsNew p seed) }
+        ensures keeps { IfOk result (λ p. KeepsShown telling p.machine.steps.most) }
+        ensures last { IfOk result (λ p. p.last ≡ step.Waits prompt.Main) }
+        ensures seated { IfOk result IsSeated };
 
     /// The text before a piece for which these steps were read.
     fn text(&mut self, steps: &Steps) -> &[u8]
@@ -42,8 +59,13 @@ impl Preface for Nothing {
         Ok(Nothing)
     }
 
-    fn most_steps() -> usize {
-        0
+    fn player<'a, T: Tables, F: Fn(u8, u8) -> u8>(
+        alloc: Global,
+        tables: &'a T,
+        routines: &'a Routines<F>,
+        seed: u64,
+    ) -> Result<Player<'a, T, F>, NoRoom> {
+        Player::new_counting(alloc, tables, routines, seed)
     }
 
     fn text(&mut self, _steps: &Steps) -> &[u8] {

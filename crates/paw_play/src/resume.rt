@@ -1,6 +1,6 @@
 // Resuming a session.
 
-ghost use Rattle.std.specs.Prelude.{◌≡◌, IfSome};
+ghost use Rattle.std.specs.Prelude.{◌≡◌, IfOk, IfSome};
 ghost use Rattle.sha2.specs.Sha256.{sha256};
 ghost use Rattle.paw_base.specs.Bytes.{Name, Text};
 ghost use Rattle.paw_game.specs.Image.{image};
@@ -9,6 +9,9 @@ ghost use Rattle.paw_stage.specs.AcrossCalls.{IfTelling, EachMoment, InTwoParts,
 ghost use Rattle.paw_stage.specs.inner.AcrossCalls.{AtEachMoment};
 ghost use Rattle.paw_stage.specs.Stage.{InShow};
 ghost use Rattle.paw_routines.specs.Routines.{HaveAnswers};
+ghost use Rattle.paw_process.specs.inner.OpenTables.{only_counting};
+ghost use Rattle.paw_turn.specs.inner.Parts.{Fits, seat_at};
+ghost use Rattle.paw_turn.specs.inner.Player.{IsSeated};
 ghost use Rattle.paw_state.specs.State.{State};
 ghost use Rattle.paw_journal.specs.Session.{Digests, kept_digests};
 ghost use Rattle.paw_journal.specs.inner.Journal.{KeptIn};
@@ -23,13 +26,14 @@ use crate::PlayEnd;
 use crate::line::Session;
 use crate::play::play_lines;
 use crate::show::show;
+use paw_base::fault::NoRoom;
 use paw_effects::act::Prompt;
 use paw_game::tables::Tables;
 use paw_journal::{Journal, JournalRefusal, Room, attach};
 use paw_reading::places::Halt;
 use paw_routines::routines::Routines;
 use paw_stage::{Stage, StageCall};
-use paw_state::read_state;
+use paw_state::{Restored, read_state};
 use paw_turn::Player;
 use std::alloc::Global;
 
@@ -63,6 +67,32 @@ fn not_found(refusal: JournalRefusal) -> PlayEnd
     }
 }
 
+// A player that stands where a state was kept, and only counts its steps.
+fn player_of<'a, T: Tables, F: Fn(u8, u8) -> u8>(
+    alloc: Global,
+    tables: &'a T,
+    routines: &'a Routines<F>,
+    restored: Restored,
+) -> Result<Player<'a, T, F>, NoRoom>
+    requires fits {
+        Fits (T.game tables.now) restored.world restored.machine restored.pending restored.prompt }
+    ensures value { IfOk result (λ p. p ≡ seat_at (T.game tables.now) routines.now
+        restored.world (only_counting restored.machine) restored.pending restored.prompt) }
+    ensures seated { IfOk result IsSeated }
+{
+    let mut player = Player::adopt(
+        alloc,
+        tables,
+        routines,
+        restored.world,
+        restored.machine,
+        restored.pending,
+        restored.prompt,
+    )?;
+    player.count_steps_only();
+    Ok(player)
+}
+
 // Resumes the session of the attached store, whose state and piece are in the room.
 fn play_recovered<S: Stage, T: Tables, F: Fn(u8, u8) -> u8>(
     alloc: Global,
@@ -90,15 +120,7 @@ fn play_recovered<S: Stage, T: Tables, F: Fn(u8, u8) -> u8>(
     };
     let prompt = restored.prompt;
     let events = restored.events;
-    let Ok(mut player) = Player::adopt(
-        alloc,
-        tables,
-        routines,
-        restored.world,
-        restored.machine,
-        restored.pending,
-        prompt,
-    ) else {
+    let Ok(mut player) = player_of(alloc, tables, routines, restored) else {
         return PlayEnd::Memory;
     };
     if let Some(end) = show_again(stage, room.piece(), prompt) {

@@ -15,6 +15,9 @@ use paw_base::limits::STEP_LIMIT;
 use paw_base::piece::Piece;
 use paw_base::rows::condact_row;
 use paw_base::steps::{StepRow, Steps};
+use paw_game::tables::Tables;
+use paw_routines::routines::Routines;
+use paw_turn::Player;
 use std::alloc::Global;
 
 // Puts a number in decimal.
@@ -125,8 +128,13 @@ impl Preface for StepLines {
         Ok(StepLines { text })
     }
 
-    fn most_steps() -> usize {
-        STEP_LIMIT
+    fn player<'a, T: Tables, F: Fn(u8, u8) -> u8>(
+        alloc: Global,
+        tables: &'a T,
+        routines: &'a Routines<F>,
+        seed: u64,
+    ) -> Result<Player<'a, T, F>, NoRoom> {
+        Player::new(alloc, tables, routines, seed)
     }
 
     fn text(&mut self, steps: &Steps) -> &[u8] {

@@ -160,7 +160,7 @@ pub fn walk_loop<P: Preface, S: Stage, T: Tables, F: Fn(u8, u8) -> u8>(
     let Ok(mut preface) = P::new(alloc) else {
         return PlayEnd::Memory;
     };
-    let Ok(mut player) = Player::new(alloc, tables, routines, seed, P::most_steps()) else {
+    let Ok(mut player) = P::player(alloc, tables, routines, seed) else {
         return PlayEnd::Memory;
     };
     let step = player.start();

@@ -6,7 +6,7 @@ use Rattle.std.specs.Option.{option_or, unwrap_or}
 use Rattle.std.proofs.Math.Seq.{take-append_seam}
 use Rattle.std.proofs.lemmas.Bool.{eqb-true, leb-true}
 use Rattle.std.proofs.lemmas.List.{reverse-reverse}
-use Rattle.paw_base.specs.declared.limits.TheConstants.{READ_LIMIT}
+use Rattle.paw_base.specs.declared.limits.TheConstants.{READ_LIMIT, STEP_LIMIT}
 use Rattle.paw_base.specs.inner.Steps.{no_steps}
 use Rattle.paw_game.specs.Game.{GameLists}
 use Rattle.paw_effects.specs.declared.act.Prompt.{Prompt}
@@ -31,13 +31,13 @@ use Rattle.paw_process.specs.inner.Kept.{machine_restored, waiting_at, WaitsAtPr
 pub path_again : (path : List Frame) (turning : Option OpenLoop) → take (length path) (frames_at path turning).rows ≡ path
 path_again path turning = take-append_seam path (replicate (11 - length path) blank_frame)
 
-again_at : (m : OpenTables) (waiting : Option Prompt) → m.waiting ≡ waiting → machine_restored (machine_kept m) waiting ≡ refilled_to_keep 0 m
+again_at : (m : OpenTables) (waiting : Option Prompt) → m.waiting ≡ waiting → machine_restored (machine_kept m) waiting ≡ refilled_to_keep STEP_LIMIT m
 again_at m waiting is =
-    ap (λ (fs : List Frame). record { frames = fs; turning = m.turning; waiting = waiting; left = READ_LIMIT; steps = no_steps 0 })
+    ap (λ (fs : List Frame). record { frames = fs; turning = m.turning; waiting = waiting; left = READ_LIMIT; steps = no_steps STEP_LIMIT })
     (ap (λ (s : List Frame). reverse s) (path_again (reverse m.frames) m.turning) ∙ reverse-reverse m.frames)
-    ∙ ap (λ (w : Option Prompt). record { frames = m.frames; turning = m.turning; waiting = w; left = READ_LIMIT; steps = no_steps 0 }) (sym is)
+    ∙ ap (λ (w : Option Prompt). record { frames = m.frames; turning = m.turning; waiting = w; left = READ_LIMIT; steps = no_steps STEP_LIMIT }) (sym is)
 
-pub restored_again : (p : Prompt) (m : OpenTables) → WaitsAtPrompt p m → machine_restored (machine_kept m) (waiting_at p) ≡ refilled_to_keep 0 m
+pub restored_again : (p : Prompt) (m : OpenTables) → WaitsAtPrompt p m → machine_restored (machine_kept m) (waiting_at p) ≡ refilled_to_keep STEP_LIMIT m
 restored_again prompt.Main m stands = again_at m None stands.waiting
 restored_again prompt.Quit m stands = again_at m (Some prompt.Quit) stands.waiting
 restored_again prompt.Again m stands = again_at m (Some prompt.Again) stands.waiting
@@ -45,7 +45,7 @@ restored_again prompt.Key m stands = again_at m (Some prompt.Key) stands.waiting
 restored_again prompt.Over m stands = again_at m None stands.waiting
 
 pub kept_again : (p : Prompt) (k : Frames) (m : OpenTables) → k ≡ machine_kept m → WaitsAtPrompt p m
-    → machine_restored k (waiting_at p) ≡ refilled_to_keep 0 m
+    → machine_restored k (waiting_at p) ≡ refilled_to_keep STEP_LIMIT m
 kept_again p k m is stands = ap (λ (u : Frames). machine_restored u (waiting_at p)) is ∙ restored_again p m stands
 
 -- ---- the same frames again ----
@@ -121,6 +121,17 @@ kept_at g code waiting k size h = go (count_fits code k.count) refl h
     go true e q =
         let fits = no_first (first_frame_fault g (unwrap_or code 0) None k.count 0 k.rows) (loop_fault g k k.turning) q in
         kept_of k.count k.rows k.turning (low_count code k.count e) size (used_then_not g (unwrap_or code 0) None k.count 0 k.rows fits.0)
+    go false e q = cc
+
+-- Frames with no fault are at most eleven.
+pub few_frames : (g : GameLists) (p : Prompt) (k : Frames) → frames_fault g p k ≡ None → k.count ≤ 11
+few_frames g p k h = go (count_fits (waiting_code p) k.count) refl h
+  where
+    go : (b : Bool) → count_fits (waiting_code p) k.count ≡ b
+        → ◌≡◌ {A = Option ℕ}
+        (if b then option_or (first_frame_fault g (unwrap_or (waiting_code p) 0) None k.count 0 k.rows) (loop_fault g k k.turning) else Some 0) None
+        → k.count ≤ 11
+    go true e q = low_count (waiting_code p) k.count e
     go false e q = cc
 
 pub restored_kept : (g : GameLists) (p : Prompt) (waiting : Option Prompt) (k : Frames) → length k.rows ≡ 11 → frames_fault g p k ≡ None

@@ -13,7 +13,8 @@ ghost use Rattle.paw_base.specs.declared.limits.TheConstants.{STEP_LIMIT};
 ghost use Rattle.paw_process.specs.declared.machine.TheConstants.{MOST_FRAMES};
 ghost use Rattle.paw_process.specs.inner.OpenTables.{OpenTables};
 ghost use Rattle.paw_process.specs.inner.OpenTables.{below, ReadsStep, IsReading, IsClosed};
-ghost use Rattle.paw_process.specs.inner.OpenTables.{new_machine, refilled_to_keep, budget_refilled, table_begun};
+ghost use Rattle.paw_process.specs.inner.OpenTables.{new_machine, only_counting, refilled_to_keep, budget_refilled};
+ghost use Rattle.paw_process.specs.inner.OpenTables.{table_begun};
 ghost use Rattle.paw_process.specs.inner.Kept.{machine_kept as kept_of};
 ghost use Rattle.paw_process.specs.inner.Kept.{frames_fault};
 ghost use Rattle.paw_process.specs.inner.Kept.{machine_restored, waiting_at, WaitsAtPrompt};
@@ -71,19 +72,26 @@ impl Model for Machine {
 }
 
 impl Machine {
-    /// A machine with no open table, a full budget, and no steps. Of the steps of a piece it keeps this number at most, the
-    /// first ones; all are counted.
-    pub fn new(most: usize) -> Machine
-        requires most { most ≤ STEP_LIMIT }
-        ensures value { result ≡ new_machine most }
+    /// A machine with no open table, a full budget, and no steps. Of the steps of a piece it keeps the first 1,000; all are
+    /// counted.
+    pub fn new() -> Machine
+        ensures value { result ≡ new_machine STEP_LIMIT }
     {
         Machine {
             frames: [start_of(0); MOST_FRAMES],
             count: 0,
             turning: None,
             waiting: None,
-            steps: Steps::new(most),
+            steps: Steps::new(),
         }
+    }
+
+    /// Keeps no steps from here on, and only counts them: for a machine whose steps are shown nowhere, because keeping
+    /// them takes time.
+    pub fn count_steps_only(&mut self)
+        ensures value { self.new ≡ only_counting self.old }
+    {
+        self.steps.count_only();
     }
 
     /// Opens a table at its start, where no table is open.
@@ -95,7 +103,7 @@ impl Machine {
         self.push(start_of(table));
     }
 
-    /// Fills up the budget and drops the steps, as for a new piece, of which it keeps as many steps as before.
+    /// Fills up the budget and drops the steps, as for a new piece.
     pub fn refill(&mut self)
         ensures value { self.new ≡ budget_refilled self.old }
     {
@@ -158,12 +166,12 @@ impl Machine {
     }
 
     /// The frames of the machine and its loop, to be kept where it waits. Restored at the prompt where it waits, they
-    /// give the same machine with a full budget and no steps, of which it keeps none; and they can be restored wherever
-    /// they are frames of a run.
+    /// give the same machine with a full budget and no steps, of which it keeps the first 1,000; and they can be restored
+    /// wherever they are frames of a run.
     pub fn frames(&self) -> Frames
         ensures value { result ≡ kept_of self.now }
         ensures again { (p : AtPrompt) → WaitsAtPrompt p self.now →
-            machine_restored result (waiting_at p) ≡ refilled_to_keep 0 self.now }
+            machine_restored result (waiting_at p) ≡ refilled_to_keep STEP_LIMIT self.now }
         ensures sound { (g : GameLists) (p : AtPrompt) →
             AreFramesAndLoop g p (reverse self.now.frames) self.now.turning → frames_fault g p result ≡ None }
     {
@@ -176,8 +184,7 @@ impl Machine {
         }
     }
 
-    /// A machine with kept frames that waits at this prompt, with a full budget and no steps: it only counts those of the
-    /// pieces to come. Its `frames` are these again.
+    /// A machine with kept frames that waits at this prompt, with a full budget and no steps. Its `frames` are these again.
     ///
     /// # Errors
     /// The least depth at which the frames break a rule, exactly where they break one for this game: inside tables the
@@ -206,12 +213,12 @@ impl Machine {
             count: kept.count as usize,
             turning: kept.turning,
             waiting: waiting_at(prompt),
-            steps: Steps::new(0),
+            steps: Steps::new(),
         })
     }
 
     /// The steps of the open piece, or of the piece that was closed last: how many condacts were read for it, and the
-    /// first ones, as many as the machine was made to keep.
+    /// first 1,000, or none where the machine only counts them.
     pub fn steps(&self) -> &Steps
         ensures value { result.now ≡ self.now.steps }
     {

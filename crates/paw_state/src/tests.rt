@@ -68,7 +68,7 @@ fn small_game(alloc: Global) -> Result<Game, Fail> {
 fn opening_state(game: &Game) -> [u8; STATE_ROOM] {
     let mut bytes = [255; STATE_ROOM];
     let world = opening_world(game, 7);
-    let machine = Machine::new(0);
+    let machine = Machine::new();
     write_state(
         &world,
         &machine,
@@ -361,7 +361,7 @@ fn bytes_with(world: &World, prompt: Prompt, events: u64) -> [u8; STATE_ROOM] {
     let mut bytes = [0; STATE_ROOM];
     write_state(
         world,
-        &Machine::new(0),
+        &Machine::new(),
         &Pending::new(),
         prompt,
         events,

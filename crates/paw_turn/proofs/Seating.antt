@@ -5,9 +5,9 @@ use Rattle.std.specs.Prelude.{if◌then◌else◌, nat_lt}
 use Rattle.std.specs.Option.{option_or}
 use Rattle.std.proofs.lemmas.Bool.{eqb-true, ltb-true}
 use Rattle.std.proofs.lemmas.List.{reverse-reverse}
-use Rattle.paw_base.specs.declared.limits.TheConstants.{READ_LIMIT}
+use Rattle.paw_base.specs.declared.limits.TheConstants.{READ_LIMIT, STEP_LIMIT}
 use Rattle.paw_base.specs.inner.Steps.{KeptSteps}
-use Rattle.paw_base.specs.inner.Steps.{no_steps}
+use Rattle.paw_base.specs.inner.Steps.{no_steps, steps_only_counted}
 use Rattle.paw_game.specs.Game.{GameLists}
 use Rattle.paw_routines.specs.declared.routines.Routines.{Routines}
 use Rattle.paw_world.specs.World.{World}
@@ -23,7 +23,7 @@ use Rattle.paw_reading.specs.Turn.{first_table}
 use Rattle.paw_reading.specs.inner.Places.{AreFramesAndLoop, IsLoopOf}
 use Rattle.paw_phrase.specs.Pending.{PendingLine}
 use Rattle.paw_process.specs.inner.OpenTables.{OpenTables}
-use Rattle.paw_process.specs.inner.OpenTables.{IsWaiting, IsClosed, new_machine, refilled_to_keep}
+use Rattle.paw_process.specs.inner.OpenTables.{IsWaiting, IsClosed, new_machine, only_counting, refilled_to_keep}
 use Rattle.paw_process.specs.inner.Kept.{machine_kept, is_that_table}
 use Rattle.paw_process.specs.inner.Kept.{first_frame_fault, loop_stands, loop_fault}
 use Rattle.paw_process.specs.Kept.{count_fits, waiting_code}
@@ -37,7 +37,7 @@ use Rattle.paw_process.proofs.Again.{restored_again}
 use Rattle.paw_process.proofs.Fitting.{places_fit, kept_places}
 use Rattle.paw_turn.specs.declared.Step.{Step}
 use Rattle.paw_turn.specs.declared.Step.TheVariants as step
-use Rattle.paw_turn.specs.inner.Player.{PlayerView, WaitsIn, StandsClosed, StandRightly, IsSeated, IsNew}
+use Rattle.paw_turn.specs.inner.Player.{PlayerView, WaitsIn, StandsClosed, StandRightly, IsSeated, IsNew, only_counting_player}
 use Rattle.paw_turn.specs.inner.Phases.{MayGoOn, HasReadSome, seat_of}
 use Rattle.paw_turn.specs.declared.turn.PlayState.{PlayState}
 use Rattle.paw_turn.proofs.Standing.{unreversed}
@@ -140,7 +140,7 @@ module _ {F : Type 0} (p : PlayerView F) (seated : IsSeated p) (standing : IsSta
       ap (λ (s : Step). record { game = p.game; routines = p.routines; world = p.world; pending = p.pending; machine = p.machine; piece = []; last = s })
       (step_again p.last p.machine seated.machine standing)
 
-  pub seated_as : seated_again p ≡ record p { piece = []; machine = refilled_to_keep 0 p.machine }
+  pub seated_as : seated_again p ≡ record p { piece = []; machine = refilled_to_keep STEP_LIMIT p.machine }
   seated_as =
       ap (λ (m : OpenTables). seat_at p.game p.routines p.world m p.pending (prompt_at p.last))
       (restored_again (prompt_at p.last) p.machine (machine_stands p.last p.machine seated.machine standing))
@@ -149,7 +149,7 @@ module _ {F : Type 0} (p : PlayerView F) (seated : IsSeated p) (standing : IsSta
         routines = p.routines;
         world = p.world;
         pending = p.pending;
-        machine = refilled_to_keep 0 p.machine;
+        machine = refilled_to_keep STEP_LIMIT p.machine;
         piece =
             [];
         last = s;
@@ -184,6 +184,26 @@ machine_alike prompt.Again m left steps k = waits_alike prompt.Again m left step
 machine_alike prompt.Key m left steps k = waits_alike prompt.Key m left steps k
 machine_alike prompt.Over m left steps k = closed_alike m left steps k
 
+-- A machine that only counts its steps stands as it did.
+pub counting_stands : (s : Step) (m : OpenTables) → StandsClosed s m → StandsClosed s (only_counting m)
+counting_stands (step.Waits prompt.Main) m k = closed_alike m m.left (steps_only_counted m.steps) k
+counting_stands (step.Waits prompt.Quit) m k = waits_alike prompt.Quit m m.left (steps_only_counted m.steps) k
+counting_stands (step.Waits prompt.Again) m k = waits_alike prompt.Again m m.left (steps_only_counted m.steps) k
+counting_stands (step.Waits prompt.Key) m k = waits_alike prompt.Key m m.left (steps_only_counted m.steps) k
+counting_stands (step.Waits prompt.Over) m k = k
+counting_stands s m k = closed_alike m m.left (steps_only_counted m.steps) k
+
+pub counting_seated : {F : Type 0} (p : PlayerView F) → IsSeated p → IsSeated (only_counting_player p)
+counting_seated p k =
+    record { valid = k.valid; machine = counting_stands p.last p.machine k.machine; rightly = λ standing. same (k.rightly standing) }
+  where
+    same : StandRightly p.game (prompt_at p.last) p.world p.machine p.pending
+        → StandRightly p.game (prompt_at p.last) p.world (only_counting p.machine) p.pending
+    same r = record { world = r.world; places = r.places; line = r.line; pending = r.pending; earlier = r.earlier; piece = r.piece; read = r.read }
+
+pub counting_new : {F : Type 0} (p : PlayerView F) (seed : ℕ) → IsNew p seed → IsNew (only_counting_player p) seed
+counting_new p seed k = record { world = k.world; pending = k.pending; machine = ap (λ (m : OpenTables). only_counting m) k.machine; piece = k.piece }
+
 -- With its own parts, and a machine that was restored from what is kept of its own, a player fits its game.
 pub taken_fits : {F : Type 0} (p : PlayerView F) (m : OpenTables) → IsSeated p → IsStanding p.last → m
     ≡ machine_restored (machine_kept p.machine) (waiting_at (prompt_at p.last))
@@ -194,7 +214,7 @@ taken_fits p m seated standing is =
     subst (λ (n : OpenTables). Fits p.game p.world n p.pending (prompt_at p.last))
     (sym (is ∙ restored_again (prompt_at p.last) p.machine (machine_stands p.last p.machine seated.machine standing)))
     (record {
-      machine = machine_alike (prompt_at p.last) p.machine READ_LIMIT (no_steps 0) fits.machine;
+      machine = machine_alike (prompt_at p.last) p.machine READ_LIMIT (no_steps STEP_LIMIT) fits.machine;
       rightly = record { world = k.world; places = k.places; line = k.line; pending = k.pending; earlier = k.earlier; piece = refl; read = refl };
     })
 

@@ -1,7 +1,7 @@
 // A player of a game.
 
 ghost use Rattle.std.specs.Prelude.{◌≡◌, ◌+◌, ◌<◌, ◌≤◌, ◌^◌, List, [], ◌∷◌, None, length, reverse, IfOk};
-ghost use Rattle.paw_base.specs.Bytes.{RoutineAnswers, Texts};
+ghost use Rattle.paw_base.specs.Bytes.{RoutineAnswers, Seed, Texts};
 ghost use Rattle.paw_base.specs.declared.limits.TheConstants.{LINE_LIMIT, PIECE_LIMIT, READ_LIMIT, STEP_LIMIT};
 ghost use Rattle.paw_routines.specs.Routines.{AreAnswersOf, HaveAnswers};
 ghost use Rattle.paw_effects.specs.Story.{story_of};
@@ -13,7 +13,7 @@ ghost use Rattle.paw_process.specs.inner.Kept.{machine_kept};
 ghost use Rattle.paw_process.specs.inner.Kept.{frames_fault};
 ghost use Rattle.paw_turn.specs.declared.Step.TheVariants as step;
 ghost use Rattle.paw_turn.specs.inner.Parts.{Fits, IsStanding, seat_at, prompt_at};
-ghost use Rattle.paw_turn.specs.inner.Player.{IsNew, IsSeated, IsFinished, PlaysTo, run_at};
+ghost use Rattle.paw_turn.specs.inner.Player.{IsNew, IsSeated, IsFinished, PlaysTo, run_at, only_counting_player};
 
 use crate::parts::{Parts, prompt_at, stop_at};
 use crate::phase::{Phase, TurnStop};
@@ -61,8 +61,7 @@ impl<'a, T: Tables, F: Fn(u8, u8) -> u8> Model for Player<'a, T, F> {
 
 impl<'a, T: Tables, F: Fn(u8, u8) -> u8> Player<'a, T, F> {
     /// A player at the start of a game that calls these routines, with the seed of its random draws. Of the steps of a
-    /// piece it keeps this number at most, the first ones: they are to be kept only where they are shown, because keeping
-    /// them takes time. All are counted.
+    /// piece it keeps the first 1,000; all are counted.
     ///
     /// # Errors
     /// NoRoom where there is no memory for a piece.
@@ -71,27 +70,57 @@ impl<'a, T: Tables, F: Fn(u8, u8) -> u8> Player<'a, T, F> {
         tables: &'a T,
         routines: &'a Routines<F>,
         seed: u64,
-        most: usize,
     ) -> Result<Player<'a, T, F>, NoRoom>
-        requires most { most ≤ STEP_LIMIT }
         ensures game { IfOk result (λ p. p.game ≡ T.game tables.now) }
         ensures routines { IfOk result (λ p. p.routines ≡ routines.now) }
         ensures new { IfOk result (λ p. IsNew p seed) }
-        ensures most { IfOk result (λ p. p.machine.steps.most ≡ most) }
+        ensures most { IfOk result (λ p. p.machine.steps.most ≡ STEP_LIMIT) }
         ensures last { IfOk result (λ p. p.last ≡ step.Waits prompt.Main) }
         ensures seated { IfOk result IsSeated }
     {
         let piece = Piece::new(alloc)?;
         Ok(Player {
             rules: TurnRules { tables, routines },
-            turn: PlayState::new(tables, seed, piece, most),
+            turn: PlayState::new(tables, seed, piece),
             last: TurnStop::Waits(Prompt::Main),
         })
     }
 
+    /// As `new`, but the player only counts its steps, as after `count_steps_only`.
+    ///
+    /// # Errors
+    /// NoRoom where there is no memory for a piece.
+    pub fn new_counting(
+        alloc: Global,
+        tables: &'a T,
+        routines: &'a Routines<F>,
+        seed: u64,
+    ) -> Result<Player<'a, T, F>, NoRoom>
+        ensures game { IfOk result (λ p. p.game ≡ T.game tables.now) }
+        ensures routines { IfOk result (λ p. p.routines ≡ routines.now) }
+        ensures new { IfOk result (λ p. IsNew p seed) }
+        ensures most { IfOk result (λ p. p.machine.steps.most ≡ 0) }
+        ensures last { IfOk result (λ p. p.last ≡ step.Waits prompt.Main) }
+        ensures seated { IfOk result IsSeated }
+    {
+        let mut player = Player::new(alloc, tables, routines, seed)?;
+        player.count_steps_only();
+        Ok(player)
+    }
+
+    /// Keeps no steps from here on, and only counts them: for a player whose steps are shown nowhere, because keeping
+    /// them takes time. All else stays as it is.
+    pub fn count_steps_only(&mut self)
+        ensures value { self.new ≡ only_counting_player self.old }
+        ensures seated { IsSeated self.old → IsSeated self.new }
+        ensures new { (seed : Seed) → IsNew self.old seed → IsNew self.new seed }
+    {
+        self.turn.machine.count_steps_only();
+    }
+
     /// A player of a game that calls these routines, which stands at a prompt with these parts, lent or restored
     /// earlier: they stand there as a run of the game may. The next line goes on from there; where the game is over the
-    /// player is finished. It keeps as many steps as the machine does.
+    /// player is finished. It keeps its steps, or only counts them, as the machine does.
     ///
     /// # Errors
     /// NoRoom where there is no memory for a piece. The parts are gone then.
@@ -125,8 +154,8 @@ impl<'a, T: Tables, F: Fn(u8, u8) -> u8> Player<'a, T, F> {
         })
     }
 
-    /// Goes back to the start of the game, with another seed: the player is as `new` gives it, and keeps as many steps as
-    /// before. Takes no memory.
+    /// Goes back to the start of the game, with another seed: the player is as `new` gives it, but where it only counts its
+    /// steps it still does. Takes no memory.
     pub fn renew(&mut self, seed: u64)
         requires seated { IsSeated self.old }
         ensures game { self.new.game ≡ self.old.game }
@@ -214,8 +243,8 @@ impl<'a, T: Tables, F: Fn(u8, u8) -> u8> Player<'a, T, F> {
         self.turn.piece()
     }
 
-    /// The steps of the last piece: how many condacts were read for it, and the first ones, as many as the player keeps.
-    /// After Spent and TooDeep they are those of the piece that wasn't closed.
+    /// The steps of the last piece: how many condacts were read for it, and the first 1,000, or none where the player only
+    /// counts them. After Spent and TooDeep they are those of the piece that wasn't closed.
     pub fn steps(&self) -> &Steps
         ensures value { result.now ≡ self.now.machine.steps }
     {

@@ -80,13 +80,12 @@ pub(crate) fn or_spent(shown: bool, next: Next) -> Next
 }
 
 impl PlayState {
-    /// A turn at the start of a game, with this piece. It keeps this number of steps at most.
-    pub(crate) fn new<T: Tables>(tables: &T, seed: u64, piece: Piece, most: usize) -> PlayState
-        requires most { most ≤ STEP_LIMIT }
+    /// A turn at the start of a game, with this piece.
+    pub(crate) fn new<T: Tables>(tables: &T, seed: u64, piece: Piece) -> PlayState
         ensures valid { Valid (T.game tables.now) }
         ensures world { result.surroundings.world ≡ opening_world (T.game tables.now) seed }
         ensures pending { result.surroundings.pending ≡ record { bytes = []; earlier = NO_WORD } }
-        ensures machine { result.machine ≡ new_machine most }
+        ensures machine { result.machine ≡ new_machine STEP_LIMIT }
         ensures piece { result.surroundings.piece ≡ piece }
     {
         PlayState {
@@ -95,11 +94,11 @@ impl PlayState {
                 pending: Pending::new(),
                 piece,
             },
-            machine: Machine::new(most),
+            machine: Machine::new(),
         }
     }
 
-    /// Goes back to the start of a game, with an empty piece. It keeps as many steps as before.
+    /// Goes back to the start of a game, with an empty piece. Where steps are only counted, they still are.
     pub(crate) fn renew<T: Tables>(&mut self, tables: &T, seed: u64)
         ensures world { self.new.surroundings.world ≡ opening_world (T.game tables.now) seed }
         ensures pending { self.new.surroundings.pending ≡ record { bytes = []; earlier = NO_WORD } }

@@ -16,6 +16,10 @@ kept_steps most steps = record { most = most; rows = take most steps; count = le
 abbrev pub no_steps : ℕ → KeptSteps
 no_steps most = record { most = most; rows = []; count = 0 }
 
+-- The same steps, counted but not kept: none of them, and none of those to come.
+abbrev pub steps_only_counted : KeptSteps → KeptSteps
+steps_only_counted kept = record { most = 0; rows = []; count = kept.count }
+
 -- One step more, which is kept where fewer than the most are.
 abbrev pub with_step_noted : StepRow → KeptSteps → KeptSteps
 with_step_noted step kept = record kept { rows = take kept.most (kept.rows ++ step ∷ []); count = suc kept.count }

@@ -1,6 +1,5 @@
 // Steps, noted past their limit.
 
-use paw_base::limits::STEP_LIMIT;
 use paw_base::steps::{StepRow, Steps};
 use std::process::Abort;
 use std::test::Fail;
@@ -22,7 +21,7 @@ fn note(rt: &impl Abort, steps: &mut Steps, entry: u16) {
 
 #[test]
 fn the_first_thousand_steps_are_kept_and_all_are_counted(rt: HostRuntime) -> Result<(), Fail> {
-    let mut steps = Steps::new(STEP_LIMIT);
+    let mut steps = Steps::new();
     assert!(rt; steps.rows().is_empty() && steps.count() == 0);
     for entry in 0..1001 {
         note(&rt, &mut steps, entry);
@@ -37,12 +36,17 @@ fn the_first_thousand_steps_are_kept_and_all_are_counted(rt: HostRuntime) -> Res
 }
 
 #[test]
-fn where_none_are_kept_steps_are_counted(rt: HostRuntime) -> Result<(), Fail> {
-    let mut steps = Steps::new(0);
+fn steps_that_are_only_counted_have_no_rows(rt: HostRuntime) -> Result<(), Fail> {
+    let mut steps = Steps::new();
+    note(&rt, &mut steps, 0);
+    steps.count_only();
+    assert!(rt; steps.rows().is_empty() && steps.count() == 1);
     for entry in 0..3 {
         note(&rt, &mut steps, entry);
     }
-    assert!(rt; steps.rows().is_empty());
-    assert_eq!(rt; steps.count(), 3);
+    assert!(rt; steps.rows().is_empty() && steps.count() == 4);
+    steps.clear();
+    note(&rt, &mut steps, 0);
+    assert!(rt; steps.rows().is_empty() && steps.count() == 1);
     Ok(())
 }

@@ -5,7 +5,7 @@ use Rattle.std.specs.Prelude.{reverse, take}
 use Rattle.std.specs.Prelude.{length, slice_get, nat_lt, if◌then◌else◌}
 use Rattle.std.specs.Option.{option_map, option_map_or, option_or, unwrap_or}
 use Rattle.paw_base.specs.declared.codes.TheConstants.{PROCESS, DOALL}
-use Rattle.paw_base.specs.declared.limits.TheConstants.{READ_LIMIT}
+use Rattle.paw_base.specs.declared.limits.TheConstants.{READ_LIMIT, STEP_LIMIT}
 use Rattle.paw_base.specs.declared.parts.Condact.{Condact}
 use Rattle.paw_base.specs.inner.Steps.{no_steps}
 use Rattle.paw_game.specs.Game.{GameLists}
@@ -29,14 +29,14 @@ blank_frame = record { table = 0; entry = 0; at = 0; acted = false }
 abbrev pub machine_kept : OpenTables → Frames
 machine_kept m = frames_at (reverse m.frames) m.turning
 
--- The machine of what is kept, which waits at this prompt, with a full budget and no steps; it keeps none.
+-- The machine of what is kept, which waits at this prompt, with a full budget and no steps.
 abbrev pub machine_restored : Frames → Option Prompt → OpenTables
 machine_restored k waiting = record {
   frames = reverse (take k.count k.rows);
   turning = k.turning;
   waiting = waiting;
   left = READ_LIMIT;
-  steps = no_steps 0;
+  steps = no_steps STEP_LIMIT;
 }
 
 -- ---- the rules ----

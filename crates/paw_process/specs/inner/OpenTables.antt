@@ -2,7 +2,7 @@
 use Rattle.std.specs.Prelude.{◌≡◌, ℕ, ◌+◌, ◌<◌, ◌≤◌, false, List, [], ◌∷◌, Option, Some, None, length, IfSome}
 use Rattle.paw_base.specs.declared.limits.TheConstants.{ENTRY_LIMIT, CONDACT_LIMIT, READ_LIMIT}
 use Rattle.paw_base.specs.inner.Steps.{KeptSteps}
-use Rattle.paw_base.specs.inner.Steps.{no_steps, kept_steps, with_step_noted}
+use Rattle.paw_base.specs.inner.Steps.{no_steps, kept_steps, steps_only_counted, with_step_noted}
 use Rattle.paw_effects.specs.declared.act.Prompt.{Prompt}
 use Rattle.paw_reading.specs.declared.places.Frame.{Frame}
 use Rattle.paw_reading.specs.declared.places.OpenLoop.{OpenLoop}
@@ -86,6 +86,10 @@ pub record IsWaiting (p : Prompt) (m : OpenTables) : Type 0 where
 -- No table is open, the budget is full, and there are no steps, of which this number is kept at most.
 abbrev pub new_machine : ℕ → OpenTables
 new_machine most = record { frames = []; turning = None; waiting = None; left = READ_LIMIT; steps = no_steps most }
+
+-- The machine counts its steps but keeps none, from here on.
+abbrev pub only_counting : OpenTables → OpenTables
+only_counting m = record m { steps = steps_only_counted m.steps }
 
 -- The budget is full again, and there are no steps, of which this number is kept at most from here on.
 abbrev pub refilled_to_keep : ℕ → OpenTables → OpenTables

@@ -17,6 +17,7 @@ use Rattle.paw_process.specs.declared.machine.TheConstants.{MOST_FRAMES}
 use Rattle.paw_process.specs.inner.OpenTables.{OpenTables}
 use Rattle.paw_process.specs.inner.Kept.{machine_kept}
 use Rattle.paw_process.specs.inner.Kept.{frames_fault}
+use Rattle.paw_base.specs.declared.limits.TheConstants.{STEP_LIMIT}
 use Rattle.paw_process.specs.inner.OpenTables.{refilled_to_keep}
 use Rattle.paw_process.specs.inner.Kept.{machine_restored, waiting_at}
 use Rattle.paw_process.specs.inner.Kept.{WaitsAtPrompt as MachineStandsAt}
@@ -79,11 +80,11 @@ seated_again p =
     seat_at p.game p.routines p.world (machine_restored (machine_kept p.machine) (waiting_at at)) p.pending at
 
 -- A player seated with its own parts is the same, except that it shows no piece, has a full budget and no steps, and keeps
--- none.
+-- the first 1,000 of those to come.
 abbrev pub SeatedAgain : Type 0 → Type 0
 SeatedAgain F =
     (p : PlayerView F) → IsSeated p → IsStanding p.last →
-    seated_again p ≡ record p { piece = []; machine = refilled_to_keep 0 p.machine }
+    seated_again p ≡ record p { piece = []; machine = refilled_to_keep STEP_LIMIT p.machine }
 
 -- What follows from lines depends on neither the last piece, nor the budget that it left, nor its steps: each line
 -- opens a piece of its own.

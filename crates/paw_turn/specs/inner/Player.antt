@@ -22,7 +22,7 @@ use Rattle.paw_reading.specs.declared.places.Halt.TheVariants as halt
 use Rattle.paw_reading.specs.Turn.{Ending, Halted, first_table, going_on_from}
 use Rattle.paw_reading.specs.inner.Places.{IsLoopOf, StandsRightly}
 use Rattle.paw_process.specs.inner.OpenTables.{OpenTables}
-use Rattle.paw_process.specs.inner.OpenTables.{IsWaiting, IsClosed, new_machine}
+use Rattle.paw_process.specs.inner.OpenTables.{IsWaiting, IsClosed, new_machine, only_counting}
 use Rattle.paw_turn.specs.declared.Step.{Step}
 use Rattle.paw_turn.specs.declared.Step.TheVariants as step
 use Rattle.paw_turn.specs.declared.phase.TurnStop.{TurnStop}
@@ -140,6 +140,10 @@ pub record IsSeated {F : Type 0} (p : PlayerView F) : Type 0 where
   pub valid : Valid p.game
   pub machine : StandsClosed p.last p.machine
   pub rightly : IsStanding p.last → StandRightly p.game (prompt_at p.last) p.world p.machine p.pending
+
+-- The player counts its steps but keeps none, from here on.
+abbrev pub only_counting_player : {F : Type 0} → PlayerView F → PlayerView F
+only_counting_player p = record p { machine = only_counting p.machine }
 
 -- A player that is new: the game is at its start, and no piece was made. It may keep any number of steps.
 pub record IsNew {F : Type 0} (p : PlayerView F) (seed : Seed) : Type 0 where

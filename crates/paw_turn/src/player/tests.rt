@@ -12,7 +12,7 @@ use crate::{Step, step_of};
 use game::{asking_game, endless_game};
 use paw_base::codes::{ANYKEY, DOALL, END, GT, LET, MINUS, OK, PROCESS, QUIT};
 use paw_base::fault::SpentKind;
-use paw_base::limits::{LINE_LIMIT, STEP_LIMIT};
+use paw_base::limits::LINE_LIMIT;
 use paw_base::steps::StepRow;
 use paw_effects::act::Prompt;
 use paw_game::game::Game;
@@ -261,7 +261,7 @@ fn taken_up<'a, R: AllocGlobal, F: Fn(u8, u8) -> u8>(
         )?;
         return Ok(other);
     }
-    let mut other = Player::new(rt.alloc(), game, routines, 8, STEP_LIMIT)?;
+    let mut other = Player::new(rt.alloc(), game, routines, 8)?;
     other.start();
     other.seat(apart.world, apart.machine, apart.pending, apart.prompt);
     Ok(other)
@@ -324,7 +324,7 @@ fn player_after_start<'a, R: Abort + AllocGlobal, F: Fn(u8, u8) -> u8>(
     ensures answers { IfOk result (λ p. HaveAnswers F.Fn p.routines) }
     ensures seated { IfOk result IsSeated }
 {
-    let mut player = Player::new(rt.alloc(), game, routines, 7, STEP_LIMIT)?;
+    let mut player = Player::new(rt.alloc(), game, routines, 7)?;
     player.start();
     compare(rt, &player, first, "the start", Between::Nothing);
     Ok(player)

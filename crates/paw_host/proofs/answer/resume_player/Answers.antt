@@ -20,7 +20,7 @@ use Rattle.paw_state.proofs.Ruled.{each_of}
 use Rattle.paw_turn.specs.inner.Player.{PlayerView, IsSeated}
 use Rattle.paw_turn.specs.inner.Parts.{Fits, IsStanding, prompt_step, seat_at}
 use Rattle.paw_world.specs.World.{World}
-use Rattle.paw_process.specs.inner.OpenTables.{OpenTables}
+use Rattle.paw_process.specs.inner.OpenTables.{OpenTables, only_counting}
 use Rattle.paw_phrase.specs.Pending.{PendingLine}
 use Rattle.paw_routines.specs.declared.routines.Routines.{Routines}
 use Rattle.paw_play.specs.Session.{IsOfStory}
@@ -45,10 +45,10 @@ stands_at : {F : Type 0} (g : GameLists) (routines : Routines F) (w : World) (m 
 stands_at {F} g routines w m p at seat is = subst IsStanding (sym (ap (λ (q : PlayerView F). q.last) is)) (stands_step at)
 
 stands_after : {F : Type 0} (g h : GameLists) (routines : Routines F) (r : Restored) (seat : PlayerView F) → IsValidState g (state_read r) →
-    seat ≡ seat_at h routines r.world r.machine r.pending r.prompt → StandsAfter r.events seat
+    seat ≡ seat_at h routines r.world (only_counting r.machine) r.pending r.prompt → StandsAfter r.events seat
 stands_after {F} g h routines r seat keeps is = record {
   few = (each_of g (state_read r) keeps).events;
-  standing = stands_at h routines r.world r.machine r.pending r.prompt seat is;
+  standing = stands_at h routines r.world (only_counting r.machine) r.pending r.prompt seat is;
   draws = subst (λ (w : World). w.draws ≤ READ_LIMIT * (r.events + 1)) (sym (ap (λ (q : PlayerView F). q.world) is)) (each_of g (state_read r) keeps).draws;
 }
 
@@ -79,11 +79,11 @@ seat-requires-clause-fits g c =
     (read_fits (g.T.Tables.game c.args.tables.now) c.state.result.now r c.in-Ok-read_state.ensures.read)
 
 pub returns-clause-stays : goal.returns-clause-stays
-returns-clause-stays g c = stays_at _ _ _ _ c.args.player.now c.seat.new.self c.seat.ensures.seated c.seat.ensures.value
+returns-clause-stays g c = stays_at _ _ _ _ c.args.player.now c.seat.new.player c.seat.ensures.seated c.seat.ensures.value
 
 pub returns-clause-opened : goal.returns-clause-opened
 returns-clause-opened g c =
-    stands_after (g.T.Tables.game c.args.tables.now) _ _ c.in-Ok-read_state.restored c.seat.new.self c.in-Ok-read_state.ensures.read.keeps c.seat.ensures.value
+    stands_after (g.T.Tables.game c.args.tables.now) _ _ c.in-Ok-read_state.restored c.seat.new.player c.in-Ok-read_state.ensures.read.keeps c.seat.ensures.value
 
 pub returns-clause-meaning : goal.returns-clause-meaning
 returns-clause-meaning g c = λ tells X answers.
@@ -99,5 +99,5 @@ returns-clause-meaning g c = λ tells X answers.
     (of_story story c.args.game.now c.args.rules.now (g.S.Stage.standing c.find.new.stage).disk.bytes c.requires.digests.digest
     (c.requires.digests.measured X answers) (c.in-Ok.ensures.belongs tells)) in
     let read = subst (λ (h : GameLists). IsRead h c.state.result.now r) (sym c.requires.same) c.in-Ok-read_state.ensures.read in
-    taken_up story (kept_digests old.disk.bytes) old.disk.bytes state c.state.result.now piece r c.args.player.now.routines c.seat.new.self shown
+    taken_up story (kept_digests old.disk.bytes) old.disk.bytes state c.state.result.now piece r c.args.player.now.routines c.seat.new.player shown
     c.state.ensures.value belongs read c.in-Ok-read_state.ensures.piece c.seat.ensures.value

@@ -6,6 +6,7 @@ use Rattle.paw_stage.proofs.Time.{Passes_map, Passes_on}
 use Rattle.paw_routines.specs.Routines.{AreAnswersOf, HaveAnswers}
 use Rattle.paw_effects.specs.Story.{story_of}
 use Rattle.std.specs.Prelude.{Result, Ok, Err, IsOk}
+use Rattle.paw_process.specs.inner.OpenTables.{only_counting}
 use Rattle.paw_state.specs.declared.StateFault.{StateFault}
 use Rattle.paw_state.specs.declared.parts.Restored.{Restored}
 use Rattle.paw_state.specs.Fit.{Fit, Unfit}
@@ -26,13 +27,13 @@ play_lines-requires-clause-player g c =
     let game2 = g.T.Tables.game c.args.tables.now in
     let r = c.in-Ok.restored in
     record {
-      seated = c.in-Ok-adopt.ensures.seated;
+      seated = c.in-Ok-player_of.ensures.seated;
       answers = subst (λ q. HaveAnswers g.F.Fn q)
-          (sym (seat_routines game2 c.args.routines.now r.world r.machine r.pending r.prompt c.in-Ok-adopt.player c.in-Ok-adopt.ensures.value))
+          (sym (seat_routines game2 c.args.routines.now r.world (only_counting r.machine) r.pending r.prompt c.in-Ok-player_of.player c.in-Ok-player_of.ensures.value))
           c.requires.answers;
       drew = omega (
         arith,
-        seat_draws game2 c.args.routines.now r.world r.machine r.pending r.prompt c.in-Ok-adopt.player c.in-Ok-adopt.ensures.value,
+        seat_draws game2 c.args.routines.now r.world (only_counting r.machine) r.pending r.prompt c.in-Ok-player_of.player c.in-Ok-player_of.ensures.value,
         (each_of game2 (state_read r) c.in-Ok.ensures.read.keeps).draws,
       );
     }
@@ -58,8 +59,8 @@ returns-in-Err-clause-plays g c = λ tells X answers name store.
     (λ fit. not_ok (Err c.in-Err.fault) c.in-Err.fault refl (c.in-Err.ensures.fit.1 (subst (Fit game2) sym2 fit)))
     (subst (λ b. Unfit game2 b c.in-Err.fault.at) c.state.ensures.value c.in-Err.ensures.fault) refl
 
-pub adopt-requires : goal.adopt-requires
-adopt-requires g c = record { fits = read_fits (g.T.Tables.game c.args.tables.now) c.state.result.now c.in-Ok.restored c.in-Ok.ensures.read }
+pub player_of-requires : goal.player_of-requires
+player_of-requires g c = record { fits = read_fits (g.T.Tables.game c.args.tables.now) c.state.result.now c.in-Ok.restored c.in-Ok.ensures.read }
 
 pub returns-in_default-clause-plays : goal.returns-in_default-clause-plays
 returns-in_default-clause-plays g c = λ tells X answers name store. memory refl
@@ -67,8 +68,8 @@ returns-in_default-clause-plays g c = λ tells X answers name store. memory refl
 pub returns-in-Some-clause-plays : goal.returns-in-Some-clause-plays
 returns-in-Some-clause-plays g c = λ tells X answers name store.
     let u = resumed (story_of (g.T.Tables.game c.args.tables.now) X) name c.state.result.now _ c.args.room.now.piece c.in-Ok.restored _ c.args.routines.now
-    c.in-Ok-adopt.player (c.requires.kept tells).shown c.state.ensures.value c.in-Ok.ensures.read c.in-Ok.ensures.piece c.in-Ok-adopt.ensures.value
-    c.in-Ok-adopt.ensures.seated store in
+    c.in-Ok-player_of.player (c.requires.kept tells).shown c.state.ensures.value c.in-Ok.ensures.read c.in-Ok.ensures.piece c.in-Ok-player_of.ensures.value
+    c.in-Ok-player_of.ensures.seated store in
     plays_on c.in-Some.end (state_read c.in-Ok.restored) c.args.room.now.piece u.state
     (again_last u (EVENT_LIMIT - c.in-Ok.restored.events) (g.S.Stage.standing c.show_again.new.stage) c.in-Some.end
     (subst (λ x. ShowsAgain (g.S.Stage.standing c.args.stage.now) (g.S.Stage.standing c.show_again.new.stage) x c.in-Ok.restored.prompt (Some c.in-Some.end))
@@ -77,9 +78,9 @@ returns-in-Some-clause-plays g c = λ tells X answers name store.
 pub returns-in-Some-clause-any_moment : goal.returns-in-Some-clause-any_moment
 returns-in-Some-clause-any_moment g c = λ tells X answers name store d st piece shows.
     let u = resumed (story_of (g.T.Tables.game c.args.tables.now) X) name c.state.result.now _ c.args.room.now.piece c.in-Ok.restored _ c.args.routines.now
-    c.in-Ok-adopt.player (c.requires.kept tells).shown c.state.ensures.value c.in-Ok.ensures.read c.in-Ok.ensures.piece c.in-Ok-adopt.ensures.value
-    c.in-Ok-adopt.ensures.seated store in
-    let one = one_session _ name c.args.room.now.piece c.in-Ok.restored _ c.args.routines.now c.in-Ok-adopt.player d st piece u shows in
+    c.in-Ok-player_of.player (c.requires.kept tells).shown c.state.ensures.value c.in-Ok.ensures.read c.in-Ok.ensures.piece c.in-Ok-player_of.ensures.value
+    c.in-Ok-player_of.ensures.seated store in
+    let one = one_session _ name c.args.room.now.piece c.in-Ok.restored _ c.args.routines.now c.in-Ok-player_of.player d st piece u shows in
     subst (λ q. Passes (g.S.Stage.clock c.args.stage.now) (g.S.Stage.clock c.show_again.new.stage) (g.S.Stage.since c.args.stage.now)
     (g.S.Stage.since c.show_again.new.stage) (InPlay q (g.S.Stage.standing c.args.stage.now))) one
     (Passes_map _ _ _ _ _ (InPlay (read_session (story_of (g.T.Tables.game c.args.tables.now) X) name c.args.room.now.piece c.in-Ok.restored
@@ -89,27 +90,27 @@ returns-in-Some-clause-any_moment g c = λ tells X answers name store d st piece
 pub returns-clause-plays : goal.returns-clause-plays
 returns-clause-plays g c = λ tells X answers name store.
     let u = resumed (story_of (g.T.Tables.game c.args.tables.now) X) name c.state.result.now _ c.args.room.now.piece c.in-Ok.restored _ c.args.routines.now
-    c.in-Ok-adopt.player (c.requires.kept tells).shown c.state.ensures.value c.in-Ok.ensures.read c.in-Ok.ensures.piece c.in-Ok-adopt.ensures.value
-    c.in-Ok-adopt.ensures.seated store in
+    c.in-Ok-player_of.player (c.requires.kept tells).shown c.state.ensures.value c.in-Ok.ensures.read c.in-Ok.ensures.piece c.in-Ok-player_of.ensures.value
+    c.in-Ok-player_of.ensures.seated store in
     let after_show_again = g.S.Stage.standing c.show_again.new.stage in
     let start = again_next u after_show_again (subst (λ x. ShowsAgain (g.S.Stage.standing c.args.stage.now) after_show_again x c.in-Ok.restored.prompt None)
     c.piece.ensures.value (c.in_default-show_again.ensures.meaning tells)) in
     let own = subst (λ r. AreAnswersOf g.F.Fn r X)
-    (sym (seat_routines _ c.args.routines.now _ _ _ _ c.in-Ok-adopt.player c.in-Ok-adopt.ensures.value)) answers in
+    (sym (seat_routines _ c.args.routines.now _ _ _ _ c.in-Ok-player_of.player c.in-Ok-player_of.ensures.value)) answers in
     plays_on c.play_lines.result (state_read c.in-Ok.restored) c.args.room.now.piece u.state
     (c.play_lines.ensures.meaning (c.show_again.ensures.serves.tells.0 tells) X own _ (g.S.Stage.standing c.args.stage.now) start refl)
 
 pub returns-clause-any_moment : goal.returns-clause-any_moment
 returns-clause-any_moment g c = λ tells X answers name store d st piece shows.
     let u = resumed (story_of (g.T.Tables.game c.args.tables.now) X) name c.state.result.now _ c.args.room.now.piece c.in-Ok.restored _ c.args.routines.now
-    c.in-Ok-adopt.player (c.requires.kept tells).shown c.state.ensures.value c.in-Ok.ensures.read c.in-Ok.ensures.piece c.in-Ok-adopt.ensures.value
-    c.in-Ok-adopt.ensures.seated store in
-    let one = one_session _ name c.args.room.now.piece c.in-Ok.restored _ c.args.routines.now c.in-Ok-adopt.player d st piece u shows in
+    c.in-Ok-player_of.player (c.requires.kept tells).shown c.state.ensures.value c.in-Ok.ensures.read c.in-Ok.ensures.piece c.in-Ok-player_of.ensures.value
+    c.in-Ok-player_of.ensures.seated store in
+    let one = one_session _ name c.args.room.now.piece c.in-Ok.restored _ c.args.routines.now c.in-Ok-player_of.player d st piece u shows in
     let after_show_again = g.S.Stage.standing c.show_again.new.stage in
     let start = again_next u after_show_again (subst (λ x. ShowsAgain (g.S.Stage.standing c.args.stage.now) after_show_again x c.in-Ok.restored.prompt None)
     c.piece.ensures.value (c.in_default-show_again.ensures.meaning tells)) in
     let own = subst (λ r. AreAnswersOf g.F.Fn r X)
-    (sym (seat_routines _ c.args.routines.now _ _ _ _ c.in-Ok-adopt.player c.in-Ok-adopt.ensures.value)) answers in
+    (sym (seat_routines _ c.args.routines.now _ _ _ _ c.in-Ok-player_of.player c.in-Ok-player_of.ensures.value)) answers in
     let session = read_session (story_of (g.T.Tables.game c.args.tables.now) X) name c.args.room.now.piece c.in-Ok.restored
     (g.S.Stage.standing c.args.stage.now) in
     subst (λ q. Passes (g.S.Stage.clock c.args.stage.now) (g.S.Stage.clock c.play_lines.new.stage) (g.S.Stage.since c.args.stage.now)

@@ -1,9 +1,18 @@
-use Rattle.std.proofs.Common.{arith, sym, ◌∙◌}
+use Rattle.std.proofs.Common.{arith, sym, subst, ◌∙◌, ◌≤◌}
+use Rattle.paw_base.specs.declared.limits.TheConstants.{READ_LIMIT}
+use Rattle.paw_base.specs.inner.Steps.{KeptSteps}
 use Rattle.paw_process.specs.inner.Kept.{waiting_at}
-use Rattle.paw_process.proofs.Again.{restored_kept}
+use Rattle.paw_process.proofs.Again.{few_frames, restored_kept}
 use Rattle.paw_process.proofs.Fitting.{kept_places}
 use Rattle.paw_process.proofs.Restored.{stands_at}
 use Rattle.paw_process.proofs.machine.Machine.restore.Goals as goal
+
+pub invariant_of-result : goal.invariant_of-result
+invariant_of-result g c = (
+  few_frames (g.T.Tables.game c.args.tables.now) c.args.prompt c.args.kept.now (sym c.frames_fault.ensures.value ∙ c.in_default.is),
+  omega arith,
+  subst (λ (s : KeptSteps). s.count ≤ READ_LIMIT) (sym c.new.ensures.value) (omega arith),
+)
 
 pub returns-clause-stands : goal.returns-clause-stands
 returns-clause-stands g c =
