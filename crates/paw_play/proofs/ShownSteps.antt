@@ -48,59 +48,59 @@ traced_more (p ∷ pieces) (t ∷ traces) piece steps each =
     ap (λ xs. (steps_text t ++ p) ∷ xs) (traced_more pieces traces piece steps (omega (arith, each)))
 
 -- One piece more of a player.
-pub pieces_more : {F : Type 0} (telling : ShowSteps) (next : PlayerView F) (pieces : List (List ℕ)) (traces : List (List Read)) (steps : List Read) →
-    HaveSteps telling pieces traces → KeepsShown telling next.machine.steps.most → next.machine.steps ≡ kept_steps next.machine.steps.most steps →
-    concat (shown_pieces telling (pieces ++ next.piece ∷ []) (traces ++ steps ∷ [])) ≡ concat (shown_pieces telling pieces traces) ++ seat_text telling next
+pub pieces_more : {F : Type 0} (showing : ShowSteps) (next : PlayerView F) (pieces : List (List ℕ)) (traces : List (List Read)) (steps : List Read) →
+    HaveSteps showing pieces traces → KeepsShown showing next.machine.steps.most → next.machine.steps ≡ kept_steps next.machine.steps.most steps →
+    concat (shown_pieces showing (pieces ++ next.piece ∷ []) (traces ++ steps ∷ [])) ≡ concat (shown_pieces showing pieces traces) ++ seat_text showing next
 pieces_more Plain next pieces traces steps each keeps kept = joined_more pieces next.piece
 pieces_more Stepped next pieces traces steps each keeps kept =
     ap concat (traced_more pieces traces next.piece steps each) ∙ joined_more (traced_pieces pieces traces) (steps_text steps ++ next.piece)
     ∙ ap (λ t. concat (traced_pieces pieces traces) ++ (t ++ next.piece)) (sym (kept_told next.machine.steps steps keeps kept))
 
 -- And it has its steps.
-pub steps_more : (telling : ShowSteps) (pieces : List (List ℕ)) (traces : List (List Read)) (piece : List ℕ) (steps : List Read) →
-    HaveSteps telling pieces traces → HaveSteps telling (pieces ++ piece ∷ []) (traces ++ steps ∷ [])
+pub steps_more : (showing : ShowSteps) (pieces : List (List ℕ)) (traces : List (List Read)) (piece : List ℕ) (steps : List Read) →
+    HaveSteps showing pieces traces → HaveSteps showing (pieces ++ piece ∷ []) (traces ++ steps ∷ [])
 steps_more Plain pieces traces piece steps each = tt
 steps_more Stepped pieces traces piece steps each = omega (arith, length-append traces (steps ∷ []), length-append pieces (piece ∷ []), each)
 
 -- Before the first piece there is none to show.
-pub told_none : (telling : ShowSteps) → concat (shown_pieces telling [] []) ≡ []
+pub told_none : (showing : ShowSteps) → concat (shown_pieces showing [] []) ≡ []
 told_none Plain = refl
 told_none Stepped = refl
 
-pub steps_none : (telling : ShowSteps) → HaveSteps telling [] []
+pub steps_none : (showing : ShowSteps) → HaveSteps showing [] []
 steps_none Plain = tt
 steps_none Stepped = refl
 
 -- ---- endings ----
 
-pub waits_told : (telling : ShowSteps) (p : Prompt) (path : List Frame) (r : Run) →
-    shown_ending telling (WaitsAt p path r) ≡ WaitsAt p path (shown_run telling r)
+pub waits_told : (showing : ShowSteps) (p : Prompt) (path : List Frame) (r : Run) →
+    shown_ending showing (WaitsAt p path r) ≡ WaitsAt p path (shown_run showing r)
 waits_told Plain p path r = refl
 waits_told Stepped p path r = refl
 
-pub halts_told : (telling : ShowSteps) (halt : Halt) (r : Run) → shown_ending telling (Halted halt r) ≡ Halted halt (shown_run telling r)
+pub halts_told : (showing : ShowSteps) (halt : Halt) (r : Run) → shown_ending showing (Halted halt r) ≡ Halted halt (shown_run showing r)
 halts_told Plain halt r = refl
 halts_told Stepped halt r = refl
 
 -- How pieces are shown changes nothing of the lines to come.
-pub same_lines : (telling : ShowSteps) (r : Run) → (shown_run telling r).events ≡ r.events
+pub same_lines : (showing : ShowSteps) (r : Run) → (shown_run showing r).events ≡ r.events
 same_lines Plain r = refl
 same_lines Stepped r = refl
 
 -- The closed pieces of a run with these, as they are shown.
-pub told_is : (telling : ShowSteps) (r : Run) (pieces : List (List ℕ)) (traces : List (List Read)) → r.pieces ≡ pieces → r.traces ≡ traces →
-    concat (shown_run telling r).pieces ≡ concat (shown_pieces telling pieces traces)
+pub told_is : (showing : ShowSteps) (r : Run) (pieces : List (List ℕ)) (traces : List (List Read)) → r.pieces ≡ pieces → r.traces ≡ traces →
+    concat (shown_run showing r).pieces ≡ concat (shown_pieces showing pieces traces)
 told_is Plain r pieces traces e f = ap concat e
 told_is Stepped r pieces traces e f = ap (λ ps. concat (traced_pieces ps r.traces)) e ∙ ap (λ ts. concat (traced_pieces pieces ts)) f
 
 -- The text of a player's last piece comes last.
-pub told_more : {F : Type 0} (telling : ShowSteps) (next : PlayerView F) (pieces : List (List ℕ)) (traces : List (List Read)) (steps : List Read) →
-    HaveSteps telling pieces traces → KeepsShown telling next.machine.steps.most → next.machine.steps ≡ kept_steps next.machine.steps.most steps →
-    concat (shown_run telling (run_at next (pieces ++ next.piece ∷ []) (traces ++ steps ∷ []) [])).pieces
-    ≡ concat (shown_pieces telling pieces traces) ++ seat_text telling next
-told_more telling next pieces traces steps each keeps kept =
-    told_is telling (run_at next (pieces ++ next.piece ∷ []) (traces ++ steps ∷ []) []) (pieces ++ next.piece ∷ []) (traces ++ steps ∷ []) refl refl
-    ∙ pieces_more telling next pieces traces steps each keeps kept
+pub told_more : {F : Type 0} (showing : ShowSteps) (next : PlayerView F) (pieces : List (List ℕ)) (traces : List (List Read)) (steps : List Read) →
+    HaveSteps showing pieces traces → KeepsShown showing next.machine.steps.most → next.machine.steps ≡ kept_steps next.machine.steps.most steps →
+    concat (shown_run showing (run_at next (pieces ++ next.piece ∷ []) (traces ++ steps ∷ []) [])).pieces
+    ≡ concat (shown_pieces showing pieces traces) ++ seat_text showing next
+told_more showing next pieces traces steps each keeps kept =
+    told_is showing (run_at next (pieces ++ next.piece ∷ []) (traces ++ steps ∷ []) []) (pieces ++ next.piece ∷ []) (traces ++ steps ∷ []) refl refl
+    ∙ pieces_more showing next pieces traces steps each keeps kept
 
 -- A step that isn't refused brings a piece.
 pub shows_piece : (found : Step) → None ≡ end_if_no_piece found → IsStanding found

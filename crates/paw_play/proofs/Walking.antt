@@ -114,107 +114,107 @@ on_waits g prompt.Over m r h = absurd h
 -- ---- a walk at a prompt ----
 
 -- What was read of the lines so far waits, and its text was shown.
-waiting : {F : Type 0} (telling : ShowSteps) (g : Story) (whole : EndingOf) (n : ℕ) (first now : Standing) (seat : PlayerView F) →
-    IsWalking telling g whole first now seat n → IsSeated seat →
-    WalkWaits (with_shown_steps telling whole) first now n
-waiting telling g whole n first now seat w seated =
+waiting : {F : Type 0} (showing : ShowSteps) (g : Story) (whole : EndingOf) (n : ℕ) (first now : Standing) (seat : PlayerView F) →
+    IsWalking showing g whole first now seat n → IsSeated seat →
+    WalkWaits (with_shown_steps showing whole) first now n
+waiting showing g whole n first now seat w seated =
     let stands : StandsAt w.prompt seat.machine = subst (λ s. StandsClosed s seat.machine) w.waits seated.machine in
     let path : List Frame = reverse seat.machine.frames in
     let r : Run = run_at seat w.pieces w.traces [] in (
       w.prompt,
       path,
-      shown_run telling r,
+      shown_run showing r,
       record {
-        reading = ap (with_shown_steps telling whole) (sym (append-nil (first_lines n first.lines)))
-            ∙ ap (shown_ending telling) (w.goes_on [] ∙ on_waits g w.prompt seat.machine r stands) ∙ waits_told telling w.prompt path r;
+        reading = ap (with_shown_steps showing whole) (sym (append-nil (first_lines n first.lines)))
+            ∙ ap (shown_ending showing) (w.goes_on [] ∙ on_waits g w.prompt seat.machine r stands) ∙ waits_told showing w.prompt path r;
         there = w.there;
-        stands = w.stands ∙ ap (with_lines_taken first n) (sym (told_is telling r w.pieces w.traces refl refl));
+        stands = w.stands ∙ ap (with_lines_taken first n) (sym (told_is showing r w.pieces w.traces refl refl));
       },
     )
 
 -- The text of what was read of the lines so far.
-pub text_so_far : {F : Type 0} (telling : ShowSteps) (g : Story) (whole : EndingOf) (n : ℕ) (first now : Standing) (seat : PlayerView F)
-    (w : IsWalking telling g whole first now seat n) → IsSeated seat →
-    text_of (with_shown_steps telling whole (first_lines n first.lines)) ≡ concat (shown_pieces telling w.pieces w.traces)
+pub text_so_far : {F : Type 0} (showing : ShowSteps) (g : Story) (whole : EndingOf) (n : ℕ) (first now : Standing) (seat : PlayerView F)
+    (w : IsWalking showing g whole first now seat n) → IsSeated seat →
+    text_of (with_shown_steps showing whole (first_lines n first.lines)) ≡ concat (shown_pieces showing w.pieces w.traces)
 unfolding waiting
-text_so_far telling g whole n first now seat w seated =
-    ap text_of (waiting telling g whole n first now seat w seated).3.reading
-    ∙ told_is telling (run_at seat w.pieces w.traces []) w.pieces w.traces refl refl
+text_so_far showing g whole n first now seat w seated =
+    ap text_of (waiting showing g whole n first now seat w seated).3.reading
+    ∙ told_is showing (run_at seat w.pieces w.traces []) w.pieces w.traces refl refl
 
 -- The text of a step that brings a piece.
-pub text_shown : {F : Type 0} (telling : ShowSteps) (g : Story) (whole : EndingOf) (s : Step) (next : PlayerView F)
-    (pieces : List (List ℕ)) (traces : List (List Read)) → HaveSteps telling pieces traces → KeepsShown telling next.machine.steps.most → IsStanding s → StandsClosed s next.machine →
+pub text_shown : {F : Type 0} (showing : ShowSteps) (g : Story) (whole : EndingOf) (s : Step) (next : PlayerView F)
+    (pieces : List (List ℕ)) (traces : List (List Read)) → HaveSteps showing pieces traces → KeepsShown showing next.machine.steps.most → IsStanding s → StandsClosed s next.machine →
     PlaysTo g whole s next pieces traces →
-    text_of (with_shown_steps telling whole []) ≡ concat (shown_pieces telling pieces traces) ++ seat_text telling next
-text_shown telling g whole (step.Waits p) next pieces traces each keeps h m plays =
+    text_of (with_shown_steps showing whole []) ≡ concat (shown_pieces showing pieces traces) ++ seat_text showing next
+text_shown showing g whole (step.Waits p) next pieces traces each keeps h m plays =
     let r : Run = run_at next (pieces ++ next.piece ∷ []) (traces ++ plays.0 ∷ []) [] in
-    ap (λ e. text_of (shown_ending telling e)) (plays.1.1 [] ∙ on_waits g p next.machine r m)
-    ∙ ap text_of (waits_told telling p (reverse next.machine.frames) r)
-    ∙ told_more telling next pieces traces plays.0 each keeps plays.1.0
-text_shown telling g whole step.Ended next pieces traces each keeps h m plays =
+    ap (λ e. text_of (shown_ending showing e)) (plays.1.1 [] ∙ on_waits g p next.machine r m)
+    ∙ ap text_of (waits_told showing p (reverse next.machine.frames) r)
+    ∙ told_more showing next pieces traces plays.0 each keeps plays.1.0
+text_shown showing g whole step.Ended next pieces traces each keeps h m plays =
     let r : Run = run_at next (pieces ++ next.piece ∷ []) (traces ++ plays.0 ∷ []) [] in
-    ap (λ e. text_of (shown_ending telling e)) (plays.1.1 []) ∙ ap text_of (halts_told telling halt.Over r)
-    ∙ told_more telling next pieces traces plays.0 each keeps plays.1.0
-text_shown telling g whole (step.Spent kind) next pieces traces each keeps h m plays = absurd h
-text_shown telling g whole (step.TooDeep u) next pieces traces each keeps h m plays = absurd h
+    ap (λ e. text_of (shown_ending showing e)) (plays.1.1 []) ∙ ap text_of (halts_told showing halt.Over r)
+    ∙ told_more showing next pieces traces plays.0 each keeps plays.1.0
+text_shown showing g whole (step.Spent kind) next pieces traces each keeps h m plays = absurd h
+text_shown showing g whole (step.TooDeep u) next pieces traces each keeps h m plays = absurd h
 
 -- Nothing more is shown.
 pub shown_nothing : (mid : Standing) → mid ≡ record mid { shown = mid.shown ++ [] }
 shown_nothing mid = ap (λ t. record mid { shown = t }) (sym (append-nil mid.shown))
 
 -- How a step ends after n lines, where `after` is the reading of those that are left then.
-module _ {F : Type 0} (telling : ShowSteps) (g : Story) (whole after : EndingOf) (n : ℕ) (first mid new : Standing) (next : PlayerView F) (s : Step)
-    (pieces : List (List ℕ)) (traces : List (List Read)) (each : HaveSteps telling pieces traces)
-    (keeps : KeepsShown telling next.machine.steps.most)
+module _ {F : Type 0} (showing : ShowSteps) (g : Story) (whole after : EndingOf) (n : ℕ) (first mid new : Standing) (next : PlayerView F) (s : Step)
+    (pieces : List (List ℕ)) (traces : List (List Read)) (each : HaveSteps showing pieces traces)
+    (keeps : KeepsShown showing next.machine.steps.most)
     (last : next.last ≡ s) (seated : IsSeated next) (there : n ≤ length first.lines)
     (whole_after : (more : List (List ℕ)) → whole (first_lines n first.lines ++ more) ≡ after more)
-    (earlier : text_before (with_shown_steps telling whole) first.lines n ≡ concat (shown_pieces telling pieces traces))
+    (earlier : text_before (with_shown_steps showing whole) first.lines n ≡ concat (shown_pieces showing pieces traces))
     (stands_with : (part : List ℕ) → new ≡ record mid { shown = mid.shown ++ part } →
-    new ≡ with_lines_taken first n (concat (shown_pieces telling pieces traces) ++ part))
+    new ≡ with_lines_taken first n (concat (shown_pieces showing pieces traces) ++ part))
     (plays : PlaysTo g after s next pieces traces) where
   read_all : whole (first_lines n first.lines) ≡ after []
   read_all = ap whole (sym (append-nil (first_lines n first.lines))) ∙ whole_after []
 
   -- Part of the text was shown.
-  shown_part : IsStanding s → 0 < length (seat_text telling next) → (m : ℕ) →
-      new ≡ record mid { shown = mid.shown ++ take m (seat_text telling next) } → PartShown (with_shown_steps telling whole) first new n
+  shown_part : IsStanding s → 0 < length (seat_text showing next) → (m : ℕ) →
+      new ≡ record mid { shown = mid.shown ++ take m (seat_text showing next) } → PartShown (with_shown_steps showing whole) first new n
   shown_part shows some m e = record {
-    shown = concat (shown_pieces telling pieces traces) ++ take m (seat_text telling next);
-    rest = drop m (seat_text telling next);
-    part = append_assoc (concat (shown_pieces telling pieces traces)) (take m (seat_text telling next)) (drop m (seat_text telling next))
-        ∙ ap (λ t. concat (shown_pieces telling pieces traces) ++ t) (take-append-drop m (seat_text telling next)) ∙ sym all;
-    last = take m (seat_text telling next);
-    before = ap (λ t. t ++ take m (seat_text telling next)) (sym earlier);
-    grows = omega (arith, some, ap length earlier, ap length all ∙ length-append (concat (shown_pieces telling pieces traces)) (seat_text telling next));
+    shown = concat (shown_pieces showing pieces traces) ++ take m (seat_text showing next);
+    rest = drop m (seat_text showing next);
+    part = append_assoc (concat (shown_pieces showing pieces traces)) (take m (seat_text showing next)) (drop m (seat_text showing next))
+        ∙ ap (λ t. concat (shown_pieces showing pieces traces) ++ t) (take-append-drop m (seat_text showing next)) ∙ sym all;
+    last = take m (seat_text showing next);
+    before = ap (λ t. t ++ take m (seat_text showing next)) (sym earlier);
+    grows = omega (arith, some, ap length earlier, ap length all ∙ length-append (concat (shown_pieces showing pieces traces)) (seat_text showing next));
     there = there;
-    stands = stands_with (take m (seat_text telling next)) e;
+    stands = stands_with (take m (seat_text showing next)) e;
   }
     where
       machine_stands : StandsClosed s next.machine
       machine_stands = subst (λ q. StandsClosed q next.machine) last seated.machine
 
-      all : text_of (with_shown_steps telling whole (first_lines n first.lines)) ≡ concat (shown_pieces telling pieces traces) ++ seat_text telling next
-      all = ap (λ e. text_of (shown_ending telling e)) read_all ∙ text_shown telling g after s next pieces traces each keeps shows machine_stands plays
+      all : text_of (with_shown_steps showing whole (first_lines n first.lines)) ≡ concat (shown_pieces showing pieces traces) ++ seat_text showing next
+      all = ap (λ e. text_of (shown_ending showing e)) read_all ∙ text_shown showing g after s next pieces traces each keeps shows machine_stands plays
 
   -- The reading has ended for good, and no more was shown.
   halts : (most : ℕ) → n ≤ most → (halt : Halt) → PlayHalts after halt next pieces traces → new ≡ mid →
-      WalkHalts (with_shown_steps telling whole) most first new halt
+      WalkHalts (with_shown_steps showing whole) most first new halt
   halts most few halt stopped same =
       let e = stopped.1 [] in (
         n,
         few,
-        shown_run telling e.0,
-        same_lines telling e.0 ∙ e.4,
+        shown_run showing e.0,
+        same_lines showing e.0 ∙ e.4,
         record {
-          reading = ap (shown_ending telling) (read_all ∙ e.1) ∙ halts_told telling halt e.0;
+          reading = ap (shown_ending showing) (read_all ∙ e.1) ∙ halts_told showing halt e.0;
           there = there;
           stands = stands_with [] (same ∙ shown_nothing mid)
-              ∙ ap (with_lines_taken first n) (append-nil (concat (shown_pieces telling pieces traces)) ∙ sym (told_is telling e.0 pieces traces e.2 e.3));
+              ∙ ap (with_lines_taken first n) (append-nil (concat (shown_pieces showing pieces traces)) ∙ sym (told_is showing e.0 pieces traces e.2 e.3));
         },
       )
 
-  pub comes_to : (most : ℕ) → n ≤ most → (o : Option PlayEnd) → ShowsStep mid new (seat_text telling next) s o →
-      WalksTo telling g whole most first new next n o
+  pub comes_to : (most : ℕ) → n ≤ most → (o : Option PlayEnd) → ShowsStep mid new (seat_text showing next) s o →
+      WalksTo showing g whole most first new next n o
   comes_to most few None told =
       let at : PlaysTo g after (step.Waits told.0) next pieces traces = subst (λ q. PlaysTo g after q next pieces traces) told.1 plays in
       record {
@@ -222,25 +222,25 @@ module _ {F : Type 0} (telling : ShowSteps) (g : Story) (whole after : EndingOf)
         waits = last ∙ told.1;
         pieces = pieces ++ next.piece ∷ [];
         traces = traces ++ at.0 ∷ [];
-        each = steps_more telling pieces traces next.piece at.0 each;
+        each = steps_more showing pieces traces next.piece at.0 each;
         keeps = keeps;
         goes_on = λ more. whole_after more ∙ at.1.1 more;
         there = there;
-        stands = stands_with (seat_text telling next) told.2
-            ∙ ap (with_lines_taken first n) (sym (pieces_more telling next pieces traces at.0 each keeps at.1.0));
+        stands = stands_with (seat_text showing next) told.2
+            ∙ ap (with_lines_taken first n) (sym (pieces_more showing next pieces traces at.0 each keeps at.1.0));
       }
   comes_to most few (Some end.Ended) told =
       let at : PlaysTo g after step.Ended next pieces traces = subst (λ q. PlaysTo g after q next pieces traces) told.0 plays in
       let r : Run = run_at next (pieces ++ next.piece ∷ []) (traces ++ at.0 ∷ []) [] in (
         n,
         few,
-        shown_run telling r,
-        same_lines telling r,
+        shown_run showing r,
+        same_lines showing r,
         record {
-          reading = ap (shown_ending telling) (read_all ∙ at.1.1 []) ∙ halts_told telling halt.Over r;
+          reading = ap (shown_ending showing) (read_all ∙ at.1.1 []) ∙ halts_told showing halt.Over r;
           there = there;
-          stands = stands_with (seat_text telling next) told.1
-              ∙ ap (with_lines_taken first n) (sym (told_more telling next pieces traces at.0 each keeps at.1.0));
+          stands = stands_with (seat_text showing next) told.1
+              ∙ ap (with_lines_taken first n) (sym (told_more showing next pieces traces at.0 each keeps at.1.0));
         },
       )
   comes_to most few (Some (end.Spent kind)) told =
@@ -252,8 +252,8 @@ module _ {F : Type 0} (telling : ShowSteps) (g : Story) (whole after : EndingOf)
 
 -- ---- one line more ----
 
-module _ {F : Type 0} (telling : ShowSteps) (g : Story) (whole : EndingOf) (n : ℕ) (first now mid : Standing) (seat : PlayerView F) (given line : List ℕ)
-    (w : IsWalking telling g whole first now seat n) (lines : now.lines ≡ line ∷ mid.lines) (cut : given ≡ take 255 line) where
+module _ {F : Type 0} (showing : ShowSteps) (g : Story) (whole : EndingOf) (n : ℕ) (first now mid : Standing) (seat : PlayerView F) (given line : List ℕ)
+    (w : IsWalking showing g whole first now seat n) (lines : now.lines ≡ line ∷ mid.lines) (cut : given ≡ take 255 line) where
   line_stands : drop n first.lines ≡ line ∷ mid.lines
   line_stands = ap (λ (q : Standing). q.lines) (sym w.stands) ∙ lines
 
@@ -271,44 +271,44 @@ module _ {F : Type 0} (telling : ShowSteps) (g : Story) (whole : EndingOf) (n : 
   pub read_after : whole (first_lines (suc n) first.lines) ≡ going_on_from g w.prompt (reverse seat.machine.frames) (run_at seat w.pieces w.traces (given ∷ []))
   read_after = ap whole (sym (append-nil (first_lines (suc n) first.lines))) ∙ whole_after []
 
-pub walks_on : {F : Type 0} (telling : ShowSteps) (g : Story) (whole : EndingOf) (most n : ℕ) (first now mid new : Standing)
+pub walks_on : {F : Type 0} (showing : ShowSteps) (g : Story) (whole : EndingOf) (most n : ℕ) (first now mid new : Standing)
     (seat next : PlayerView F) (given line : List ℕ) (s : Step) (o : Option PlayEnd)
-    (w : IsWalking telling g whole first now seat n) → n < most → KeepsShown telling next.machine.steps.most → IsSeated seat → IsSeated next → next.last ≡ s →
+    (w : IsWalking showing g whole first now seat n) → n < most → KeepsShown showing next.machine.steps.most → IsSeated seat → IsSeated next → next.last ≡ s →
     now.lines ≡ line ∷ mid.lines → given ≡ take 255 line → mid ≡ record now { lines = mid.lines; asked = now.asked + 1 } →
     PlaysTo g (λ more. going_on_from g w.prompt (reverse seat.machine.frames) (run_at seat w.pieces w.traces (given ∷ more))) s next w.pieces w.traces →
-    ShowsStep mid new (seat_text telling next) s o → WalksTo telling g whole most first new next (suc n) o
-walks_on telling g whole most n first now mid new seat next given line s o w few keeps seated then_seated last lines cut took plays told =
-    comes_to telling g whole (λ more. going_on_from g w.prompt (reverse seat.machine.frames) (run_at seat w.pieces w.traces (given ∷ more)))
+    ShowsStep mid new (seat_text showing next) s o → WalksTo showing g whole most first new next (suc n) o
+walks_on showing g whole most n first now mid new seat next given line s o w few keeps seated then_seated last lines cut took plays told =
+    comes_to showing g whole (λ more. going_on_from g w.prompt (reverse seat.machine.frames) (run_at seat w.pieces w.traces (given ∷ more)))
     (suc n) first mid new next s w.pieces w.traces w.each keeps last then_seated
-    (one_more telling g whole n first now mid seat given line w lines cut)
-    (whole_after telling g whole n first now mid seat given line w lines cut)
-    (text_so_far telling g whole n first now seat w seated)
-    (λ part e. stands_after first now mid new n (concat (shown_pieces telling w.pieces w.traces)) part line w.stands lines took e)
+    (one_more showing g whole n first now mid seat given line w lines cut)
+    (whole_after showing g whole n first now mid seat given line w lines cut)
+    (text_so_far showing g whole n first now seat w seated)
+    (λ part e. stands_after first now mid new n (concat (shown_pieces showing w.pieces w.traces)) part line w.stands lines took e)
     plays most (omega (arith, few)) o told
 
-module _ {F : Type 0} (telling : ShowSteps) (g : Story) (whole : EndingOf) (most n : ℕ) (first now new : Standing) (seat : PlayerView F)
-    (w : IsWalking telling g whole first now seat n) (seated : IsSeated seat) where
+module _ {F : Type 0} (showing : ShowSteps) (g : Story) (whole : EndingOf) (most n : ℕ) (first now new : Standing) (seat : PlayerView F)
+    (w : IsWalking showing g whole first now seat n) (seated : IsSeated seat) where
   -- No line is left.
   pub none_left : n < most → (now.lines ≡ []) × (new ≡ now) →
-      (length first.lines < most) × WalkWaits (with_shown_steps telling whole) first new (length first.lines)
+      (length first.lines < most) × WalkWaits (with_shown_steps showing whole) first new (length first.lines)
   none_left few e =
       let all : n ≡ length first.lines = drop_all first.lines n (ap (λ (q : Standing). q.lines) (sym w.stands) ∙ e.0) w.there in
-      let at = waiting telling g whole n first now seat w seated in
+      let at = waiting showing g whole n first now seat w seated in
       (omega (arith, all, few), (at.0, at.1, at.2, rw (← all, e.1) at.3))
 
   -- The lines can't be asked for.
   pub none_asked : n < most → new ≡ now →
-      (m : ℕ) × (m < most) × WalkWaits (with_shown_steps telling whole) first new m
+      (m : ℕ) × (m < most) × WalkWaits (with_shown_steps showing whole) first new m
   none_asked few e =
-      let at = waiting telling g whole n first now seat w seated in
+      let at = waiting showing g whole n first now seat w seated in
       (n, few, (at.0, at.1, at.2, rw e at.3))
 
 -- All the lines that a session may have were taken.
-pub long_walk : {F : Type 0} (telling : ShowSteps) (g : Story) (whole : EndingOf) (most n : ℕ) (first now : Standing) (seat : PlayerView F) →
-    IsWalking telling g whole first now seat n → IsSeated seat → n ≡ most →
-    (EVENT_LIMIT ≡ EVENT_LIMIT) × WalkWaits (with_shown_steps telling whole) first now most
-long_walk telling g whole most n first now seat w seated all =
-    let at = waiting telling g whole n first now seat w seated in
+pub long_walk : {F : Type 0} (showing : ShowSteps) (g : Story) (whole : EndingOf) (most n : ℕ) (first now : Standing) (seat : PlayerView F) →
+    IsWalking showing g whole first now seat n → IsSeated seat → n ≡ most →
+    (EVENT_LIMIT ≡ EVENT_LIMIT) × WalkWaits (with_shown_steps showing whole) first now most
+long_walk showing g whole most n first now seat w seated all =
+    let at = waiting showing g whole n first now seat w seated in
     (refl, (at.0, at.1, at.2, rw (← all) at.3))
 
 -- ---- the first piece ----
@@ -317,19 +317,19 @@ pub first_stands : (old new : Standing) (part : List ℕ) → new ≡ record old
 first_stands old new part e = let a : old.asked + 0 ≡ old.asked = omega arith in e ∙ rw a refl
 
 -- After piece 0 the walk is at the first prompt, or has ended this way.
-pub walk_begins : {F : Type 0} (telling : ShowSteps) (g : Story) (whole : EndingOf) (most : ℕ) (old new : Standing) (seat : PlayerView F) (s : Step)
-    (o : Option PlayEnd) → KeepsShown telling seat.machine.steps.most → IsSeated seat → seat.last ≡ s →
-    PlaysTo g whole s seat [] [] → ShowsStep old new (seat_text telling seat) s o → WalksTo telling g whole most old new seat 0 o
-walk_begins telling g whole most old new seat s o keeps seated last plays told =
-    comes_to telling g whole whole 0 old old new seat s [] [] (steps_none telling) keeps last seated (omega arith) (λ more. refl) (sym (told_none telling))
-    (λ part e. first_stands old new part e ∙ ap (λ t. with_lines_taken old 0 (t ++ part)) (sym (told_none telling)))
+pub walk_begins : {F : Type 0} (showing : ShowSteps) (g : Story) (whole : EndingOf) (most : ℕ) (old new : Standing) (seat : PlayerView F) (s : Step)
+    (o : Option PlayEnd) → KeepsShown showing seat.machine.steps.most → IsSeated seat → seat.last ≡ s →
+    PlaysTo g whole s seat [] [] → ShowsStep old new (seat_text showing seat) s o → WalksTo showing g whole most old new seat 0 o
+walk_begins showing g whole most old new seat s o keeps seated last plays told =
+    comes_to showing g whole whole 0 old old new seat s [] [] (steps_none showing) keeps last seated (omega arith) (λ more. refl) (sym (told_none showing))
+    (λ part e. first_stands old new part e ∙ ap (λ t. with_lines_taken old 0 (t ++ part)) (sym (told_none showing)))
     plays most (omega arith) o told
 
 -- A player that was new has played piece 0.
-pub walk_starts : {F : Type 0} (telling : ShowSteps) (g : Story) (seed most : ℕ) (old new : Standing) (fresh seat : PlayerView F) (s : Step)
-    (o : Option PlayEnd) → IsNew fresh seed → KeepsShown telling seat.machine.steps.most → IsSeated seat → seat.last ≡ s →
-    PlaysTo g (reading g fresh.world.seed) s seat [] [] → ShowsStep old new (seat_text telling seat) s o →
-    WalksTo telling g (reading g seed) most old new seat 0 o
-walk_starts telling g seed most old new fresh seat s o is keeps seated last plays told =
+pub walk_starts : {F : Type 0} (showing : ShowSteps) (g : Story) (seed most : ℕ) (old new : Standing) (fresh seat : PlayerView F) (s : Step)
+    (o : Option PlayEnd) → IsNew fresh seed → KeepsShown showing seat.machine.steps.most → IsSeated seat → seat.last ≡ s →
+    PlaysTo g (reading g fresh.world.seed) s seat [] [] → ShowsStep old new (seat_text showing seat) s o →
+    WalksTo showing g (reading g seed) most old new seat 0 o
+walk_starts showing g seed most old new fresh seat s o is keeps seated last plays told =
     let at : fresh.world.seed ≡ seed = ap (λ (w : World). w.seed) is.world in
-    walk_begins telling g (reading g seed) most old new seat s o keeps seated last (subst (λ n. PlaysTo g (reading g n) s seat [] []) at plays) told
+    walk_begins showing g (reading g seed) most old new seat s o keeps seated last (subst (λ n. PlaysTo g (reading g n) s seat [] []) at plays) told

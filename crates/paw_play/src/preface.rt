@@ -16,7 +16,7 @@ pub trait Preface: Drop {
     ghost use Rattle.paw_play.specs.inner.ShowSteps.{ShowSteps, KeepsShown, preface};
 
     /// Whether the pieces are shown as they are or traced.
-    ghost telling: { ShowSteps };
+    ghost showing: { ShowSteps };
 
     /// Takes the memory that it needs.
     ///
@@ -37,13 +37,13 @@ pub trait Preface: Drop {
         ensures game { IfOk result (λ p. p.game ≡ T.game tables.now) }
         ensures routines { IfOk result (λ p. p.routines ≡ routines.now) }
         ensures new { IfOk result (λ p. IsNew p seed) }
-        ensures keeps { IfOk result (λ p. KeepsShown telling p.machine.steps.most) }
+        ensures keeps { IfOk result (λ p. KeepsShown showing p.machine.steps.most) }
         ensures last { IfOk result (λ p. p.last ≡ step.Waits prompt.Main) }
         ensures seated { IfOk result IsSeated };
 
     /// The text before a piece for which these steps were read.
     fn text(&mut self, steps: &Steps) -> &[u8]
-        ensures text { result.now ≡ preface telling steps.now };
+        ensures text { result.now ≡ preface showing steps.now };
 }
 
 /// The preface of a plain walk: nothing is shown before a piece.
@@ -53,7 +53,7 @@ pub struct Nothing;
 impl Preface for Nothing {
     ghost use Rattle.paw_play.specs.inner.ShowSteps.{Plain};
 
-    ghost telling = { Plain };
+    ghost showing = { Plain };
 
     fn new(_alloc: Global) -> Result<Nothing, NoRoom> {
         Ok(Nothing)

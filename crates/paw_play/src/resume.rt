@@ -74,8 +74,7 @@ fn player_of<'a, T: Tables, F: Fn(u8, u8) -> u8>(
     routines: &'a Routines<F>,
     restored: Restored,
 ) -> Result<Player<'a, T, F>, NoRoom>
-    requires fits {
-        Fits (T.game tables.now) restored.world restored.machine restored.pending restored.prompt }
+    requires fits { Fits (T.game tables.now) restored.world restored.machine restored.pending restored.prompt }
     ensures value { IfOk result (λ p. p ≡ seat_at (T.game tables.now) routines.now
         restored.world (only_counting restored.machine) restored.pending restored.prompt) }
     ensures seated { IfOk result IsSeated }

@@ -121,7 +121,7 @@ pub struct StepLines {
 impl Preface for StepLines {
     ghost use Rattle.paw_play.specs.inner.ShowSteps.{Stepped};
 
-    ghost telling = { Stepped };
+    ghost showing = { Stepped };
 
     fn new(alloc: Global) -> Result<StepLines, NoRoom> {
         let text = Piece::new(alloc)?;

@@ -48,12 +48,12 @@ fn show_last<P: Preface, S: Stage, T: Tables, F: Fn(u8, u8) -> u8>(
     player: &Player<'_, T, F>,
 ) -> Result<(), Failed>
     ensures serves { FailsOnlyBy S.Stage (call.Show ∷ []) (failed_in call.Show result) stage.old stage.new }
-    ensures some { IsErr result → 0 < length (seat_text P.telling player.now) }
+    ensures some { IsErr result → 0 < length (seat_text P.showing player.now) }
     ensures shown { OnSuccess S.Stage stage.old stage.new result (λ old new.
-        new ≡ with_shown (seat_text P.telling player.now) old) }
+        new ≡ with_shown (seat_text P.showing player.now) old) }
     ensures part { IfTelling S.Stage stage.old stage.new (λ old new.
-        OnErr result (InShow old (seat_text P.telling player.now) new)) }
-    ensures time { AtEachMoment S.Stage stage.old stage.new (λ s. InShow s (seat_text P.telling player.now)) }
+        OnErr result (InShow old (seat_text P.showing player.now) new)) }
+    ensures time { AtEachMoment S.Stage stage.old stage.new (λ s. InShow s (seat_text P.showing player.now)) }
 {
     match show(stage, preface.text(player.steps())) {
         Ok(()) => show(stage, player.piece()),
@@ -72,8 +72,8 @@ pub(crate) fn show_step<P: Preface, S: Stage, T: Tables, F: Fn(u8, u8) -> u8>(
     ensures serves { FailsOnlyBy S.Stage walk_calls (failed_so_far result) stage.old stage.new }
     ensures refused { IfSome result IsNotForCall }
     ensures meaning { IfTelling S.Stage stage.old stage.new (λ old new.
-        ShowsStep old new (seat_text P.telling player.now) step result) }
-    ensures time { AtEachMoment S.Stage stage.old stage.new (λ s. InShow s (seat_text P.telling player.now)) }
+        ShowsStep old new (seat_text P.showing player.now) step result) }
+    ensures time { AtEachMoment S.Stage stage.old stage.new (λ s. InShow s (seat_text P.showing player.now)) }
 {
     if let Some(end) = end_without_piece(step) {
         return Some(end);
@@ -102,8 +102,8 @@ fn walk_line<P: Preface, S: Stage, T: Tables, F: Fn(u8, u8) -> u8>(
     ensures refused { IfSome result IsNotForCall }
     ensures meaning { IfTelling S.Stage stage.old stage.new (λ old new.
         EachStory F.Fn player.old.routines player.old.game (λ g. (whole : EndingOf) (most n : ℕ) (first : Standing) →
-        IsWalking P.telling g whole first old player.old n → n < most →
-        WalksTo P.telling g whole most first new player.new (suc n) result)) }
+        IsWalking P.showing g whole first old player.old n → n < most →
+        WalksTo P.showing g whole most first new player.new (suc n) result)) }
 {
     let mut line = [0u8; LINE_LIMIT];
     match stage.ask(&mut line) {
@@ -129,8 +129,8 @@ fn walk_lines<P: Preface, S: Stage, T: Tables, F: Fn(u8, u8) -> u8>(
     ensures refused { IsNotForCall result }
     ensures meaning { IfTelling S.Stage stage.old stage.new (λ old new.
         EachStory F.Fn player.old.routines player.old.game (λ g. (whole : EndingOf) (first : Standing) →
-        IsWalking P.telling g whole first old player.old 0 →
-        Walks (with_shown_steps P.telling whole) EVENT_LIMIT first new result)) }
+        IsWalking P.showing g whole first old player.old 0 →
+        Walks (with_shown_steps P.showing whole) EVENT_LIMIT first new result)) }
 {
     for _ in 0..EVENT_LIMIT {
         if let Some(end) = walk_line(preface, stage, player) {
@@ -155,7 +155,7 @@ pub fn walk_loop<P: Preface, S: Stage, T: Tables, F: Fn(u8, u8) -> u8>(
     ensures serves { FailsOnlyBy S.Stage walk_calls (call_of_end result) stage.old stage.new }
     ensures refused { IsNotForCall result }
     ensures walks { IfTelling S.Stage stage.old stage.new (λ old new. EachStory F.Fn routines.now (T.game tables.now)
-        (λ g. Walks (with_shown_steps P.telling (reading g seed)) EVENT_LIMIT old new result)) }
+        (λ g. Walks (with_shown_steps P.showing (reading g seed)) EVENT_LIMIT old new result)) }
 {
     let Ok(mut preface) = P::new(alloc) else {
         return PlayEnd::Memory;

@@ -45,7 +45,7 @@ pub(crate) fn walk<P: Preface, S: Stage, F: Fn(u8, u8) -> u8>(
     ensures serves { FailsOnlyBy S.Stage (load_calls ++ walk_calls) (failed_call result) stage.old stage.new }
     ensures walks { IfTelling S.Stage stage.old stage.new (λ old new. (X : RoutineAnswers) →
         AreAnswersOf F.Fn routines.now X →
-        WalksAs (λ s n. with_shown_steps P.telling (reading s n)) X image.now seed old new result) }
+        WalksAs (λ s n. with_shown_steps P.showing (reading s n)) X image.now seed old new result) }
     ensures form { result ≢ outcome.Usage }
     ensures memory { IfMemory result (IsOneOf (memory.Play ∷ load_memory)) }
 {

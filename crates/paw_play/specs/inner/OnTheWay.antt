@@ -56,20 +56,20 @@ seat_base events p = seat_state events p ++ zeros (base_length - state_length)
 
 -- The walk is at a prompt: n lines were taken, these pieces were shown, with their prefaces, and whatever lines come,
 -- the reading of all goes on from the player.
-pub record IsWalking {F : Type 0} (telling : ShowSteps) (g : Story) (whole : EndingOf) (old now : Standing)
+pub record IsWalking {F : Type 0} (showing : ShowSteps) (g : Story) (whole : EndingOf) (old now : Standing)
     (seat : PlayerView F)
     (n : ℕ) : Type 0 where
   pub prompt : Prompt
   pub waits : seat.last ≡ step.Waits prompt
   pub pieces : Texts
   pub traces : List (List Read)
-  pub each : HaveSteps telling pieces traces
-  pub keeps : KeepsShown telling seat.machine.steps.most
+  pub each : HaveSteps showing pieces traces
+  pub keeps : KeepsShown showing seat.machine.steps.most
   pub goes_on : (more : Lines) →
       whole (first_lines n old.lines ++ more)
       ≡ going_on_from g prompt (reverse seat.machine.frames) (run_at seat pieces traces more)
   pub there : n ≤ length old.lines
-  pub stands : now ≡ with_lines_taken old n (concat (shown_pieces telling pieces traces))
+  pub stands : now ≡ with_lines_taken old n (concat (shown_pieces showing pieces traces))
 
 -- The end of playing that a halt is.
 abbrev pub end_of_halt : Halt → PlayEnd
@@ -94,8 +94,8 @@ ShowsStep old new piece s (Some o) = MatchOption (end_halt o) ⊥ (λ halt. (ste
 -- After n lines the walk is at a prompt, or has ended this way.
 abbrev pub WalksTo : {F : Type 0} → ShowSteps → Story → EndingOf → ℕ → Standing → Standing → PlayerView F → ℕ →
     Option PlayEnd → Type 0
-WalksTo telling g whole most first now seat n None = IsWalking telling g whole first now seat n
-WalksTo telling g whole most first now seat n (Some o) = Walks (with_shown_steps telling whole) most first now o
+WalksTo showing g whole most first now seat n None = IsWalking showing g whole first now seat n
+WalksTo showing g whole most first now seat n (Some o) = Walks (with_shown_steps showing whole) most first now o
 
 -- ---- a session ----
 

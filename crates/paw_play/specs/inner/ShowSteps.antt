@@ -30,7 +30,7 @@ KeepsShown Stepped most = most ≡ STEP_LIMIT
 
 -- What is shown for a player's last piece.
 abbrev pub seat_text : {F : Type 0} → ShowSteps → PlayerView F → Text
-seat_text telling p = preface telling p.machine.steps ++ p.piece
+seat_text showing p = preface showing p.machine.steps ++ p.piece
 
 -- Closed pieces with their steps, as they are shown.
 abbrev pub shown_pieces : ShowSteps → Texts → List (List Read) → Texts
@@ -54,4 +54,4 @@ shown_ending Stepped e = traced_ending e
 
 -- The reading, with its pieces shown this way.
 abbrev pub with_shown_steps : ShowSteps → EndingOf → EndingOf
-with_shown_steps telling whole lines = shown_ending telling (whole lines)
+with_shown_steps showing whole lines = shown_ending showing (whole lines)

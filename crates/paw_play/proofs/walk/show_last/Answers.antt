@@ -19,21 +19,21 @@ of_err (Err e) f h = f h
 
 pub returns-in-Err-clause-some : goal.returns-in-Err-clause-some
 returns-in-Err-clause-some g c = λ h.
-    let before : List ℕ = preface g.P.Preface.telling c.args.player.now.machine.steps in
-    let is : c.text.result.now ≡ before = c.text.ensures.text ∙ ap (preface g.P.Preface.telling) c.steps.ensures.value in
+    let before : List ℕ = preface g.P.Preface.showing c.args.player.now.machine.steps in
+    let is : c.text.result.now ≡ before = c.text.ensures.text ∙ ap (preface g.P.Preface.showing) c.steps.ensures.value in
     let some : 0 < length before = subst (λ t. 0 < length t) is (c.in-Err.ensures.some refl) in
     omega (arith, some, length-append before c.args.player.now.piece)
 
 pub returns-in-Err-clause-part : goal.returns-in-Err-clause-part
 returns-in-Err-clause-part g c = λ tells.
-    let is = c.text.ensures.text ∙ ap (preface g.P.Preface.telling) c.steps.ensures.value in
+    let is = c.text.ensures.text ∙ ap (preface g.P.Preface.showing) c.steps.ensures.value in
     part_before (g.S.Stage.standing c.args.stage.now) _ c.args.player.now.piece (g.S.Stage.standing c.show.new.stage)
     (subst (λ t. InShow (g.S.Stage.standing c.args.stage.now) t (g.S.Stage.standing c.show.new.stage)) is (c.in-Err.ensures.part tells))
 
 pub returns-in-Err-clause-time : goal.returns-in-Err-clause-time
 returns-in-Err-clause-time g c = λ tells.
-    let before : List ℕ = preface g.P.Preface.telling c.args.player.now.machine.steps in
-    let is : c.text.result.now ≡ before = c.text.ensures.text ∙ ap (preface g.P.Preface.telling) c.steps.ensures.value in
+    let before : List ℕ = preface g.P.Preface.showing c.args.player.now.machine.steps in
+    let is : c.text.result.now ≡ before = c.text.ensures.text ∙ ap (preface g.P.Preface.showing) c.steps.ensures.value in
     let old : Standing = g.S.Stage.standing c.args.stage.now in
     Passes_map _ _ _ _ _ (InShow old (before ++ c.args.player.now.piece)) (c.in-Err.ensures.time tells)
     (λ m i. part_before old before c.args.player.now.piece m (subst (λ t. InShow old t m) is i))
@@ -49,11 +49,11 @@ pub returns-in-Ok-clause-some : goal.returns-in-Ok-clause-some
 returns-in-Ok-clause-some g c = λ h.
     let piece : List ℕ = c.args.player.now.piece in
     let some : 0 < length piece = subst (λ t. 0 < length t) c.piece.ensures.value (c.show-in-Ok.ensures.some h) in
-    omega (arith, some, length-append (preface g.P.Preface.telling c.args.player.now.machine.steps) piece)
+    omega (arith, some, length-append (preface g.P.Preface.showing c.args.player.now.machine.steps) piece)
 
 pub returns-in-Ok-clause-shown : goal.returns-in-Ok-clause-shown
 returns-in-Ok-clause-shown g c = λ tells.
-    let is = c.text.ensures.text ∙ ap (preface g.P.Preface.telling) c.steps.ensures.value in
+    let is = c.text.ensures.text ∙ ap (preface g.P.Preface.showing) c.steps.ensures.value in
     let mid : Standing = g.S.Stage.standing c.show.new.stage in
     let e = c.in-Ok.ensures.shown tells ∙ ap (λ t. with_shown t (g.S.Stage.standing c.args.stage.now)) is in
     of_ok c.show-in-Ok.result
@@ -62,7 +62,7 @@ returns-in-Ok-clause-shown g c = λ tells.
 
 pub returns-in-Ok-clause-part : goal.returns-in-Ok-clause-part
 returns-in-Ok-clause-part g c = λ tells.
-    let is = c.text.ensures.text ∙ ap (preface g.P.Preface.telling) c.steps.ensures.value in
+    let is = c.text.ensures.text ∙ ap (preface g.P.Preface.showing) c.steps.ensures.value in
     let mid : Standing = g.S.Stage.standing c.show.new.stage in
     let new : Standing = g.S.Stage.standing c.show-in-Ok.new.stage in
     let e = c.in-Ok.ensures.shown tells ∙ ap (λ t. with_shown t (g.S.Stage.standing c.args.stage.now)) is in
@@ -72,8 +72,8 @@ returns-in-Ok-clause-part g c = λ tells.
 
 pub returns-in-Ok-clause-time : goal.returns-in-Ok-clause-time
 returns-in-Ok-clause-time g c = λ tells.
-    let before : List ℕ = preface g.P.Preface.telling c.args.player.now.machine.steps in
-    let is : c.text.result.now ≡ before = c.text.ensures.text ∙ ap (preface g.P.Preface.telling) c.steps.ensures.value in
+    let before : List ℕ = preface g.P.Preface.showing c.args.player.now.machine.steps in
+    let is : c.text.result.now ≡ before = c.text.ensures.text ∙ ap (preface g.P.Preface.showing) c.steps.ensures.value in
     let piece : List ℕ = c.args.player.now.piece in
     let old : Standing = g.S.Stage.standing c.args.stage.now in
     let mid : Standing = g.S.Stage.standing c.show.new.stage in

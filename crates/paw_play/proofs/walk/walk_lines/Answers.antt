@@ -29,15 +29,15 @@ loop-preserved g c =
           let on = c.in_default.ensures.meaning (c.loop.invariant.serves.tells.0 tells) X (rw c.loop.invariant.routines answers) whole
           EVENT_LIMIT c.loop.counter first w few in
           let n : suc c.loop.counter ≡ c.loop.counter + 1 = omega arith in
-          subst (λ k. IsWalking g.P.Preface.telling (story_of k X) whole first after_walk_line c.walk_line.new.player (c.loop.counter + 1))
+          subst (λ k. IsWalking g.P.Preface.showing (story_of k X) whole first after_walk_line c.walk_line.new.player (c.loop.counter + 1))
           (sym c.walk_line.ensures.player.game)
-          (subst (λ k. IsWalking g.P.Preface.telling (story_of c.loop.player.game X) whole first after_walk_line c.walk_line.new.player k) n on);
+          (subst (λ k. IsWalking g.P.Preface.showing (story_of c.loop.player.game X) whole first after_walk_line c.walk_line.new.player k) n on);
     }
 
 pub returns-clause-meaning : goal.returns-clause-meaning
 returns-clause-meaning g c = λ tells X answers whole first start.
     let all : c.loop.counter ≡ EVENT_LIMIT = omega (arith, c.loop-test.false, c.loop.auto.counter-end) in
-    long_walk g.P.Preface.telling (story_of c.loop.player.game X) whole EVENT_LIMIT c.loop.counter first (g.S.Stage.standing c.loop.stage) c.loop.player
+    long_walk g.P.Preface.showing (story_of c.loop.player.game X) whole EVENT_LIMIT c.loop.counter first (g.S.Stage.standing c.loop.stage) c.loop.player
     (c.loop.invariant.walking tells X answers whole first start) c.loop.invariant.seated all
 
 pub returns-in-Some-clause-serves : goal.returns-in-Some-clause-serves

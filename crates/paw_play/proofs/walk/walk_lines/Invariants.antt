@@ -20,6 +20,6 @@ invariant-loop g l = record {
   routines : l.player.routines ≡ l.fn.player.routines;
   answers : HaveAnswers g.F.Fn l.player.routines;
   walking : g.S.Stage.Tells l.fn.stage → (X : List (List ℕ)) → AreAnswersOf g.F.Fn l.fn.player.routines X → (whole : EndingOf) (first : Standing) →
-      IsWalking g.P.Preface.telling (story_of l.fn.player.game X) whole first (g.S.Stage.standing l.fn.stage) l.fn.player 0 →
-      IsWalking g.P.Preface.telling (story_of l.player.game X) whole first (g.S.Stage.standing l.stage) l.player l.counter;
+      IsWalking g.P.Preface.showing (story_of l.fn.player.game X) whole first (g.S.Stage.standing l.fn.stage) l.fn.player 0 →
+      IsWalking g.P.Preface.showing (story_of l.player.game X) whole first (g.S.Stage.standing l.stage) l.player l.counter;
 }

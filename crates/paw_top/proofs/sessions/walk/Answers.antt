@@ -28,7 +28,7 @@ returns-clause-walks g c = λ tells X answers.
     let game = game_read c.in-Ok-view_in.given in
     rw c.outcome_of.ensures.value
     (plays game c.walk_loop.result (holds_loaded c.args.image.now _ _ _ _ game c.as_slice.ensures.value f c.in-Ok-view_in.ensures.found)
-    (subst (λ s. Walks (with_shown_steps g.P.Preface.telling (reading (story_of game X) c.args.seed)) EVENT_LIMIT s new c.walk_loop.result) f.3
+    (subst (λ s. Walks (with_shown_steps g.P.Preface.showing (reading (story_of game X) c.args.seed)) EVENT_LIMIT s new c.walk_loop.result) f.3
     (c.walk_loop.ensures.walks (c.load.ensures.serves.tells.0 tells) X answers)))
 
 pub returns-in-Err-clause-serves : goal.returns-in-Err-clause-serves
