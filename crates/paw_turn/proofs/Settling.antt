@@ -26,7 +26,7 @@ use Rattle.paw_turn.specs.declared.turn.PlayState.{PlayState}
 use Rattle.paw_turn.proofs.Falling.{none_yet}
 use Rattle.paw_turn.specs.inner.Player.{step_of, PlayerView, PlaysTo, PlayHalts, IsNew, run_at}
 use Rattle.paw_turn.specs.inner.Phases.{Past, run_from, run_now, having_read, TurnHalts, StopsAs, PlaysAs}
-use Rattle.paw_turn.specs.inner.Phases.{Plays, from_phase, from_prompt, seat_of, turn_settled, opened_piece}
+use Rattle.paw_turn.specs.inner.Phases.{Plays, from_phase, from_prompt, seat_of, state_settled, opened_piece}
 
 -- An ending that comes once is the whole's.
 abbrev Once : (ℕ → List (List ℕ) → Ending) → (List (List ℕ) → Ending) → Type 0
@@ -49,7 +49,7 @@ halts whole total once halt p new past none stops = (
 settles : {F : Type 0} (g : Story) (routines : Routines F) (whole : ℕ → List (List ℕ) → Ending) (total : List (List ℕ) → Ending) → Once whole total
     → (s : TurnStop) (last : Step) (new : PlayState) (past : Past) → HasRead past.read new.machine
     → ((n : ℕ) (lines : List (List ℕ)) → (m : ℕ) × StopsAs g n s new.machine.frames (run_now new past lines) (whole m lines))
-    → PlaysTo g total (step_of s) (seat_of g.game routines (turn_settled (step_of s) new) last) past.pieces past.traces
+    → PlaysTo g total (step_of s) (seat_of g.game routines (state_settled (step_of s) new) last) past.pieces past.traces
 settles g routines whole total once (stop.Waits p) last new past has stops = (
   past.read,
   (
@@ -71,9 +71,9 @@ settles g routines whole total once (stop.Halted halt.Over) last new past has st
   ),
 )
 settles g routines whole total once (stop.Halted (halt.Spent kind)) last new past has stops =
-    halts whole total once (halt.Spent kind) (seat_of g.game routines (turn_settled (step.Spent kind) new) last) new past refl stops
+    halts whole total once (halt.Spent kind) (seat_of g.game routines (state_settled (step.Spent kind) new) last) new past refl stops
 settles g routines whole total once (stop.Halted (halt.TooDeep u)) last new past has stops =
-    halts whole total once (halt.TooDeep u) (seat_of g.game routines (turn_settled (step.TooDeep u) new) last) new past refl stops
+    halts whole total once (halt.TooDeep u) (seat_of g.game routines (state_settled (step.TooDeep u) new) last) new past refl stops
 
 -- The past of a player with these pieces, at the start of a piece.
 abbrev before : List (List ℕ) → List (List Read) → Past
@@ -83,7 +83,7 @@ before pieces traces = record { read = []; pieces = pieces; traces = traces }
 pub start_plays : {F : Type 0} (g : Story) (routines : Routines F) (old new : PlayState) (s : TurnStop) (last : Step)
     → Plays g phase.Describe old (next.Stop s) new
     → IsNew (seat_of g.game routines old last) old.surroundings.world.seed
-    → PlaysTo g (reading g old.surroundings.world.seed) (step_of s) (seat_of g.game routines (turn_settled (step_of s) new) (step_of s)) [] []
+    → PlaysTo g (reading g old.surroundings.world.seed) (step_of s) (seat_of g.game routines (state_settled (step_of s) new) (step_of s)) [] []
 start_plays g routines old new s last plays fresh =
     let bytes = ap (λ (q : PendingLine). q.bytes) fresh.pending in
     let earlier = ap (λ (q : PendingLine). q.earlier) fresh.pending in
@@ -108,7 +108,7 @@ pub take_plays : {F : Type 0} (g : Story) (routines : Routines F) (p : Prompt) (
     → PlaysAs g (from_prompt g p (opened_piece old) line) (opened_piece old) (next.Stop s) new
     → let seat = seat_of g.game routines old (step.Waits p) in
     PlaysTo g (λ lines. going_on_from g p (reverse old.machine.frames) (run_at seat pieces traces (line ∷ lines))) (step_of s)
-    (seat_of g.game routines (turn_settled (step_of s) new) (step_of s)) pieces traces
+    (seat_of g.game routines (state_settled (step_of s) new) (step_of s)) pieces traces
 take_plays g routines p old new line s pieces traces plays =
     let t = plays (before pieces traces) (record { left = refl; steps = kept_none old.machine.steps.most }) in
     let seat = seat_of g.game routines old (step.Waits p) in

@@ -28,7 +28,7 @@ use Rattle.paw_process.specs.inner.OpenTables.{IsClosed}
 use Rattle.paw_turn.specs.declared.Step.{Step}
 use Rattle.paw_turn.specs.declared.Step.TheVariants as step
 use Rattle.paw_turn.specs.declared.turn.PlayState.{PlayState}
-use Rattle.paw_turn.specs.inner.Phases.{seat_of, turn_settled}
+use Rattle.paw_turn.specs.inner.Phases.{seat_of, state_settled}
 use Rattle.paw_turn.specs.inner.Player.{PlayerView, PlaysTo, StandsClosed, StandsAt, WaitsIn, StandRightly, IsSeated}
 use Rattle.paw_turn.specs.inner.Player.{IsStanding, prompt_at, run_at, run_with}
 
@@ -121,7 +121,7 @@ taken_on g old new line q s v game seated waits is stands plays =
 -- ---- a player that is seated still ----
 
 -- It is where it stands rightly in a game that is its own.
-seated_so : {F : Type 0} (g own : GameLists) (routines : Routines F) (mid h : PlayState) (s : Step) → own ≡ g → Valid g → h ≡ turn_settled s mid
+seated_so : {F : Type 0} (g own : GameLists) (routines : Routines F) (mid h : PlayState) (s : Step) → own ≡ g → Valid g → h ≡ state_settled s mid
     → StandsClosed s mid.machine
     → (StandsClosed s h.machine → IsStanding s → StandRightly g (prompt_at s) h.surroundings.world h.machine h.surroundings.pending)
     → IsSeated (seat_of own routines h s)
@@ -131,7 +131,7 @@ seated_so g own routines mid h s game valid settled stopped rightly =
 
 pub start_seated : {F : Type 0} (calls : Shared F (ℕ × (ℕ × Unit {0})) ℕ) (routines : Routines F) (old : PlayerView F) (own : GameLists) (mid h : PlayState)
     (s : Step)
-    (X : List (List ℕ)) → AreAnswersOf calls old.routines X → IsSeated old → own ≡ old.game → h ≡ turn_settled s mid → StandsClosed s mid.machine
+    (X : List (List ℕ)) → AreAnswersOf calls old.routines X → IsSeated old → own ≡ old.game → h ≡ state_settled s mid → StandsClosed s mid.machine
     → PlaysTo (story_of old.game X) (reading (story_of old.game X) old.world.seed) s (seat_of own routines h s) [] []
     → IsSeated (seat_of own routines h s)
 start_seated calls routines old own mid h s X answers seated game settled stopped plays =
@@ -141,7 +141,7 @@ start_seated calls routines old own mid h s X answers seated game settled stoppe
 
 pub take_seated : {F : Type 0} (calls : Shared F (ℕ × (ℕ × Unit {0})) ℕ) (routines : Routines F) (old : PlayerView F) (own : GameLists) (mid h : PlayState)
     (s : Step)
-    (X : List (List ℕ)) (q : Prompt) (line : List ℕ) → AreAnswersOf calls old.routines X → IsSeated old → own ≡ old.game → h ≡ turn_settled s mid
+    (X : List (List ℕ)) (q : Prompt) (line : List ℕ) → AreAnswersOf calls old.routines X → IsSeated old → own ≡ old.game → h ≡ state_settled s mid
     → StandsClosed s mid.machine → old.last ≡ step.Waits q → IsLine line
     → PlaysTo (story_of old.game X) (λ lines. going_on_from (story_of old.game X) q (reverse old.machine.frames) (run_at old [] [] (line ∷ lines))) s
     (seat_of own routines h s) [] []

@@ -1,4 +1,4 @@
-// A turn in work, and its phases.
+// The state of play within a turn, and the phases.
 
 ghost use Rattle.std.specs.Prelude.{◌≡◌, suc, ◌+◌, ◌*◌, ◌<◌, ◌≤◌, ℕ, [], length, None};
 ghost use Rattle.std.specs.Prelude.{false};
@@ -20,7 +20,7 @@ ghost use Rattle.paw_process.specs.inner.Meaning.{InStories};
 ghost use Rattle.paw_turn.specs.declared.phase.Phase.TheVariants as phase;
 ghost use Rattle.paw_turn.specs.declared.phase.Next.TheVariants as next;
 ghost use Rattle.paw_turn.specs.inner.Player.{step_of};
-ghost use Rattle.paw_turn.specs.inner.Phases.{at_phase, turn_settled, opened_piece, Moves};
+ghost use Rattle.paw_turn.specs.inner.Phases.{at_phase, state_settled, opened_piece, Moves};
 ghost use Rattle.paw_turn.specs.inner.Phases.{ReadsTurn, Plays, MovesAfter};
 ghost use Rattle.paw_turn.specs.inner.Phases.{IsPlayable, MayGoOn, MayReadTables, Stays, StaysInGame};
 ghost use Rattle.paw_turn.specs.inner.Phases.{StopsInTable};
@@ -80,7 +80,7 @@ pub(crate) fn or_spent(shown: bool, next: Next) -> Next
 }
 
 impl PlayState {
-    /// A turn at the start of a game, with this piece.
+    /// The state of play at the start of a game, with this piece.
     pub(crate) fn new<T: Tables>(tables: &T, seed: u64, piece: Piece) -> PlayState
         ensures valid { Valid (T.game tables.now) }
         ensures world { result.surroundings.world ≡ opening_world (T.game tables.now) seed }
@@ -149,7 +149,7 @@ impl PlayState {
 
     /// Takes the text out of a piece of which nothing is to be shown.
     pub(crate) fn settle(&mut self, stop: TurnStop)
-        ensures value { self.new ≡ turn_settled (step_of stop) self.old }
+        ensures value { self.new ≡ state_settled (step_of stop) self.old }
     {
         match stop {
             TurnStop::Waits(_) | TurnStop::Halted(Halt::Over) => {}

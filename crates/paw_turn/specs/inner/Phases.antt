@@ -62,7 +62,7 @@ run_from w bytes earlier turning text past lines = record {
   events = lines;
 }
 
--- The run that shows what stands in a turn, with this past and these lines to come.
+-- The run that shows what stands in this state of play, with this past and these lines to come.
 abbrev pub run_now : PlayState → Past → Lines → Run
 run_now h past lines =
     let s = h.surroundings in
@@ -311,15 +311,15 @@ seat_of g routines h last = record {
   last = last;
 }
 
--- The turn with this world.
+-- The state of play with this world.
 abbrev pub in_world : World → PlayState → PlayState
 in_world w h = record h { surroundings = record h.surroundings { world = w } }
 
--- The turn with this world and this pending line.
+-- The state of play with this world and this pending line.
 abbrev pub with_world_and_line : World → PendingLine → PlayState → PlayState
 with_world_and_line w p h = record h { surroundings = record h.surroundings { world = w; pending = p } }
 
--- The turn with this piece.
+-- The state of play with this piece.
 abbrev pub with_piece : Text → PlayState → PlayState
 with_piece piece h = record h { surroundings = record h.surroundings { piece = piece } }
 
@@ -327,10 +327,10 @@ with_piece piece h = record h { surroundings = record h.surroundings { piece = p
 abbrev pub piece_shown : Step → Text → Text
 piece_shown s piece = if brings_piece s then piece else []
 
--- The turn with the piece that is shown after this end of a line.
-abbrev pub turn_settled : Step → PlayState → PlayState
-turn_settled step h = with_piece (piece_shown step h.surroundings.piece) h
+-- The state of play with the piece that is shown after this end of a line.
+abbrev pub state_settled : Step → PlayState → PlayState
+state_settled step h = with_piece (piece_shown step h.surroundings.piece) h
 
--- The turn with a new piece to be read.
+-- The state of play with a new piece to be read.
 abbrev pub opened_piece : PlayState → PlayState
 opened_piece h = record h { surroundings = record h.surroundings { piece = [] }; machine = budget_refilled h.machine }

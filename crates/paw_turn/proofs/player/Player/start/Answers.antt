@@ -4,7 +4,7 @@ use Rattle.paw_effects.specs.Story.{story_of}
 use Rattle.paw_reading.specs.Turn.{reading}
 use Rattle.paw_turn.specs.declared.turn.PlayState.{PlayState}
 use Rattle.paw_turn.specs.inner.Player.{step_of, PlayerView, IsNew, PlaysTo}
-use Rattle.paw_turn.specs.inner.Phases.{seat_of, turn_settled}
+use Rattle.paw_turn.specs.inner.Phases.{seat_of, state_settled}
 use Rattle.paw_turn.proofs.Settling.{start_plays}
 use Rattle.paw_game.specs.Valid.{Valid}
 use Rattle.paw_turn.proofs.Seating.{new_ready, new_read}
@@ -21,7 +21,7 @@ returns-clause-meaning g c X answers =
     PlaysTo (story_of q.game X) (reading (story_of q.game X) q.world.seed) (step_of s)
     (seat_of own routines h (step_of s)) [] [] in
     rw c.step_of.ensures.value (subst (Told c.args.self.now) (sym c.settle.ensures.value)
-    (subst (λ (q : PlayerView g.row.F.Denot). IsNew q q.world.seed → Told q (turn_settled (step_of s) c.play-stop.new.state)) c.self.view_is
+    (subst (λ (q : PlayerView g.row.F.Denot). IsNew q q.world.seed → Told q (state_settled (step_of s) c.play-stop.new.state)) c.self.view_is
     (start_plays (story_of own X) routines c.self.inside.turn c.play-stop.new.state s (step_of c.self.inside.last) (c.play-stop.ensures.meaning X own_rows))
     c.requires.new))
 

@@ -11,7 +11,7 @@ use Rattle.paw_turn.specs.declared.phase.TurnStop.TheVariants as stop
 use Rattle.paw_turn.specs.declared.phase.Next.TheVariants as next
 use Rattle.paw_turn.specs.declared.turn.PlayState.{PlayState}
 use Rattle.paw_turn.specs.inner.Player.{step_of, PlayerView, PlaysTo, run_at}
-use Rattle.paw_turn.specs.inner.Phases.{PlaysAs, from_prompt, seat_of, turn_settled}
+use Rattle.paw_turn.specs.inner.Phases.{PlaysAs, from_prompt, seat_of, state_settled}
 use Rattle.paw_turn.proofs.Settling.{take_plays}
 use Rattle.paw_turn.proofs.Standing.{bytes_each, take_seated}
 use Rattle.paw_turn.proofs.player.Player.take.Goals as goal
@@ -37,7 +37,7 @@ returns-clause-meaning g c X answers = λ p waits pieces traces.
     PlaysTo (story_of q.game X) (λ lines. going_on_from (story_of q.game X) p (reverse q.machine.frames) (run_at q pieces traces (line ∷ lines)))
     (step_of s) (seat_of own routines h (step_of s)) pieces traces in
     rw c.step_of-2.ensures.value (subst (Told c.args.self.now) (sym c.settle.ensures.value)
-    (subst (λ (q : PlayerView g.row.F.Denot). Told q (turn_settled (step_of s) new)) c.self.view_is
+    (subst (λ (q : PlayerView g.row.F.Denot). Told q (state_settled (step_of s) new)) c.self.view_is
     (take_plays (story_of own X) routines p old new line s pieces traces plays)))
 
 pub returns-clause-seated : goal.returns-clause-seated
