@@ -13,15 +13,15 @@ use Rattle.paw_effects.specs.declared.act.Prompt.{Prompt}
 use Rattle.paw_effects.specs.declared.act.Prompt.TheVariants as prompt
 use Rattle.paw_reading.specs.declared.places.OpenLoop.{OpenLoop}
 use Rattle.paw_process.specs.declared.kept.Frames.{Frames}
-use Rattle.paw_state.specs.declared.fields.TheConstants.{HELD_LENGTH}
+use Rattle.paw_state.specs.declared.fields.TheConstants.{POSITION_LENGTH}
 use Rattle.paw_state.specs.declared.position_field.PositionField.{PositionField}
-use Rattle.paw_state.specs.State.{zeros, filled_with_zeros, held_of, prompt_code}
+use Rattle.paw_state.specs.State.{zeros, filled_with_zeros, position_field_of, prompt_code}
 use Rattle.paw_state.specs.inner.State.{loop_or_zeros}
-use Rattle.paw_state.specs.inner.Faults.{rule, first_not, is_zero, places_fault, absent_fault, held_fault, kept_fault}
+use Rattle.paw_state.specs.inner.Faults.{rule, first_not, is_zero, places_fault, absent_fault, position_fault, kept_fault}
 use Rattle.paw_state.specs.Fields.{prompt_of}
 use Rattle.paw_state.specs.inner.Parts.{held_in}
 use Rattle.paw_state.proofs.Positions.{IsHeldOf}
-use Rattle.paw_state.specs.Fields.{IsSizedHeld}
+use Rattle.paw_state.specs.Fields.{IsSizedPosition}
 use Rattle.paw_state.proofs.Shaped.{same_held}
 use Rattle.paw_state.proofs.Found.{two, rule_holds, no_first, zeros_are, filled_take, take_filled}
 use Rattle.paw_state.proofs.Loops.{presence}
@@ -46,30 +46,30 @@ pub places_back : (g : GameLists) (at : ℕ) (places : List ℕ) → Valid g →
 places_back g at places v size h = filled_take (at + length g.objects) (length g.objects) places size (few_objects g v) (zeros_behind g at places h)
 
 -- A position without a fault.
-pub held_back : (g : GameLists) (at : ℕ) (h : PositionField) → Valid g → IsSizedHeld h → held_fault g at h ≡ None → held_of (held_in (length g.objects) h) ≡ h
+pub held_back : (g : GameLists) (at : ℕ) (h : PositionField) → Valid g → IsSizedPosition h → position_fault g at h ≡ None → position_field_of (held_in (length g.objects) h) ≡ h
 held_back g at h v z q =
     let p = two (rule at (nat_le h.there 1)) (if h.there == 0 then absent_fault at h else places_fault g (at + 257) h.places) q in
     go h.there (leb-true h.there 1 (rule_holds at (nat_le h.there 1) p.0)) p.1
   where
     go : (there : ℕ) → there ≤ 1 → (if there == 0 then absent_fault at h else places_fault g (at + 257) h.places) ≡ None
-        → held_of (if there == 0 then None else Some (record { flags = h.flags; places = take (length g.objects) h.places }))
+        → position_field_of (if there == 0 then None else Some (record { flags = h.flags; places = take (length g.objects) h.places }))
         ≡ record { there = there; flags = h.flags; places = h.places }
     go zero low k =
         let both = two (first_not is_zero (at + 1) h.flags) (first_not is_zero (at + 257) h.places) k in
-        same_held (held_of None) (record { there = 0; flags = h.flags; places = h.places }) refl
+        same_held (position_field_of None) (record { there = 0; flags = h.flags; places = h.places }) refl
         (sym (zeros_are (at + 1) h.flags both.0 ∙ ap zeros z.flags)) (sym (zeros_are (at + 257) h.places both.1 ∙ ap zeros z.places))
     go (suc zero) low k =
         same_held _ (record { there = 1; flags = h.flags; places = h.places }) refl refl (places_back g (at + 257) h.places v z.places k)
     go (suc (suc n)) low k = absurd (omega (arith, low))
 
-pub kept_back : (g : GameLists) (at : ℕ) (kept : List PositionField) → Valid g → All IsSizedHeld kept → kept_fault g at kept ≡ None
-    → map held_of (map (held_in (length g.objects)) kept) ≡ kept
+pub kept_back : (g : GameLists) (at : ℕ) (kept : List PositionField) → Valid g → All IsSizedPosition kept → kept_fault g at kept ≡ None
+    → map position_field_of (map (held_in (length g.objects)) kept) ≡ kept
 unfolding kept_fault
 kept_back g at [] v z h = refl
 kept_back g at (k ∷ ks) v z h =
-    let p = no_first (held_fault g at k) (kept_fault g (at + HELD_LENGTH) ks) h in
-    let e : held_of (held_in (length g.objects) k) ≡ k = held_back g at k v (z 0 k (omega arith)) p.0 in
-    let q = kept_back g (at + HELD_LENGTH) ks v (λ i d low. z (suc i) d (omega (arith, low))) p.1 in
+    let p = no_first (position_fault g at k) (kept_fault g (at + POSITION_LENGTH) ks) h in
+    let e : position_field_of (held_in (length g.objects) k) ≡ k = held_back g at k v (z 0 k (omega arith)) p.0 in
+    let q = kept_back g (at + POSITION_LENGTH) ks v (λ i d low. z (suc i) d (omega (arith, low))) p.1 in
     cc
 
 pub code_back : (n : ℕ) → n ≤ 4 → prompt_code (prompt_of n) ≡ n
@@ -85,13 +85,13 @@ line_length n line size low = omega (arith, length-take n line)
 
 -- ---- from a state ----
 
-pub held_again : (g : GameLists) (o : Option Position) → IsHeldOf g o → held_in (length g.objects) (held_of o) ≡ o
+pub held_again : (g : GameLists) (o : Option Position) → IsHeldOf g o → held_in (length g.objects) (position_field_of o) ≡ o
 held_again g None h = refl
 held_again g (Some q) h =
     let at : List ℕ → Option Position = λ places. Some (record { flags = q.flags; places = places }) in
     ap at (take_filled (length g.objects) q.places h.each)
 
-pub kept_again : (g : GameLists) (kept : List (Option Position)) → All (IsHeldOf g) kept → map (held_in (length g.objects)) (map held_of kept) ≡ kept
+pub kept_again : (g : GameLists) (kept : List (Option Position)) → All (IsHeldOf g) kept → map (held_in (length g.objects)) (map position_field_of kept) ≡ kept
 kept_again g [] h = refl
 kept_again g (k ∷ ks) h =
     let e = held_again g k (h 0 k (omega arith)) in

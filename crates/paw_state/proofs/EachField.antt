@@ -10,9 +10,9 @@ use Rattle.paw_game.specs.Image.{two_bytes}
 use Rattle.paw_state.specs.declared.fields.TheConstants.{PENDING, KEPT}
 use Rattle.paw_state.specs.declared.fields.Fields.{Fields}
 use Rattle.paw_state.specs.declared.position_field.PositionField.{PositionField}
-use Rattle.paw_state.specs.Fields.{IsSizedHeld, AreSized}
+use Rattle.paw_state.specs.Fields.{IsSizedPosition, AreSized}
 use Rattle.paw_state.specs.State.{AreBytes}
-use Rattle.paw_state.specs.inner.Fields.{frame_shape, loop_shape, held_shape, fields_shape, after_piece}
+use Rattle.paw_state.specs.inner.Fields.{frame_shape, loop_shape, position_shape, fields_shape, after_piece}
 use Rattle.paw_state.specs.inner.Fields.{field_bytes, fields_at}
 use Rattle.paw_state.proofs.Pieces.{each_byte}
 use Rattle.paw_state.proofs.Listed.{each_bytes, join, held_same, kept_same, frames_same, pending_same, looping_same}
@@ -21,8 +21,8 @@ use Rattle.paw_state.proofs.Shaped.{field_sound, last_sound, made_of_sound, fram
 use Rattle.paw_state.proofs.Shaped.{held_shape_sound, held_fits}
 use Rattle.std.specs.Option.{unwrap_or}
 use Rattle.paw_world.specs.World.{Position}
-use Rattle.paw_state.specs.State.{State, fields_of, state_bytes, held_of, zeros}
-use Rattle.paw_state.specs.Fields.{Field, two, bytes_of, held_fields, state_fields, flag_fields, place_fields}
+use Rattle.paw_state.specs.State.{State, fields_of, state_bytes, position_field_of, zeros}
+use Rattle.paw_state.specs.Fields.{Field, two, bytes_of, position_fields, state_fields, flag_fields, place_fields}
 use Rattle.paw_state.specs.Fields.{number_fields}
 use Rattle.paw_state.specs.Fields.{prompt_fields, table_fields, looping_fields, pending_fields, inside}
 
@@ -46,11 +46,11 @@ fields_shape_sound =
     (field_sound _ _ _ one_byte_sound
     (field_sound _ _ _ (array_sound 255)
     (field_sound _ _ _ two_byte_sound
-    (last_sound _ _ (times_sound 4 held_shape held_shape_sound)))))))))))))))))
+    (last_sound _ _ (times_sound 4 position_shape held_shape_sound)))))))))))))))))
 
 -- ---- sizes ----
 
-helds_fit : (hs : List PositionField) → All IsSizedHeld hs → All held_shape.fits hs
+helds_fit : (hs : List PositionField) → All IsSizedPosition hs → All position_shape.fits hs
 helds_fit hs s = λ k d low. held_fits _ (s k d low)
 
 fits_of : (f : Fields) → AreSized f → fields_shape.fits f
@@ -95,7 +95,7 @@ fits_of f s = (
   ),
 )
 
-sized_held : (h : PositionField) → held_shape.fits h → IsSizedHeld h
+sized_held : (h : PositionField) → position_shape.fits h → IsSizedPosition h
 sized_held h (there, (flags, places)) = record { flags = flags; places = places }
 
 sized_by : (f : Fields) → fields_shape.fits f → f.pending < 256 → AreSized f
@@ -166,7 +166,7 @@ pub length-fields : (f : Fields) → AreSized f → length (field_bytes f) ≡ S
 length-fields f s = fields_shape_sound.long f (fits_of f s)
 
 pub length-later : (f : Fields) → AreSized f → length (after_piece f) ≡ STATE_LENGTH - KEPT
-length-later f s = (times_sound 4 held_shape held_shape_sound).long f.kept (s.four, helds_fit f.kept s.kept)
+length-later f s = (times_sound 4 position_shape held_shape_sound).long f.kept (s.four, helds_fit f.kept s.kept)
 
 -- ---- the same fields ----
 
@@ -222,18 +222,18 @@ state_ends f =
 abbrev pub IsOlder : State → Type 0
 IsOlder s = s.world.kept ≡ replicate POSITION_COUNT None
 
-none_bytes : flat_map held_shape.bytes (map held_of (replicate POSITION_COUNT None)) ≡ zeros (STATE_LENGTH - KEPT)
+none_bytes : flat_map position_shape.bytes (map position_field_of (replicate POSITION_COUNT None)) ≡ zeros (STATE_LENGTH - KEPT)
 unfolding zeros
 none_bytes = refl
 
 pub older_bytes : (s : State) → IsOlder s → after_piece (fields_of s) ≡ zeros (STATE_LENGTH - KEPT)
-older_bytes s none = ap (λ (ks : List (Option Position)). flat_map held_shape.bytes (map held_of ks)) none ∙ none_bytes
+older_bytes s none = ap (λ (ks : List (Option Position)). flat_map position_shape.bytes (map position_field_of ks)) none ∙ none_bytes
 
 -- ---- the list, from its parts on ----
 
 -- From the length of the piece on.
 abbrev pub from_piece : Fields → List Field
-from_piece f = two f.piece (λ g. true) ∷ flat_map held_fields f.kept
+from_piece f = two f.piece (λ g. true) ∷ flat_map position_fields f.kept
 
 -- From the verb of the sentence before on.
 abbrev pub from_pending : Fields → List Field
@@ -257,7 +257,7 @@ from_numbers f = number_fields f ++ from_prompt f
 
 -- From the saved position on.
 abbrev pub from_saved : Fields → List Field
-from_saved f = held_fields f.saved ++ from_numbers f
+from_saved f = position_fields f.saved ++ from_numbers f
 
 -- From the places on.
 abbrev pub from_places : Fields → List Field
@@ -269,7 +269,7 @@ grouped a b c d e h i j k = simp append_assoc
 pub listed : (f : Fields) → state_fields f ≡ flag_fields f.flags ++ from_places f
 unfolding state_fields
 listed f =
-    grouped (flag_fields f.flags) (place_fields f.places) (held_fields f.saved) (number_fields f) (prompt_fields f) (table_fields f) (looping_fields f)
+    grouped (flag_fields f.flags) (place_fields f.places) (position_fields f.saved) (number_fields f) (prompt_fields f) (table_fields f) (looping_fields f)
     (pending_fields f) (from_piece f)
 
 pub bytes_same : (f : Fields) → bytes_of (state_fields f) ≡ field_bytes f
@@ -281,7 +281,7 @@ bytes_same f =
     (frames_same (unwrap_or (inside f) 0) (λ g. None) f.count f.rows) looping in
     let prompts = join (prompt_fields f) (from_tables f) (f.prompt ∷ f.count ∷ []) _ refl tables in
     let numbers = join (number_fields f) (from_prompt f) (bytes_of (number_fields f)) _ refl prompts in
-    let saved = join (held_fields f.saved) (from_numbers f) (held_shape.bytes f.saved) _ (held_same f.saved) numbers in
+    let saved = join (position_fields f.saved) (from_numbers f) (position_shape.bytes f.saved) _ (held_same f.saved) numbers in
     let places = join (place_fields f.places) (from_saved f) f.places _ (each_bytes _ 0 f.places) saved in
     ap bytes_of (listed f) ∙ join (flag_fields f.flags) (from_places f) f.flags _ (each_bytes _ 0 f.flags) places
 
@@ -294,10 +294,10 @@ state_same s = bytes_same (fields_of s)
 pub record HasLengths (f : Fields) : Type 0 where
   pub flags : length f.flags ≡ 256
   pub places : length f.places ≡ 255
-  pub saved : IsSizedHeld f.saved
+  pub saved : IsSizedPosition f.saved
   pub rows : length f.rows ≡ 11
   pub line : length f.line ≡ 255
-  pub kept : All IsSizedHeld f.kept
+  pub kept : All IsSizedPosition f.kept
 
 -- Fields of which the arrays have their lengths.
 pub lengths_sized : (f : Fields) → AreSized f → HasLengths f

@@ -10,16 +10,16 @@ use Rattle.paw_game.specs.Tables.{head_at, condact_at}
 use Rattle.paw_game.specs.Valid.{is_place}
 use Rattle.paw_process.specs.Kept.{may_open, has_code, parameter_of}
 use Rattle.paw_process.specs.inner.Kept.{is_that_table}
-use Rattle.paw_state.specs.declared.fields.TheConstants.{HELD_LENGTH}
+use Rattle.paw_state.specs.declared.fields.TheConstants.{POSITION_LENGTH}
 use Rattle.paw_state.specs.declared.fields.FrameField.{FrameField}
 use Rattle.paw_state.specs.declared.fields.Fields.{Fields}
 use Rattle.paw_state.specs.declared.position_field.PositionField.{PositionField}
-use Rattle.paw_state.specs.Fields.{Field, one_by_one, if_there, bytes_of, fault_from, place_holds, held_fields}
-use Rattle.paw_state.specs.Fields.{frame_fields, frames_fields, IsSizedHeld, prompt_of}
+use Rattle.paw_state.specs.Fields.{Field, one_by_one, if_there, bytes_of, fault_from, place_holds, position_fields}
+use Rattle.paw_state.specs.Fields.{frame_fields, frames_fields, IsSizedPosition, prompt_of}
 use Rattle.paw_state.specs.Fields.{flag_fields, place_fields}
 use Rattle.paw_state.specs.Fields.{line_fields}
 use Rattle.paw_effects.specs.declared.act.Prompt.TheVariants as prompt
-use Rattle.paw_state.specs.inner.Faults.{rule, first, first_not, is_zero, places_fault, absent_fault, held_fault}
+use Rattle.paw_state.specs.inner.Faults.{rule, first, first_not, is_zero, places_fault, absent_fault, position_fault}
 use Rattle.paw_state.specs.inner.Faults.{kept_fault, frame_fault, frame_fields_fault}
 use Rattle.paw_state.proofs.Shaped.{length-held}
 use Rattle.paw_state.proofs.Listed.{each_bytes, there_bytes, held_same, frame_same}
@@ -170,7 +170,7 @@ there_is g n at (f ∷ fs) e = rw e (ap (λ (o : Option ℕ). if f.holds g then 
 
 -- ---- positions ----
 
-held_there : (g : GameLists) (at : ℕ) (h : PositionField) (b : Bool) → IsSizedHeld h → (h.there == 0) ≡ b
+held_there : (g : GameLists) (at : ℕ) (h : PositionField) (b : Bool) → IsSizedPosition h → (h.there == 0) ≡ b
     → fault_from g (at + 1) (if_there h.there (flag_fields h.flags ++ place_fields h.places))
     ≡ (if b then absent_fault at h else places_fault g (at + 257) h.places)
 held_there g at h true s e =
@@ -189,20 +189,20 @@ held_there g at h false s e =
     ∙ step g (at + 1) 256 (flag_fields h.flags) (place_fields h.places) None (places_fault g (at + 257) h.places)
     (free g (at + 1) 0 h.flags) long (rw k (places_same g (at + 257) h.places))
 
-pub held_faults : (g : GameLists) (at : ℕ) (h : PositionField) → IsSizedHeld h → fault_from g at (held_fields h) ≡ held_fault g at h
+pub held_faults : (g : GameLists) (at : ℕ) (h : PositionField) → IsSizedPosition h → fault_from g at (position_fields h) ≡ position_fault g at h
 unfolding fault_from
 held_faults g at h s =
     ruled at (nat_le h.there 1) _ _
     (held_there g at h (h.there == 0) s refl ∙ sym (or_none (if h.there == 0 then absent_fault at h else places_fault g (at + 257) h.places)))
 
-pub kept_faults : (g : GameLists) (at : ℕ) (hs : List PositionField) → All IsSizedHeld hs → fault_from g at (flat_map held_fields hs) ≡ kept_fault g at hs
+pub kept_faults : (g : GameLists) (at : ℕ) (hs : List PositionField) → All IsSizedPosition hs → fault_from g at (flat_map position_fields hs) ≡ kept_fault g at hs
 unfolding fault_from kept_fault
 kept_faults g at [] s = refl
 kept_faults g at (h ∷ hs) s =
     let own = s 0 h (omega arith) in
-    step g at HELD_LENGTH (held_fields h) (flat_map held_fields hs) (held_fault g at h) (kept_fault g (at + HELD_LENGTH) hs) (held_faults g at h own)
+    step g at POSITION_LENGTH (position_fields h) (flat_map position_fields hs) (position_fault g at h) (kept_fault g (at + POSITION_LENGTH) hs) (held_faults g at h own)
     (ap length (held_same h) ∙ length-held h own)
-    (kept_faults g (at + HELD_LENGTH) hs (λ i d low. s (suc i) d (omega (arith, low))))
+    (kept_faults g (at + POSITION_LENGTH) hs (λ i d low. s (suc i) d (omega (arith, low))))
 
 -- ---- frames ----
 

@@ -18,14 +18,14 @@ use Rattle.paw_process.specs.Kept.{count_fits}
 use Rattle.paw_process.specs.inner.Kept.{fault_at}
 use Rattle.paw_process.specs.inner.Kept.{first_frame_fault as machine_rows, loop_fault as machine_loop}
 use Rattle.paw_process.proofs.Restored.{no_first as no_machine_first}
-use Rattle.paw_state.specs.declared.fields.TheConstants.{HELD_LENGTH}
+use Rattle.paw_state.specs.declared.fields.TheConstants.{POSITION_LENGTH}
 use Rattle.paw_state.specs.declared.position_field.PositionField.{PositionField}
 use Rattle.paw_effects.specs.inner.Worlds.{ArePlacesOf, StandsIn}
-use Rattle.paw_state.specs.State.{zeros, filled_with_zeros, held_of, prompt_code}
-use Rattle.paw_state.specs.inner.Faults.{rule, first_not, is_zero, places_fault, absent_fault, held_fault, kept_fault}
+use Rattle.paw_state.specs.State.{zeros, filled_with_zeros, position_field_of, prompt_code}
+use Rattle.paw_state.specs.inner.Faults.{rule, first_not, is_zero, places_fault, absent_fault, position_fault, kept_fault}
 use Rattle.paw_state.specs.inner.Parts.{held_in}
 use Rattle.paw_state.proofs.Positions.{IsHeldOf}
-use Rattle.paw_state.specs.Fields.{IsSizedHeld}
+use Rattle.paw_state.specs.Fields.{IsSizedPosition}
 use Rattle.paw_state.proofs.Found.{two, two_none, no_first, none_first, all_so, none_not, none_in_zeros, take_filled}
 use Rattle.paw_state.proofs.Found.{drop_filled, length-filled, length-zeros}
 use Rattle.paw_state.proofs.Back.{objects_stand}
@@ -58,7 +58,7 @@ machine_sound g code k h = go (count_fits code k.count) refl h
 pub objects_length : (g : GameLists) (places : List ℕ) → Valid g → length places ≡ 255 → length (take (length g.objects) places) ≡ length g.objects
 objects_length g places v size = omega (arith, length-take (length g.objects) places, few_objects g v)
 
-pub held_kept : (g : GameLists) (at : ℕ) (h : PositionField) → Valid g → IsSizedHeld h → held_fault g at h ≡ None → IsHeldOf g (held_in (length g.objects) h)
+pub held_kept : (g : GameLists) (at : ℕ) (h : PositionField) → Valid g → IsSizedPosition h → position_fault g at h ≡ None → IsHeldOf g (held_in (length g.objects) h)
 held_kept g at h v z q = go (h.there == 0)
     (two (rule at (nat_le h.there 1)) (if h.there == 0 then absent_fault at h else places_fault g (at + 257) h.places) q).1
   where
@@ -71,14 +71,14 @@ held_kept g at h v z q = go (h.there == 0)
       places = all_so (is_place (length g.locations)) (at + 257) (take (length g.objects) h.places) (objects_stand g (at + 257) h.places k);
     }
 
-pub kept_kept : (g : GameLists) (at : ℕ) (kept : List PositionField) → Valid g → All IsSizedHeld kept → kept_fault g at kept ≡ None
+pub kept_kept : (g : GameLists) (at : ℕ) (kept : List PositionField) → Valid g → All IsSizedPosition kept → kept_fault g at kept ≡ None
     → All (IsHeldOf g) (map (held_in (length g.objects)) kept)
 unfolding kept_fault
 kept_kept g at [] v z h = λ k d low. absurd (omega (arith, low))
 kept_kept g at (k ∷ ks) v z h =
-    let p = no_first (held_fault g at k) (kept_fault g (at + HELD_LENGTH) ks) h in
+    let p = no_first (position_fault g at k) (kept_fault g (at + POSITION_LENGTH) ks) h in
     All-cons (IsHeldOf g) (held_in (length g.objects) k) (map (held_in (length g.objects)) ks) (held_kept g at k v (z 0 k (omega arith)) p.0)
-    (kept_kept g (at + HELD_LENGTH) ks v (λ i d low. z (suc i) d (omega (arith, low))) p.1)
+    (kept_kept g (at + POSITION_LENGTH) ks v (λ i d low. z (suc i) d (omega (arith, low))) p.1)
 
 pub line_kept : (code : Option ℕ) (n : ℕ) (line : List ℕ) → (is_some code || (n == 0)) ≡ true → IfNone code (take n line ≡ [])
 line_kept None n line h = let z : n ≡ 0 = eqb-true n 0 h in rw z refl
@@ -94,19 +94,19 @@ places_sound g at places size h =
     (ap (first_not (is_place (length g.locations)) at) (take_filled (length g.objects) places size) ∙ none_not (is_place (length g.locations)) at places h)
     (ap (first_not is_zero (at + length g.objects)) (drop_filled (length g.objects) places size) ∙ none_in_zeros (at + length g.objects) (255 - length places))
 
-pub held_sound : (g : GameLists) (at : ℕ) (o : Option Position) → IsHeldOf g o → held_fault g at (held_of o) ≡ None
+pub held_sound : (g : GameLists) (at : ℕ) (o : Option Position) → IsHeldOf g o → position_fault g at (position_field_of o) ≡ None
 held_sound g at None h =
-    two_none (rule at true) (absent_fault at (held_of None)) refl
+    two_none (rule at true) (absent_fault at (position_field_of None)) refl
     (two_none (first_not is_zero (at + 1) (zeros 256)) (first_not is_zero (at + 257) (zeros 255)) (none_in_zeros (at + 1) 256) (none_in_zeros (at + 257) 255))
 held_sound g at (Some q) h =
     two_none (rule at true) (places_fault g (at + 257) (filled_with_zeros 255 q.places)) refl (places_sound g (at + 257) q.places h.each h.places)
 
-pub kept_sound : (g : GameLists) (at : ℕ) (kept : List (Option Position)) → All (IsHeldOf g) kept → kept_fault g at (map held_of kept) ≡ None
+pub kept_sound : (g : GameLists) (at : ℕ) (kept : List (Option Position)) → All (IsHeldOf g) kept → kept_fault g at (map position_field_of kept) ≡ None
 unfolding kept_fault
 kept_sound g at [] h = refl
 kept_sound g at (k ∷ ks) h =
-    none_first (held_fault g at (held_of k)) (kept_fault g (at + HELD_LENGTH) (map held_of ks)) (held_sound g at k (h 0 k (omega arith)))
-    (kept_sound g (at + HELD_LENGTH) ks (λ i d low. h (suc i) d (omega (arith, low))))
+    none_first (position_fault g at (position_field_of k)) (kept_fault g (at + POSITION_LENGTH) (map position_field_of ks)) (held_sound g at k (h 0 k (omega arith)))
+    (kept_sound g (at + POSITION_LENGTH) ks (λ i d low. h (suc i) d (omega (arith, low))))
 
 pub code_low : (p : Prompt) → nat_le (prompt_code p) 4 ≡ true
 code_low prompt.Main = refl
@@ -121,7 +121,7 @@ line_sound (Some code) bytes h = refl
 
 -- ---- positions of a state whose fields have no fault ----
 
-pub saved_sized : (n : ℕ) (o : Option Position) → n ≤ 255 → IsSavedFor n o → IsSizedHeld (held_of o)
+pub saved_sized : (n : ℕ) (o : Option Position) → n ≤ 255 → IsSavedFor n o → IsSizedPosition (position_field_of o)
 saved_sized n None low h = record { flags = length-zeros 256; places = length-zeros 255 }
 saved_sized n (Some q) low h = record { flags = h.flags; places = length-filled q.places (omega (arith, h.places, low)) }
 
@@ -131,16 +131,16 @@ places_from g at places size h =
     subst (ArePlacesOf g) (take_filled (length g.objects) places size)
     (all_so (is_place (length g.locations)) at (take (length g.objects) (filled_with_zeros 255 places)) (objects_stand g at (filled_with_zeros 255 places) h))
 
-pub saved_from : (g : GameLists) (at n : ℕ) (o : Option Position) → n ≡ length g.objects → IsSavedFor n o → held_fault g at (held_of o) ≡ None → StandsIn g o
+pub saved_from : (g : GameLists) (at n : ℕ) (o : Option Position) → n ≡ length g.objects → IsSavedFor n o → position_fault g at (position_field_of o) ≡ None → StandsIn g o
 saved_from g at n None same alike h = tt
 saved_from g at n (Some q) same alike h =
     places_from g (at + 257) q.places (alike.places ∙ same) (two (rule at (nat_le 1 1)) (places_fault g (at + 257) (filled_with_zeros 255 q.places)) h).1
 
 pub kept_from : (g : GameLists) (at n : ℕ) (kept : List (Option Position)) → n ≡ length g.objects → All (IsSavedFor n) kept
-    → kept_fault g at (map held_of kept) ≡ None → All (StandsIn g) kept
+    → kept_fault g at (map position_field_of kept) ≡ None → All (StandsIn g) kept
 unfolding kept_fault
 kept_from g at n [] same alike h = λ k d low. absurd (omega (arith, low))
 kept_from g at n (o ∷ os) same alike h =
-    let p = no_first (held_fault g at (held_of o)) (kept_fault g (at + HELD_LENGTH) (map held_of os)) h in
+    let p = no_first (position_fault g at (position_field_of o)) (kept_fault g (at + POSITION_LENGTH) (map position_field_of os)) h in
     All-cons (StandsIn g) o os (saved_from g at n o same (alike 0 o (omega arith)) p.0)
-    (kept_from g (at + HELD_LENGTH) n os same (λ i d low. alike (suc i) d (omega (arith, low))) p.1)
+    (kept_from g (at + POSITION_LENGTH) n os same (λ i d low. alike (suc i) d (omega (arith, low))) p.1)

@@ -10,10 +10,10 @@ use Rattle.paw_process.specs.Kept.{parameter_of}
 use Rattle.paw_state.specs.declared.fields.FrameField.{FrameField}
 use Rattle.paw_state.specs.declared.fields.Fields.{Fields}
 use Rattle.paw_state.specs.declared.position_field.PositionField.{PositionField}
-use Rattle.paw_state.specs.Fields.{Field, one_by_one, if_there, bytes_of, place_holds, held_fields}
+use Rattle.paw_state.specs.Fields.{Field, one_by_one, if_there, bytes_of, place_holds, position_fields}
 use Rattle.paw_state.specs.Fields.{frame_fields, frames_fields, loop_fields, flag_fields, place_fields}
 use Rattle.paw_state.specs.Fields.{looping_fields, pending_fields}
-use Rattle.paw_state.specs.inner.Fields.{frame_shape, loop_shape, held_shape}
+use Rattle.paw_state.specs.inner.Fields.{frame_shape, loop_shape, position_shape}
 
 pub each_bytes : (h : ℕ → ℕ → GameLists → Bool) (i : ℕ) (bs : List ℕ) → bytes_of (one_by_one h i bs) ≡ bs
 unfolding one_by_one
@@ -28,7 +28,7 @@ there_bytes n (f ∷ fs) = ap (λ (l : List ℕ). f.bytes ++ l) (there_bytes n f
 pub join : (xs ys : List Field) (x y : List ℕ) → bytes_of xs ≡ x → bytes_of ys ≡ y → bytes_of (xs ++ ys) ≡ x ++ y
 join xs ys x y e k = flat_map-append (λ (f : Field). f.bytes) xs ys ∙ (ap (λ (l : List ℕ). l ++ bytes_of ys) e ∙ ap (λ (l : List ℕ). x ++ l) k)
 
-pub held_same : (h : PositionField) → bytes_of (held_fields h) ≡ held_shape.bytes h
+pub held_same : (h : PositionField) → bytes_of (position_fields h) ≡ position_shape.bytes h
 held_same h =
     let flags = flag_fields h.flags in
     let places = place_fields h.places in
@@ -36,9 +36,9 @@ held_same h =
     (there_bytes h.there (flags ++ places)
     ∙ join flags places h.flags h.places (each_bytes (λ i flag g. true) 0 h.flags) (each_bytes place_holds 0 h.places))
 
-pub kept_same : (hs : List PositionField) → bytes_of (flat_map held_fields hs) ≡ flat_map held_shape.bytes hs
+pub kept_same : (hs : List PositionField) → bytes_of (flat_map position_fields hs) ≡ flat_map position_shape.bytes hs
 kept_same [] = refl
-kept_same (h ∷ hs) = join (held_fields h) (flat_map held_fields hs) (held_shape.bytes h) (flat_map held_shape.bytes hs) (held_same h) (kept_same hs)
+kept_same (h ∷ hs) = join (position_fields h) (flat_map position_fields hs) (position_shape.bytes h) (flat_map position_shape.bytes hs) (held_same h) (kept_same hs)
 
 pub frame_same : (code : ℕ) (caller : GameLists → Option ℕ) (n : ℕ) (r : FrameField) → bytes_of (frame_fields code caller n r) ≡ frame_shape.bytes r
 frame_same code caller n r = there_bytes n _

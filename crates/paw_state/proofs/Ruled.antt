@@ -39,15 +39,15 @@ use Rattle.paw_state.proofs.Frames.{frame_fields_back, frames_back, frame_fields
 use Rattle.paw_state.proofs.Written.{length-frames}
 use Rattle.paw_state.proofs.Shaped.{length-held}
 use Rattle.paw_state.proofs.Sizes.{helds_at_fit, held_at_fits, held_size, kept_size, entries_fit, loop_fits}
-use Rattle.paw_state.specs.Fields.{IsSizedHeld, AreSized, held_fields, flag_fields, place_fields, number_fields}
+use Rattle.paw_state.specs.Fields.{IsSizedPosition, AreSized, position_fields, flag_fields, place_fields, number_fields}
 use Rattle.paw_state.specs.Fields.{prompt_fields, table_fields, looping_fields, pending_fields, inside, fault_from}
 use Rattle.paw_state.specs.Fields.{prompt_of}
-use Rattle.paw_state.specs.State.{AreBytes, State, fields_of, filled_with_zeros, held_of, frame_field_of, IsValidState, FitsFields}
+use Rattle.paw_state.specs.State.{AreBytes, State, fields_of, filled_with_zeros, position_field_of, frame_field_of, IsValidState, FitsFields}
 use Rattle.paw_state.specs.declared.fields.Fields.{Fields}
-use Rattle.paw_state.specs.declared.fields.TheConstants.{HELD_LENGTH, PENDING, PLACES, SAVED, SEED, PROMPT, FRAMES}
+use Rattle.paw_state.specs.declared.fields.TheConstants.{POSITION_LENGTH, PENDING, PLACES, SAVED, SEED, PROMPT, FRAMES}
 use Rattle.paw_state.specs.declared.fields.TheConstants.{LOOPING, EARLIER, PIECE, KEPT, DRAWS, EVENTS, COUNT, LINE}
 use Rattle.paw_state.specs.declared.fields.TheConstants.{FLAGS}
-use Rattle.paw_state.specs.inner.Faults.{first, first_not, is_zero, places_fault, held_fault, kept_fault}
+use Rattle.paw_state.specs.inner.Faults.{first, first_not, is_zero, places_fault, position_fault, kept_fault}
 use Rattle.paw_state.specs.inner.Faults.{frame_fields_fault, fields_fault}
 use Rattle.paw_state.specs.inner.Fields.{parts_fault}
 use Rattle.paw_state.specs.inner.Fields.{fields_at}
@@ -80,7 +80,7 @@ pub faults_same : (g : GameLists) (f : Fields) → HasLengths f → fields_fault
 faults_same g f s =
     let kept = kept_fault g KEPT f.kept in
     let places = places_fault g PLACES f.places in
-    let saved = held_fault g SAVED f.saved in
+    let saved = position_fault g SAVED f.saved in
     let numbers = fault_from g SEED (number_fields f) in
     let prompts = fault_from g PROMPT (prompt_fields f) in
     let tables = frame_fields_fault g (unwrap_or (inside f) 0) None f.count FRAMES f.rows in
@@ -96,7 +96,7 @@ faults_same g f s =
     let from_seed = step g SEED 24 (number_fields f) (from_prompt f) numbers
     (option_or prompts (option_or tables (option_or looping (option_or pending kept)))) refl refl from_code in
     let later = option_or numbers (option_or prompts (option_or tables (option_or looping (option_or pending kept)))) in
-    let from_held = step g SAVED HELD_LENGTH (held_fields f.saved) (from_numbers f) saved later (held_faults g SAVED f.saved s.saved)
+    let from_held = step g SAVED POSITION_LENGTH (position_fields f.saved) (from_numbers f) saved later (held_faults g SAVED f.saved s.saved)
     (ap length (held_same f.saved) ∙ length-held f.saved s.saved) from_seed in
     let all = step g 256 255 (place_fields f.places) (from_saved f) places (option_or saved later) (places_same g 256 f.places)
     (ap length (each_bytes _ 0 f.places) ∙ s.places) from_held in
@@ -111,7 +111,7 @@ faults_same g f s =
 -- Each part follows its rules.
 pub record AreSound (g : GameLists) (f : Fields) : Type 0 where
   pub places : places_fault g PLACES f.places ≡ None
-  pub saved : held_fault g SAVED f.saved ≡ None
+  pub saved : position_fault g SAVED f.saved ≡ None
   pub events : nat_le f.events EVENT_LIMIT ≡ true
   pub draws : nat_le f.draws (READ_LIMIT * (f.events + 1)) ≡ true
   pub prompt : nat_le f.prompt 4 ≡ true
@@ -158,7 +158,7 @@ sound_of g f h =
     let few = nat_le f.events EVENT_LIMIT in
     let drawn = nat_le f.draws (READ_LIMIT * (f.events + 1)) in
     let p =
-    eight (places_fault g PLACES f.places) (held_fault g SAVED f.saved) (fault_from g SEED (number_fields f)) (fault_from g PROMPT (prompt_fields f))
+    eight (places_fault g PLACES f.places) (position_fault g SAVED f.saved) (fault_from g SEED (number_fields f)) (fault_from g PROMPT (prompt_fields f))
     (frame_fields_fault g (unwrap_or (inside f) 0) None f.count FRAMES f.rows) (fault_from g LOOPING (looping_fields f))
     (fault_from g EARLIER (pending_fields f)) (kept_fault g KEPT f.kept) h in
     let n = first_holds g DRAWS _ _ (first_holds g SEED _ _ p.2).1 in
@@ -194,7 +194,7 @@ none_of g f s =
     all_hold g LOOPING _ _ s.looping s.turning in
     let pending : fault_from g EARLIER (pending_fields f) ≡ None =
     all_hold g EARLIER _ _ refl (all_hold g PENDING _ _ s.pending (line_same g LINE f ∙ s.line)) in
-    eight_none (places_fault g PLACES f.places) (held_fault g SAVED f.saved) (fault_from g SEED (number_fields f)) (fault_from g PROMPT (prompt_fields f))
+    eight_none (places_fault g PLACES f.places) (position_fault g SAVED f.saved) (fault_from g SEED (number_fields f)) (fault_from g PROMPT (prompt_fields f))
     (frame_fields_fault g (unwrap_or (inside f) 0) None f.count FRAMES f.rows) (fault_from g LOOPING (looping_fields f))
     (fault_from g EARLIER (pending_fields f)) (kept_fault g KEPT f.kept) s.places s.saved numbers prompts s.frames looping pending s.kept
 
@@ -309,7 +309,7 @@ lengths_of g s of world rows line = record {
   saved = saved_sized (length s.world.places) s.world.saved world.objects world.saved;
   rows = length-map s.frames.rows frame_field_of ∙ rows;
   line = length-filled s.pending.bytes line;
-  kept = All-map IsSizedHeld held_of s.world.kept
+  kept = All-map IsSizedPosition position_field_of s.world.kept
       (λ i d low. saved_sized (length s.world.places) (get_or s.world.kept i d) world.objects (world.kept.each i d low));
 }
 
@@ -385,7 +385,7 @@ sized_of g s v k h =
       pending = omega (arith, k.line);
       line = length-filled s.pending.bytes k.line;
       piece = h.piece;
-      four = length-map s.world.kept held_of ∙ k.sound.kept.four;
+      four = length-map s.world.kept position_field_of ∙ k.sound.kept.four;
       kept = kept_size g s.world.kept v (kept_held g s k);
     }
 

@@ -6,11 +6,11 @@ use Rattle.std.specs.Prelude.{if◌then◌else◌}
 use Rattle.std.proofs.Math.Seq.{drop-cons}
 use Rattle.std.proofs.lemmas.List.{drop_all}
 use Rattle.paw_game.specs.Game.{GameLists}
-use Rattle.paw_state.specs.declared.fields.TheConstants.{HELD_LENGTH}
+use Rattle.paw_state.specs.declared.fields.TheConstants.{POSITION_LENGTH}
 use Rattle.paw_state.specs.declared.fields.FrameField.{FrameField}
 use Rattle.paw_state.specs.declared.position_field.PositionField.{PositionField}
 use Rattle.std.specs.Option.{option_or}
-use Rattle.paw_state.specs.inner.Faults.{rule, first_not, held_fault, kept_fault, frame_fault, frame_fields_fault}
+use Rattle.paw_state.specs.inner.Faults.{rule, first_not, position_fault, kept_fault, frame_fault, frame_fields_fault}
 use Rattle.paw_state.specs.inner.Faults.{called_table}
 
 -- ---- bytes ----
@@ -86,15 +86,15 @@ kept_none g at [] h = refl
 kept_none g at (k ∷ ks) h = absurd (omega arith)
 
 first_kept : (g : GameLists) (at : ℕ) (kept : List PositionField) (k : PositionField) (ks : List PositionField) → kept ≡ k ∷ ks
-    → option_or (held_fault g at k) (kept_fault g (at + HELD_LENGTH) ks) ≡ kept_fault g at kept
+    → option_or (position_fault g at k) (kept_fault g (at + POSITION_LENGTH) ks) ≡ kept_fault g at kept
 unfolding kept_fault
 first_kept g at kept k ks e = rw e refl
 
 pub kept_stops : (g : GameLists) (at x : ℕ) (kept : List PositionField) (k : PositionField) (ks : List PositionField) → kept ≡ k ∷ ks → Some x
-    ≡ held_fault g at k
+    ≡ position_fault g at k
     → Some x ≡ kept_fault g at kept
-kept_stops g at x kept k ks e h = ap (λ (o : Option ℕ). option_or o (kept_fault g (at + HELD_LENGTH) ks)) h ∙ first_kept g at kept k ks e
+kept_stops g at x kept k ks e h = ap (λ (o : Option ℕ). option_or o (kept_fault g (at + POSITION_LENGTH) ks)) h ∙ first_kept g at kept k ks e
 
-pub kept_passes : (g : GameLists) (at : ℕ) (kept : List PositionField) (k : PositionField) (ks : List PositionField) → kept ≡ k ∷ ks → None ≡ held_fault g at k
-    → kept_fault g (at + HELD_LENGTH) ks ≡ kept_fault g at kept
-kept_passes g at kept k ks e h = ap (λ (o : Option ℕ). option_or o (kept_fault g (at + HELD_LENGTH) ks)) h ∙ first_kept g at kept k ks e
+pub kept_passes : (g : GameLists) (at : ℕ) (kept : List PositionField) (k : PositionField) (ks : List PositionField) → kept ≡ k ∷ ks → None ≡ position_fault g at k
+    → kept_fault g (at + POSITION_LENGTH) ks ≡ kept_fault g at kept
+kept_passes g at kept k ks e h = ap (λ (o : Option ℕ). option_or o (kept_fault g (at + POSITION_LENGTH) ks)) h ∙ first_kept g at kept k ks e

@@ -13,10 +13,10 @@ use Rattle.paw_game.specs.Image.{two_bytes}
 use Rattle.paw_state.specs.State.{AreBytes}
 use Rattle.paw_state.specs.inner.Shapes.{Shape, one_byte, two_byte, eight_byte, array, pair, values_at, times, through}
 use Rattle.paw_state.specs.inner.Shapes.{FieldRows, field, last_field, made_of}
-use Rattle.paw_state.specs.declared.fields.TheConstants.{HELD_LENGTH}
+use Rattle.paw_state.specs.declared.fields.TheConstants.{POSITION_LENGTH}
 use Rattle.paw_state.specs.declared.position_field.PositionField.{PositionField}
-use Rattle.paw_state.specs.Fields.{IsSizedHeld}
-use Rattle.paw_state.specs.inner.Fields.{frame_shape, loop_shape, held_shape}
+use Rattle.paw_state.specs.Fields.{IsSizedPosition}
+use Rattle.paw_state.specs.inner.Fields.{frame_shape, loop_shape, position_shape}
 use Rattle.paw_state.proofs.Pieces.{range_is, behind, byte_is, range_join, byte_range, length_range, range_bytes}
 use Rattle.paw_state.proofs.Pieces.{each_byte}
 
@@ -205,17 +205,17 @@ loop_shape_sound =
     (field_sound _ _ _ one_byte_sound
     (last_sound _ _ one_byte_sound))))))
 
-pub held_shape_sound : IsSound held_shape
+pub held_shape_sound : IsSound position_shape
 held_shape_sound =
     made_of_sound _ _ (λ h. refl) (λ p. refl)
     (field_sound _ _ _ one_byte_sound
     (field_sound _ _ _ (array_sound 256)
     (last_sound _ _ (array_sound 255))))
 
-pub held_fits : (h : PositionField) → IsSizedHeld h → held_shape.fits h
+pub held_fits : (h : PositionField) → IsSizedPosition h → position_shape.fits h
 held_fits h s = (tt, (s.flags, s.places))
 
-pub length-held : (h : PositionField) → IsSizedHeld h → length (held_shape.bytes h) ≡ HELD_LENGTH
+pub length-held : (h : PositionField) → IsSizedPosition h → length (position_shape.bytes h) ≡ POSITION_LENGTH
 length-held h s = held_shape_sound.long h (held_fits h s)
 
 pub same_held : (a b : PositionField) → a.there ≡ b.there → a.flags ≡ b.flags → a.places ≡ b.places → a ≡ b

@@ -21,18 +21,18 @@ use Rattle.paw_process.specs.inner.Kept.{loop_stands}
 use Rattle.paw_process.proofs.OpenFrames.{table_of}
 use Rattle.paw_process.specs.inner.Kept.{first_frame_fault as machine_rows, loop_fault as machine_loop}
 use Rattle.paw_process.proofs.Restored.{first_of, second}
-use Rattle.paw_state.specs.declared.fields.TheConstants.{HELD_LENGTH}
+use Rattle.paw_state.specs.declared.fields.TheConstants.{POSITION_LENGTH}
 use Rattle.paw_state.specs.declared.fields.FrameField.{FrameField}
 use Rattle.paw_state.specs.declared.position_field.PositionField.{PositionField}
 use Rattle.paw_state.specs.State.{AreBytes, HoldsBytes}
-use Rattle.paw_state.specs.State.{held_of, frame_field_of}
+use Rattle.paw_state.specs.State.{position_field_of, frame_field_of}
 use Rattle.paw_state.specs.inner.State.{loop_or_zeros}
 use Rattle.paw_state.specs.inner.Shapes.{values_at}
-use Rattle.paw_state.specs.inner.Fields.{held_shape}
+use Rattle.paw_state.specs.inner.Fields.{position_shape}
 use Rattle.paw_state.specs.inner.Parts.{held_in}
 use Rattle.paw_state.proofs.Pieces.{range_bytes}
 use Rattle.paw_state.proofs.Positions.{IsHeldOf}
-use Rattle.paw_state.specs.Fields.{IsSizedHeld}
+use Rattle.paw_state.specs.Fields.{IsSizedPosition}
 use Rattle.paw_state.proofs.Found.{length-zeros, length-filled}
 
 -- ---- the state that is read ----
@@ -44,16 +44,16 @@ held_fits n h flags places = go (h.there == 0)
     go true = tt
     go false = (flags, All-take (λ (b : ℕ). b < 256) n h.places places)
 
-pub held_at_fits : (n at : ℕ) (bytes : List ℕ) → AreBytes bytes → HoldsBytes (held_in n (held_shape.value bytes at))
+pub held_at_fits : (n at : ℕ) (bytes : List ℕ) → AreBytes bytes → HoldsBytes (held_in n (position_shape.value bytes at))
 held_at_fits n at bytes h =
-    held_fits n (held_shape.value bytes at) (range_bytes bytes (at + 1) (at + 1 + 256) h) (range_bytes bytes (at + 1 + 256) (at + 1 + 256 + 255) h)
+    held_fits n (position_shape.value bytes at) (range_bytes bytes (at + 1) (at + 1 + 256) h) (range_bytes bytes (at + 1 + 256) (at + 1 + 256 + 255) h)
 
-pub helds_at_fit : (n m at : ℕ) (bytes : List ℕ) → AreBytes bytes → All HoldsBytes (map (held_in n) (values_at held_shape m bytes at))
+pub helds_at_fit : (n m at : ℕ) (bytes : List ℕ) → AreBytes bytes → All HoldsBytes (map (held_in n) (values_at position_shape m bytes at))
 unfolding values_at
 helds_at_fit n zero at bytes h = All-nil HoldsBytes
 helds_at_fit n (suc m) at bytes h =
-    All-cons HoldsBytes (held_in n (held_shape.value bytes at)) (map (held_in n) (values_at held_shape m bytes (at + HELD_LENGTH))) (held_at_fits n at bytes h)
-    (helds_at_fit n m (at + HELD_LENGTH) bytes h)
+    All-cons HoldsBytes (held_in n (position_shape.value bytes at)) (map (held_in n) (values_at position_shape m bytes (at + POSITION_LENGTH))) (held_at_fits n at bytes h)
+    (helds_at_fit n m (at + POSITION_LENGTH) bytes h)
 
 -- ---- the fields of a state ----
 
@@ -94,9 +94,9 @@ loop_fits g k (Some l) v h = go (loop_stands g k l) refl h
         coded g l.table l.entry l.at 86 (condact_at g l.table l.entry l.at) v refl (first_of (has_code 86 (condact_at g l.table l.entry l.at)) _ s2)
     go false e q = cc
 
-pub held_size : (g : GameLists) (o : Option Position) → Valid g → IsHeldOf g o → IsSizedHeld (held_of o)
+pub held_size : (g : GameLists) (o : Option Position) → Valid g → IsHeldOf g o → IsSizedPosition (position_field_of o)
 held_size g None v h = record { flags = length-zeros 256; places = length-zeros 255 }
 held_size g (Some q) v h = record { flags = h.flags; places = length-filled q.places (omega (arith, h.each, few_objects g v)) }
 
-pub kept_size : (g : GameLists) (kept : List (Option Position)) → Valid g → All (IsHeldOf g) kept → All IsSizedHeld (map held_of kept)
-kept_size g kept v h = All-map IsSizedHeld held_of kept (λ k d low. held_size g (get_or kept k d) v (h k d low))
+pub kept_size : (g : GameLists) (kept : List (Option Position)) → Valid g → All (IsHeldOf g) kept → All IsSizedPosition (map position_field_of kept)
+kept_size g kept v h = All-map IsSizedPosition position_field_of kept (λ k d low. held_size g (get_or kept k d) v (h k d low))

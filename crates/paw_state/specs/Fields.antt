@@ -78,8 +78,9 @@ abbrev pub place_fields : Bytes → List Field
 place_fields places = one_by_one place_holds 0 places
 
 -- The fields of a position: 1 where it is there, its flags, and its places.
-abbrev pub held_fields : PositionField → List Field
-held_fields h = byte h.there (λ g. nat_le h.there 1) ∷ if_there h.there (flag_fields h.flags ++ place_fields h.places)
+abbrev pub position_fields : PositionField → List Field
+position_fields h =
+    byte h.there (λ g. nat_le h.there 1) ∷ if_there h.there (flag_fields h.flags ++ place_fields h.places)
 
 -- The fields of a frame, where n frames are used from this one on: table, entry, condact, and 1 where an action was
 -- carried out; all are 0 where n is 0. Its table is the one called, or 0, 1 or 2 for the outermost. The last used frame
@@ -155,17 +156,17 @@ unfoldable pub state_fields : Fields → List Field
 state_fields f =
     flag_fields f.flags
     ++ place_fields f.places
-    ++ held_fields f.saved
+    ++ position_fields f.saved
     ++ number_fields f
     ++ prompt_fields f
     ++ table_fields f
     ++ looping_fields f
     ++ pending_fields f
     ++ two f.piece (λ g. true)
-    ∷ flat_map held_fields f.kept
+    ∷ flat_map position_fields f.kept
 
 -- The arrays of a position have their full lengths.
-pub record IsSizedHeld (h : PositionField) : Type 0 where
+pub record IsSizedPosition (h : PositionField) : Type 0 where
   pub flags : length h.flags ≡ FLAG_COUNT
   pub places : length h.places ≡ OBJECT_LIMIT
 
@@ -173,7 +174,7 @@ pub record IsSizedHeld (h : PositionField) : Type 0 where
 pub record AreSized (f : Fields) : Type 0 where
   pub flags : length f.flags ≡ FLAG_COUNT
   pub places : length f.places ≡ OBJECT_LIMIT
-  pub saved : IsSizedHeld f.saved
+  pub saved : IsSizedPosition f.saved
   pub seed : f.seed < 2 ^ 64
   pub draws : f.draws < 2 ^ 64
   pub events : f.events < 2 ^ 64
@@ -184,4 +185,4 @@ pub record AreSized (f : Fields) : Type 0 where
   pub line : length f.line ≡ LINE_LIMIT
   pub piece : f.piece < 2 ^ 16
   pub four : length f.kept ≡ POSITION_COUNT
-  pub kept : All IsSizedHeld f.kept
+  pub kept : All IsSizedPosition f.kept

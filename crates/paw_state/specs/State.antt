@@ -58,9 +58,9 @@ abbrev pub filled_with_zeros : ℕ → Bytes → Bytes
 filled_with_zeros n bytes = bytes ++ zeros (n - length bytes)
 
 -- The fields of a position, with its flags and places; all of them 0 where there is no position.
-abbrev pub held_of : Option Position → PositionField
-held_of None = record { there = 0; flags = zeros FLAG_COUNT; places = zeros OBJECT_LIMIT }
-held_of (Some q) = record { there = 1; flags = q.flags; places = filled_with_zeros OBJECT_LIMIT q.places }
+abbrev pub position_field_of : Option Position → PositionField
+position_field_of None = record { there = 0; flags = zeros FLAG_COUNT; places = zeros OBJECT_LIMIT }
+position_field_of (Some q) = record { there = 1; flags = q.flags; places = filled_with_zeros OBJECT_LIMIT q.places }
 
 -- The code of a prompt, from 0 to 4.
 abbrev pub prompt_code : Prompt → ℕ
@@ -79,8 +79,8 @@ abbrev pub fields_of : State → Fields
 fields_of s = record {
   flags = s.world.flags;
   places = filled_with_zeros OBJECT_LIMIT s.world.places;
-  saved = held_of s.world.saved;
-  kept = map held_of s.world.kept;
+  saved = position_field_of s.world.saved;
+  kept = map position_field_of s.world.kept;
   seed = s.world.seed;
   draws = s.world.draws;
   events = s.events;

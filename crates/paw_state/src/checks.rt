@@ -4,9 +4,9 @@ ghost use Rattle.std.specs.Prelude.{◌≡◌, ◌+◌, ◌<◌, ◌≤◌, ◌^
 ghost use Rattle.std.specs.Prelude.{None, drop, ◌≢◌, ◌==◌, false};
 ghost use Rattle.std.specs.Option.{option_map_or, unwrap_or};
 ghost use Rattle.paw_game.specs.Valid.{Valid, is_place};
-ghost use Rattle.paw_state.specs.declared.fields.TheConstants.{HELD_LENGTH, FRAME_LENGTH, STATE_ROOM, SEED, PROMPT};
+ghost use Rattle.paw_state.specs.declared.fields.TheConstants.{POSITION_LENGTH, FRAME_LENGTH, STATE_ROOM, SEED, PROMPT};
 ghost use Rattle.paw_state.specs.declared.fields.TheConstants.{FRAMES, LOOPING, LOOP_LEVEL, EARLIER, LINE};
-ghost use Rattle.paw_state.specs.inner.Faults.{rule, first_not, is_zero, places_fault, absent_fault, held_fault};
+ghost use Rattle.paw_state.specs.inner.Faults.{rule, first_not, is_zero, places_fault, absent_fault, position_fault};
 ghost use Rattle.paw_state.specs.inner.Faults.{kept_fault, unused_fault, used_fault, frame_fault, frame_fields_fault};
 ghost use Rattle.paw_state.specs.inner.Fields.{parts_fault};
 ghost use Rattle.paw_state.specs.inner.Faults.{fault_of};
@@ -16,7 +16,7 @@ ghost use Rattle.paw_state.specs.Fields.{loop_fields, pending_fields, inside};
 use crate::StateFault;
 use crate::fields::{
     COUNT, DRAWS, EVENTS, FRAME_ACTED, FRAME_AT, FRAME_ENTRY, FRAME_LENGTH, FRAMES, Fields,
-    FrameField, HELD_FLAGS, HELD_LENGTH, HELD_PLACES, KEPT, LINE, LOOP_AT, LOOP_ENTRY, LOOP_LAST,
+    FrameField, POSITION_FLAGS, POSITION_LENGTH, POSITION_PLACES, KEPT, LINE, LOOP_AT, LOOP_ENTRY, LOOP_LAST,
     LOOP_LEVEL, LOOP_PLACE, LOOP_TABLE, LOOPING, PENDING, PLACES, PROMPT, SAVED,
 };
 use crate::position_field::PositionField;
@@ -77,36 +77,36 @@ fn check_places<T: Tables>(tables: &T, at: usize, places: &[u8; 255]) -> Result<
 
 // Checks the flags and the places of a position that isn't there.
 fn check_absent(at: usize, held: &PositionField) -> Result<(), StateFault>
-    requires near { at + HELD_LENGTH ≤ STATE_ROOM }
+    requires near { at + POSITION_LENGTH ≤ STATE_ROOM }
     ensures value { fault_of result ≡ absent_fault at held.now }
 {
-    all_zero(at + HELD_FLAGS, &held.flags)?;
-    all_zero(at + HELD_PLACES, &held.places)
+    all_zero(at + POSITION_FLAGS, &held.flags)?;
+    all_zero(at + POSITION_PLACES, &held.places)
 }
 
 // Checks a position that may be there.
 fn check_held<T: Tables>(tables: &T, at: usize, held: &PositionField) -> Result<(), StateFault>
-    requires near { at + HELD_LENGTH ≤ STATE_ROOM }
-    ensures value { fault_of result ≡ held_fault (T.game tables.now) at held.now }
+    requires near { at + POSITION_LENGTH ≤ STATE_ROOM }
+    ensures value { fault_of result ≡ position_fault (T.game tables.now) at held.now }
 {
     rule(at, held.there <= 1)?;
     if held.there == 0 {
         check_absent(at, held)
     } else {
-        check_places(tables, at + HELD_PLACES, &held.places)
+        check_places(tables, at + POSITION_PLACES, &held.places)
     }
 }
 
 // Checks these positions, the first of which stands at this offset.
 fn check_kept<T: Tables>(tables: &T, at: usize, kept: &[PositionField]) -> Result<(), StateFault>
-    requires near { at + HELD_LENGTH * length kept.now ≤ STATE_ROOM }
+    requires near { at + POSITION_LENGTH * length kept.now ≤ STATE_ROOM }
     ensures value { fault_of result ≡ kept_fault (T.game tables.now) at kept.now }
 {
     let Some((held, rest)) = kept.split_first() else {
         return Ok(());
     };
     check_held(tables, at, held)?;
-    check_kept(tables, at + HELD_LENGTH, rest)
+    check_kept(tables, at + POSITION_LENGTH, rest)
 }
 
 // Checks the numbers of lines and of draws.

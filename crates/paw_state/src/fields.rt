@@ -13,7 +13,7 @@ ghost use Rattle.paw_state.specs.State.{AreBytes};
 ghost use Rattle.paw_state.specs.State.{zeros, frame_field_of};
 ghost use Rattle.paw_game.specs.Image.{two_bytes};
 ghost use Rattle.paw_state.specs.inner.Shapes.{two_at, eight_at, values_at};
-ghost use Rattle.paw_state.specs.inner.Fields.{frame_shape, loop_shape, held_shape, after_piece};
+ghost use Rattle.paw_state.specs.inner.Fields.{frame_shape, loop_shape, position_shape, after_piece};
 ghost use Rattle.paw_state.specs.inner.Fields.{field_bytes, fields_at};
 
 use crate::position_field::PositionField;
@@ -36,16 +36,16 @@ pub const PLACES: usize = FLAGS + FLAG_COUNT;
 pub const SAVED: usize = PLACES + OBJECT_LIMIT;
 
 /// From the start of such a position, whose first byte is 1 where it is there and else 0, to its 256 flags.
-pub const HELD_FLAGS: usize = 1;
+pub const POSITION_FLAGS: usize = 1;
 
 /// From its start to its 255 places.
-pub const HELD_PLACES: usize = HELD_FLAGS + FLAG_COUNT;
+pub const POSITION_PLACES: usize = POSITION_FLAGS + FLAG_COUNT;
 
 /// The length of such a position.
-pub const HELD_LENGTH: usize = HELD_PLACES + OBJECT_LIMIT;
+pub const POSITION_LENGTH: usize = POSITION_PLACES + OBJECT_LIMIT;
 
 /// The seed of the random words: eight bytes, as for the next two.
-pub const SEED: usize = SAVED + HELD_LENGTH;
+pub const SEED: usize = SAVED + POSITION_LENGTH;
 
 /// The number of words that were drawn.
 pub const DRAWS: usize = SEED + 8;
@@ -199,9 +199,9 @@ fn kept_at(bytes: &[u8; STATE_ROOM]) -> [PositionField; POSITION_COUNT]
 {
     [
         PositionField::at(bytes, KEPT),
-        PositionField::at(bytes, KEPT + HELD_LENGTH),
-        PositionField::at(bytes, KEPT + 2 * HELD_LENGTH),
-        PositionField::at(bytes, KEPT + 3 * HELD_LENGTH),
+        PositionField::at(bytes, KEPT + POSITION_LENGTH),
+        PositionField::at(bytes, KEPT + 2 * POSITION_LENGTH),
+        PositionField::at(bytes, KEPT + 3 * POSITION_LENGTH),
     ]
 }
 
@@ -288,7 +288,7 @@ impl Fields {
     // Writes flags and places, now and in the saved position.
     fn put_world(&self, writer: &mut Writer)
         requires room { length writer.old + SEED ≤ STATE_ROOM }
-        ensures writes { WritesField (self.now.flags ++ (self.now.places ++ held_shape.bytes self.now.saved))
+        ensures writes { WritesField (self.now.flags ++ (self.now.places ++ position_shape.bytes self.now.saved))
             SEED writer.old writer.new }
     {
         writer.put(&self.flags);

@@ -10,7 +10,7 @@ ghost use Rattle.paw_process.specs.inner.Kept.{machine_restored, waiting_at, Wai
 ghost use Rattle.paw_world.specs.World.{kept_position, IsWorld};
 ghost use Rattle.paw_state.specs.declared.fields.TheConstants.{PIECE, STATE_ROOM};
 ghost use Rattle.paw_state.specs.State.{AreBytes, HoldsBytes, FitsFields};
-ghost use Rattle.paw_state.specs.State.{zeros, filled_with_zeros, held_of, prompt_code, frame_field_of};
+ghost use Rattle.paw_state.specs.State.{zeros, filled_with_zeros, position_field_of, prompt_code, frame_field_of};
 ghost use Rattle.paw_state.specs.State.{fields_of, state_bytes};
 ghost use Rattle.paw_state.specs.Fit.{Fit, Unfit};
 ghost use Rattle.paw_state.specs.inner.Fields.{parts_fault};
@@ -265,7 +265,7 @@ fn loop_or_zeros(turning: Option<OpenLoop>) -> OpenLoop
 // The fields of a position with these flags and places.
 fn position_field(flags: &[u8; 256], places: &[u8]) -> PositionField
     requires few { length places.now ≤ 255 }
-    ensures value { result ≡ held_of (Some (record { flags = flags.now; places = places.now })) }
+    ensures value { result ≡ position_field_of (Some (record { flags = flags.now; places = places.now })) }
     ensures bytes { HoldsBytes (Some (record { flags = flags.now; places = places.now })) }
 {
     PositionField {
@@ -278,7 +278,7 @@ fn position_field(flags: &[u8; 256], places: &[u8]) -> PositionField
 // The fields of the saved position, if there is one.
 fn saved_of(world: &World) -> PositionField
     requires few { IsWorld world.now }
-    ensures value { result ≡ held_of world.now.saved }
+    ensures value { result ≡ position_field_of world.now.saved }
     ensures bytes { HoldsBytes world.now.saved }
 {
     match world.saved_position() {
@@ -291,7 +291,7 @@ fn saved_of(world: &World) -> PositionField
 fn kept_of(world: &World, n: u8) -> PositionField
     requires few { IsWorld world.now }
     requires known { n < POSITION_COUNT }
-    ensures value { result ≡ held_of (kept_position world.now n) }
+    ensures value { result ≡ position_field_of (kept_position world.now n) }
     ensures bytes { HoldsBytes (kept_position world.now n) }
 {
     match world.kept_position(n) {
@@ -303,7 +303,7 @@ fn kept_of(world: &World, n: u8) -> PositionField
 // The fields of the kept positions.
 fn all_kept(world: &World) -> [PositionField; POSITION_COUNT]
     requires few { IsWorld world.now }
-    ensures value { result ≡ map held_of world.now.kept }
+    ensures value { result ≡ map position_field_of world.now.kept }
     ensures bytes { All HoldsBytes world.now.kept }
 {
     [

@@ -10,7 +10,7 @@ use Rattle.paw_game.specs.Game.{GameLists}
 use Rattle.paw_game.specs.Tables.{head_at, condact_at}
 use Rattle.paw_game.specs.Valid.{is_place}
 use Rattle.paw_process.specs.Kept.{may_open, has_code, parameter_of}
-use Rattle.paw_state.specs.declared.fields.TheConstants.{HELD_FLAGS, HELD_PLACES, HELD_LENGTH}
+use Rattle.paw_state.specs.declared.fields.TheConstants.{POSITION_FLAGS, POSITION_PLACES, POSITION_LENGTH}
 use Rattle.paw_state.specs.declared.fields.TheConstants.{FRAME_LENGTH, FRAME_ENTRY, FRAME_AT}
 use Rattle.paw_state.specs.declared.fields.TheConstants.{FRAME_ACTED}
 use Rattle.paw_state.specs.declared.fields.FrameField.{FrameField}
@@ -52,22 +52,22 @@ places_fault g at places = first (
 -- The first fault of a position that isn't there: its flags and its places are 0.
 abbrev pub absent_fault : ℕ → PositionField → Option ℕ
 absent_fault at h = first (
-    first_not is_zero (at + HELD_FLAGS) h.flags
-    ∷ first_not is_zero (at + HELD_PLACES) h.places
+    first_not is_zero (at + POSITION_FLAGS) h.flags
+    ∷ first_not is_zero (at + POSITION_PLACES) h.places
     ∷ [])
 
 -- The first fault of a position: 0 or 1 says whether it is there; one that isn't has zeros alone, and the places of one
 -- that is are like those of now.
-abbrev pub held_fault : GameLists → ℕ → PositionField → Option ℕ
-held_fault g at h = first (
+abbrev pub position_fault : GameLists → ℕ → PositionField → Option ℕ
+position_fault g at h = first (
     rule at (nat_le h.there 1)
-    ∷ (if h.there == 0 then absent_fault at h else places_fault g (at + HELD_PLACES) h.places)
+    ∷ (if h.there == 0 then absent_fault at h else places_fault g (at + POSITION_PLACES) h.places)
     ∷ [])
 
 -- The first fault of positions that stand one after the other from this offset on.
 unfoldable pub kept_fault : GameLists → ℕ → List PositionField → Option ℕ
 kept_fault g at [] = None
-kept_fault g at (h ∷ hs) = option_or (held_fault g at h) (kept_fault g (at + HELD_LENGTH) hs)
+kept_fault g at (h ∷ hs) = option_or (position_fault g at h) (kept_fault g (at + POSITION_LENGTH) hs)
 
 -- The first fault of an unused frame: it is 0.
 abbrev pub unused_fault : ℕ → FrameField → Option ℕ

@@ -13,7 +13,7 @@ use Rattle.paw_state.specs.declared.fields.Fields.{Fields}
 use Rattle.paw_state.specs.declared.position_field.PositionField.{PositionField}
 use Rattle.paw_state.specs.declared.fields.TheConstants.{PLACES, SAVED, SEED, PROMPT, FRAMES, LOOPING, EARLIER, KEPT}
 use Rattle.paw_state.specs.Fields.{fault_from, number_fields, prompt_fields, looping_fields, pending_fields, inside}
-use Rattle.paw_state.specs.inner.Faults.{first, places_fault, held_fault, frame_fields_fault, kept_fault}
+use Rattle.paw_state.specs.inner.Faults.{first, places_fault, position_fault, frame_fields_fault, kept_fault}
 use Rattle.paw_state.specs.inner.Shapes.{Shape, one_byte, two_byte, eight_byte, array, times}
 use Rattle.paw_state.specs.inner.Shapes.{field, last_field, made_of}
 
@@ -51,8 +51,8 @@ abbrev pub held_with : ℕ → Bytes → Bytes → PositionField
 held_with there flags places = record { there = there; flags = flags; places = places }
 
 -- A position that may be there: whether it is, its flags, and its places.
-abbrev pub held_shape : Shape PositionField
-held_shape = made_of held_with
+abbrev pub position_shape : Shape PositionField
+position_shape = made_of held_with
     (field (λ h. h.there) one_byte
     (field (λ h. h.flags) (array FLAG_COUNT)
     (last_field (λ h. h.places) (array OBJECT_LIMIT))))
@@ -85,7 +85,7 @@ abbrev pub fields_shape : Shape Fields
 fields_shape = made_of fields_with
     (field (λ f. f.flags) (array FLAG_COUNT)
     (field (λ f. f.places) (array OBJECT_LIMIT)
-    (field (λ f. f.saved) held_shape
+    (field (λ f. f.saved) position_shape
     (field (λ f. f.seed) eight_byte
     (field (λ f. f.draws) eight_byte
     (field (λ f. f.events) eight_byte
@@ -98,11 +98,11 @@ fields_shape = made_of fields_with
     (field (λ f. f.pending) one_byte
     (field (λ f. f.line) (array LINE_LIMIT)
     (field (λ f. f.piece) two_byte
-    (last_field (λ f. f.kept) (times POSITION_COUNT held_shape)))))))))))))))))
+    (last_field (λ f. f.kept) (times POSITION_COUNT position_shape)))))))))))))))))
 
 -- The bytes after the length of the last piece, which a state of version 1 doesn't have: those of the kept positions.
 abbrev pub after_piece : Fields → Bytes
-after_piece f = flat_map held_shape.bytes f.kept
+after_piece f = flat_map position_shape.bytes f.kept
 
 -- The bytes of a state's fields.
 abbrev pub field_bytes : Fields → Bytes
@@ -118,7 +118,7 @@ fields_at bytes = fields_shape.value bytes 0
 abbrev pub parts_fault : GameLists → Fields → Option ℕ
 parts_fault g f = first (
     places_fault g PLACES f.places
-    ∷ held_fault g SAVED f.saved
+    ∷ position_fault g SAVED f.saved
     ∷ fault_from g SEED (number_fields f)
     ∷ fault_from g PROMPT (prompt_fields f)
     ∷ frame_fields_fault g (unwrap_or (inside f) 0) None f.count FRAMES f.rows

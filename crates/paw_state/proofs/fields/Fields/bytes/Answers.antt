@@ -6,7 +6,7 @@ use Rattle.paw_base.specs.declared.layout.TheConstants.{STATE_LENGTH}
 use Rattle.paw_game.specs.Image.{two_bytes}
 use Rattle.paw_state.specs.declared.fields.TheConstants.{STATE_ROOM}
 use Rattle.paw_state.specs.State.{zeros}
-use Rattle.paw_state.specs.inner.Fields.{frame_shape, loop_shape, held_shape, after_piece}
+use Rattle.paw_state.specs.inner.Fields.{frame_shape, loop_shape, position_shape, after_piece}
 use Rattle.paw_state.proofs.fields.Fields.bytes.Goals as goal
 
 -- Fields that were written one after the other.
@@ -21,7 +21,7 @@ all_written w0 w1 w2 w3 w4 w5 last a b c n p r e l y k e0 e1 e2 e3 e4 e5 size h 
 pub returns : goal.returns
 returns c = record {
   value = let f = c.args.self.now in
-      all_written _ _ _ _ _ _ _ f.flags f.places (held_shape.bytes f.saved)
+      all_written _ _ _ _ _ _ _ f.flags f.places (position_shape.bytes f.saved)
       (to_le_bytes w64 f.seed ++ (to_le_bytes w64 f.draws ++ to_le_bytes w64 f.events)) (f.prompt ∷ f.count ∷ [])
       (flat_map frame_shape.bytes f.rows) (f.looping ∷ loop_shape.bytes f.turning) (f.earlier ∷ f.pending ∷ f.line) (two_bytes f.piece)
       (after_piece f) c.new-writer.ensures.value c.put_world.ensures.writes.puts c.put_numbers.ensures.writes.puts
