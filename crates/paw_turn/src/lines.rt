@@ -71,7 +71,7 @@ impl PlayState {
         requires closed { IsClosed self.old.machine }
         ensures meaning { (X : RoutineAnswers) → let g = story_of (T.game tables.now) X in
             PlaysAs g (from_prompt g prompt.Main self.old line.now) self.old result self.new }
-        ensures keeps { StaysInGame (T.game tables.now) self.old result self.new }
+        ensures stays { StaysInGame (T.game tables.now) self.old result self.new }
     {
         if is_timeout(line) {
             flags::tell_timeout(&mut self.surroundings.world, true);
@@ -90,7 +90,7 @@ impl PlayState {
         requires waits { WaitsIn prompt.Again self.old.machine }
         ensures meaning { (X : RoutineAnswers) → let g = story_of (T.game tables.now) X in
             PlaysAs g (from_prompt g prompt.Again self.old line.now) self.old result self.new }
-        ensures keeps { StaysInGame (T.game tables.now) self.old result self.new }
+        ensures stays { StaysInGame (T.game tables.now) self.old result self.new }
     {
         flags::tell_timeout(&mut self.surroundings.world, is_timeout(line));
         self.machine.close();
@@ -118,7 +118,7 @@ impl<T: Tables, F: Fn(u8, u8) -> u8> TurnRules<'_, T, F> {
         requires ready { MayHear (T.game self.now.tables.now) prompt state.old }
         ensures meaning { InStories F.Fn self.now.routines.now (T.game self.now.tables.now) (λ g.
             PlaysAs g (from_prompt g prompt state.old line.now) state.old (next.Stop result) state.new) }
-        ensures keeps { StaysInGame (T.game self.now.tables.now) state.old (next.Stop result) state.new }
+        ensures stays { StaysInGame (T.game self.now.tables.now) state.old (next.Stop result) state.new }
     {
         match self.hear(state, prompt, line) {
             Next::Go(phase) => self.play(state, phase),
@@ -133,7 +133,7 @@ impl<T: Tables, F: Fn(u8, u8) -> u8> TurnRules<'_, T, F> {
         requires ready { MayHear (T.game self.now.tables.now) prompt state.old }
         ensures meaning { InStories F.Fn self.now.routines.now (T.game self.now.tables.now) (λ g.
             PlaysAs g (from_prompt g prompt state.old line.now) state.old result state.new) }
-        ensures keeps { StaysInGame (T.game self.now.tables.now) state.old result state.new }
+        ensures stays { StaysInGame (T.game self.now.tables.now) state.old result state.new }
     {
         if is_ignored(&state.surroundings.world, line) {
             return Next::Stop(TurnStop::Waits(prompt));
@@ -152,7 +152,7 @@ impl<T: Tables, F: Fn(u8, u8) -> u8> TurnRules<'_, T, F> {
         requires ready { MayAnswer (T.game self.now.tables.now) prompt line.now state.old }
         ensures meaning { InStories F.Fn self.now.routines.now (T.game self.now.tables.now) (λ g.
             PlaysAs g (from_prompt g prompt state.old line.now) state.old result state.new) }
-        ensures keeps { StaysInGame (T.game self.now.tables.now) state.old result state.new }
+        ensures stays { StaysInGame (T.game self.now.tables.now) state.old result state.new }
     {
         let table = state.machine.first_table();
         let turned = self.run_answered(state, prompt, line);

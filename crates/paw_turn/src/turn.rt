@@ -181,7 +181,7 @@ impl PlayState {
             self.old result self.new }
         ensures same { self.new ≡ with_piece self.new.surroundings.piece self.old }
         ensures falls { Falls (work phase self.old + 1) result self.new }
-        ensures keeps { StaysInGame (T.game tables.now) self.old result self.new }
+        ensures stays { StaysInGame (T.game tables.now) self.old result self.new }
     {
         or_spent(self.put_message(tables, message), Next::Go(phase))
     }
@@ -228,7 +228,7 @@ impl PlayState {
         requires ready { MayGoOn (T.game tables.now) self.old }
         ensures meaning { (X : RoutineAnswers) → let g = story_of (T.game tables.now) X in
             Moves g (λ n r. after_phrase g (turn g n) r IsNoPhrase) self.old result self.new }
-        ensures keeps { StaysInGame (T.game tables.now) self.old result self.new }
+        ensures stays { StaysInGame (T.game tables.now) self.old result self.new }
         ensures falls { (most : ℕ) → Falls most result self.new }
         ensures machine { self.new.machine ≡ self.old.machine }
     {
@@ -246,7 +246,7 @@ impl PlayState {
         ensures meaning { (X : RoutineAnswers) → let g = story_of (T.game tables.now) X in
             Moves g (λ n r. saying (refusal_text (T.game tables.now) r.world) (turn g n AtTimeFrame) (line_dropped r))
             self.old result self.new }
-        ensures keeps { StaysInGame (T.game tables.now) self.old result self.new }
+        ensures stays { StaysInGame (T.game tables.now) self.old result self.new }
         ensures falls { Falls (work phase.Response self.old) result self.new }
         ensures machine { self.new.machine ≡ self.old.machine }
     {
@@ -264,7 +264,7 @@ impl PlayState {
         requires ready { MayGoOn (T.game tables.now) self.old }
         ensures meaning { (X : RoutineAnswers) → let g = story_of (T.game tables.now) X in
             Moves g (λ n r. after_left g (turn g n) 0 false r) self.old result self.new }
-        ensures keeps { StaysInGame (T.game tables.now) self.old result self.new }
+        ensures stays { StaysInGame (T.game tables.now) self.old result self.new }
         ensures falls { Falls (work phase.Response self.old) result self.new }
         ensures machine { self.new.machine ≡ self.old.machine }
     {
@@ -283,7 +283,7 @@ impl PlayState {
         requires ready { MayGoOn (T.game tables.now) self.old }
         ensures meaning { (X : RoutineAnswers) → let g = story_of (T.game tables.now) X in
             Moves g (λ n r. after_left g (turn g n) table acted r) self.old result self.new }
-        ensures keeps { StaysInGame (T.game tables.now) self.old result self.new }
+        ensures stays { StaysInGame (T.game tables.now) self.old result self.new }
         ensures falls { Falls (4 * left_of self.old + table_rank table) result self.new }
         ensures machine { self.new.machine ≡ self.old.machine }
     {
@@ -305,7 +305,7 @@ impl PlayState {
         ensures meaning { (X : RoutineAnswers) →
             MovesAfter (story_of (T.game tables.now) X) table turned self.old result self.new }
         ensures left { ReadsNone self.old.machine self.new.machine }
-        ensures keeps { StaysInGame (T.game tables.now) self.old result self.new }
+        ensures stays { StaysInGame (T.game tables.now) self.old result self.new }
         ensures falls { FallsAfter table turned self.old result self.new }
     {
         match turned {
@@ -322,7 +322,7 @@ impl PlayState {
         requires ready { MayGoOn (T.game tables.now) self.old }
         ensures meaning { (X : RoutineAnswers) → let g = story_of (T.game tables.now) X in
             Moves g (λ n r. turn g (suc n) AtPhrase r) self.old result self.new }
-        ensures keeps { StaysInGame (T.game tables.now) self.old result self.new }
+        ensures stays { StaysInGame (T.game tables.now) self.old result self.new }
         ensures falls { Falls (work phase.Phrase self.old) result self.new }
         ensures machine { self.new.machine ≡ self.old.machine }
     {
@@ -365,7 +365,7 @@ impl<T: Tables, F: Fn(u8, u8) -> u8> TurnRules<'_, T, F> {
         requires may { MayReadTables F.Fn self.now.routines.now (T.game self.now.tables.now) state.old }
         ensures meaning { InStories F.Fn self.now.routines.now (T.game self.now.tables.now) (λ g.
             ReadsTurn g (λ n r. table_done g (turn g n) table (table_read g table r)) state.old result state.new) }
-        ensures keeps { StaysInGame (T.game self.now.tables.now) state.old result state.new }
+        ensures stays { StaysInGame (T.game self.now.tables.now) state.old result state.new }
         ensures falls { Falls (4 * left_of state.old + table_rank table) result state.new }
     {
         let turned = self.run_table(state, table);
@@ -377,7 +377,7 @@ impl<T: Tables, F: Fn(u8, u8) -> u8> TurnRules<'_, T, F> {
         requires may { MayReadTables F.Fn self.now.routines.now (T.game self.now.tables.now) state.old }
         ensures meaning { InStories F.Fn self.now.routines.now (T.game self.now.tables.now) (λ g.
             ReadsTurn g (λ n r. turn g (suc n) AtDescribe r) state.old result state.new) }
-        ensures keeps { StaysInGame (T.game self.now.tables.now) state.old result state.new }
+        ensures stays { StaysInGame (T.game self.now.tables.now) state.old result state.new }
         ensures falls { Falls (work phase.Describe state.old) result state.new }
     {
         flags::describe(&mut state.surroundings.world);
@@ -393,7 +393,7 @@ impl<T: Tables, F: Fn(u8, u8) -> u8> TurnRules<'_, T, F> {
         requires may { MayReadTables F.Fn self.now.routines.now (T.game self.now.tables.now) state.old }
         ensures meaning { InStories F.Fn self.now.routines.now (T.game self.now.tables.now) (λ g.
             ReadsTurn g (λ n r. turn g (suc n) (at_phase phase) r) state.old result state.new) }
-        ensures keeps { StaysInGame (T.game self.now.tables.now) state.old result state.new }
+        ensures stays { StaysInGame (T.game self.now.tables.now) state.old result state.new }
         ensures falls { Falls (work phase state.old) result state.new }
     {
         match phase {
@@ -409,7 +409,7 @@ impl<T: Tables, F: Fn(u8, u8) -> u8> TurnRules<'_, T, F> {
         requires may { MayReadTables F.Fn self.now.routines.now (T.game self.now.tables.now) state.old }
         ensures meaning { InStories F.Fn self.now.routines.now (T.game self.now.tables.now) (λ g.
             Plays g first state.old (next.Stop result) state.new) }
-        ensures keeps { StaysInGame (T.game self.now.tables.now) state.old (next.Stop result) state.new }
+        ensures stays { StaysInGame (T.game self.now.tables.now) state.old (next.Stop result) state.new }
     {
         let mut phase = first;
         loop {

@@ -30,7 +30,7 @@ returns-clause-seated g c =
     start_seated g.F.Fn c.self.inside.rules.routines.now c.args.self.now (g.T.Tables.game c.self.inside.rules.tables.now)
     c.play-stop.new.state c.settle.new.self (step_of c.play-stop.result) c.requires.answers.0 c.requires.answers.1 c.requires.seated
     (ap (λ (q : PlayerView g.row.F.Denot). q.game) c.self.view_is)
-    c.settle.ensures.value c.play-stop.ensures.keeps.machine
+    c.settle.ensures.value c.play-stop.ensures.stays.machine
     (rw c.step_of.ensures.value at (returns-clause-meaning g c c.requires.answers.0 c.requires.answers.1))
 
 pub play-stop-requires : goal.play-stop-requires

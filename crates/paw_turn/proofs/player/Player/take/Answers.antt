@@ -47,5 +47,5 @@ returns-clause-seated g c =
     take_seated g.F.Fn c.self.inside.rules.routines.now c.args.self.now (g.T.Tables.game c.self.inside.rules.tables.now)
     c.take-stop.new.state c.settle.new.self
     (step_of c.take-stop.result) c.requires.answers.0 c.in-Waits.prompt c.args.line.now c.requires.answers.1 c.requires.seated
-    (ap (λ (q : PlayerView g.row.F.Denot). q.game) c.self.view_is) c.settle.ensures.value c.take-stop.ensures.keeps.machine waits line
+    (ap (λ (q : PlayerView g.row.F.Denot). q.game) c.self.view_is) c.settle.ensures.value c.take-stop.ensures.stays.machine waits line
     (rw c.step_of-2.ensures.value at (returns-clause-meaning g c c.requires.answers.0 c.requires.answers.1 c.in-Waits.prompt waits [] []))

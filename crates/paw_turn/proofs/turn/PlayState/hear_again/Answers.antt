@@ -21,8 +21,8 @@ returns-then-not-begins_with-clause-meaning g c X =
     (ap (λ (m : OpenTables). m.turning) c.close.ensures.value)
     (moved_none _ _ _ _ _ c.close.ensures.value) refl
 
-pub returns-then-not-begins_with-clause-keeps : goal.returns-then-not-begins_with-clause-keeps
-returns-then-not-begins_with-clause-keeps g c =
+pub returns-then-not-begins_with-clause-stays : goal.returns-then-not-begins_with-clause-stays
+returns-then-not-begins_with-clause-stays g c =
     let draws = ap (λ (w : World). w.draws) c.restart.ensures.change in
     let left = ap (λ (m : OpenTables). m.left) c.close.ensures.value in
     let of = restarted_of _ c.tell_timeout.new.world

@@ -12,7 +12,7 @@ loop-phase-init g c = record {
   playable = c.requires.may.ready.playable;
   read = c.requires.may.read;
   plays = λ X answers. plays_none (story_of (g.T.Tables.game c.args.self.now.tables.now) X) c.args.first c.args.state.now;
-  keeps = record {
+  stays = record {
     stays = record { world = c.requires.may.ready.playable.world; left = omega arith; draws = omega arith; most = refl };
     machine = c.requires.may.ready.closed;
   };
@@ -27,20 +27,20 @@ loop-phase-preserved g c =
     let after = c.phase.new.state in
     let own : Story = story_of (g.T.Tables.game c.args.self.now.tables.now) c.requires.may.answers.0 in
     record {
-      playable = record { world = e.keeps.stays.world; budget = omega arith; draws = omega arith };
+      playable = record { world = e.stays.stays.world; budget = omega arith; draws = omega arith };
       read = reads_read own (λ n r. turn own (suc n) (at_phase phase) r) before (next.Go c.in-Go.next) after
           (e.meaning c.requires.may.answers.0 c.requires.may.answers.1) v.read;
       plays = λ X answers.
           plays_on (story_of (g.T.Tables.game c.args.self.now.tables.now) X) c.args.first phase c.args.state.now before after
           (next.Go c.in-Go.next) (v.plays X answers) (e.meaning X answers);
-      keeps = record {
+      stays = record {
         stays = record {
-          world = e.keeps.stays.world;
+          world = e.stays.stays.world;
           left = omega arith;
           draws = omega arith;
-          most = e.keeps.stays.most ∙ v.keeps.stays.most;
+          most = e.stays.stays.most ∙ v.stays.stays.most;
         };
-        machine = e.keeps.machine;
+        machine = e.stays.machine;
       };
     }
 

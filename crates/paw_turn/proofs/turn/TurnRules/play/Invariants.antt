@@ -11,7 +11,7 @@ invariant-loop-phase g l = record {
   read : HasReadSome l.state.machine;
   plays : (X : List (List ℕ)) → AreAnswersOf g.F.Fn l.self.routines.now X →
       Plays (story_of (g.T.Tables.game l.self.tables.now) X) l.fn.first l.initial.state (next.Go l.phase) l.state;
-  keeps : StaysInGame (g.T.Tables.game l.self.tables.now) l.initial.state (next.Go l.phase) l.state;
+  stays : StaysInGame (g.T.Tables.game l.self.tables.now) l.initial.state (next.Go l.phase) l.state;
 }
 
 abbrev pub decreases-loop-phase : goal.decreases-loop-phase

@@ -14,7 +14,7 @@ returns-in-Go-clause-meaning g c X answers =
 pub play-requires : goal.play-requires
 play-requires g c =
     let own = story_of (g.T.Tables.game c.args.self.now.tables.now) c.requires.answers.0 in
-    let keeps = c.in-Go.ensures.keeps in
+    let stays = c.in-Go.ensures.stays in
     let playable = c.requires.ready.playable in
     record {
       may = record {
@@ -23,11 +23,11 @@ play-requires g c =
             (next.Go c.in-Go.phase) c.hear.new.state (c.in-Go.ensures.meaning c.requires.answers.0 c.requires.answers.1) c.requires.ready.read;
         ready = record {
           playable = record {
-            world = keeps.stays.world;
-            budget = omega (arith, keeps.stays.left, playable.budget);
-            draws = omega (arith, keeps.stays.draws, playable.draws);
+            world = stays.stays.world;
+            budget = omega (arith, stays.stays.left, playable.budget);
+            draws = omega (arith, stays.stays.draws, playable.draws);
           };
-          closed = keeps.machine;
+          closed = stays.machine;
         };
       };
     }
