@@ -16,7 +16,7 @@ use Rattle.paw_game.specs.Tables.{table_at}
 use Rattle.paw_game.specs.Valid.{Valid, is_within, is_table}
 use Rattle.paw_game.proofs.Kept.{first_of_and, second_of_and}
 use Rattle.paw_check.specs.declared.own.Own.TheVariants as own
-use Rattle.paw_check.specs.declared.places.Wanted.{Wanted}
+use Rattle.paw_check.specs.declared.spots.Wanted.{Wanted}
 use Rattle.paw_check.specs.declared.prints.Prints.{Prints}
 use Rattle.paw_check.specs.declared.verdict.Cause.TheVariants as cause
 use Rattle.paw_check.specs.declared.verdict.Verdict.TheVariants as verdict
@@ -28,7 +28,7 @@ use Rattle.paw_check.specs.Verdicts.{bounds, first_with, call_too_deep, circle_o
 use Rattle.paw_check.specs.inner.Capped.{in_32_bits}
 use Rattle.paw_check.specs.inner.Levels.{round_taken}
 use Rattle.paw_check.specs.inner.Own.{own_in}
-use Rattle.paw_check.specs.inner.Places.{is_wanted, spot_wanted, entry_wanted, any_in_table}
+use Rattle.paw_check.specs.inner.Spots.{is_wanted, spot_wanted, entry_wanted, any_in_table}
 use Rattle.paw_check.specs.inner.Texts.{ArePrints, most_outside, most_end}
 use Rattle.paw_check.specs.inner.Verdicts.{bound_or_cause}
 use Rattle.paw_check.proofs.Capped.{add_alike, product_alike, from_capped}

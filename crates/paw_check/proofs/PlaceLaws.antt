@@ -5,8 +5,8 @@ use Rattle.std.specs.Prelude.{slice_get, Option}
 use Rattle.std.specs.Option.{unwrap_or, option_map_or}
 use Rattle.std.proofs.lemmas.List.{drop_more}
 use Rattle.paw_game.specs.declared.parts.Entry.{Entry}
-use Rattle.paw_check.specs.declared.places.Wanted.{Wanted}
-use Rattle.paw_check.specs.inner.Places.{entry_wanted, spot_wanted}
+use Rattle.paw_check.specs.declared.spots.Wanted.{Wanted}
+use Rattle.paw_check.specs.inner.Spots.{entry_wanted, spot_wanted}
 
 place_at : (w : Wanted) (tables : List (List Entry)) (ns : List ℕ) (i d : ℕ) → i < length ns
     → spot_wanted w tables (drop i ns)

@@ -19,7 +19,7 @@ use Rattle.paw_effects.specs.Effects.{effect_of}
 use Rattle.paw_effects.proofs.Worlds.{IsWorldAt, world_at, world_is, flagged, facts_small, anew_so}
 use Rattle.paw_effects.proofs.Changes.{referred_so}
 use Rattle.paw_effects.proofs.EachRow.{effect_so, condition_so}
-use Rattle.paw_reading.specs.declared.places.OpenLoop.{OpenLoop}
+use Rattle.paw_reading.specs.declared.frames.OpenLoop.{OpenLoop}
 use Rattle.paw_reading.specs.Run.{Run, with_timeout}
 use Rattle.paw_reading.specs.Reading.{object_named, object_taken}
 

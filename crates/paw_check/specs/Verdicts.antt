@@ -17,7 +17,7 @@ use Rattle.paw_check.specs.Verbs.{does_one_of}
 use Rattle.paw_check.specs.Calls.{turn_tables, calls_table, called_below, reached_from, most_levels}
 use Rattle.paw_check.specs.Bounds.{most_condacts, most_piece}
 
--- ---- places ----
+-- ---- spots ----
 
 -- The number of the first entry that has such a condact.
 abbrev pub entry_with : (Condact → Bool) → List Entry → Option ℕ
@@ -48,7 +48,7 @@ circle_of_descriptions g = first_with g redescribes (reached_from g (DESCRIBED_T
 abbrev pub above : ℕ → ℕ → Option (ℕ × ℕ)
 above limit n = if nat_lt limit n then Some (0, 0) else None
 
--- The causes in their order, each with its place where it is found.
+-- The causes in their order, each with the table and the entry where it is found.
 abbrev pub causes : GameLists → List (Cause × Option (ℕ × ℕ))
 causes g =
     (cause.Calls, call_too_deep g) ∷ (cause.Redescribe, circle_of_descriptions g)
@@ -56,14 +56,14 @@ causes g =
 
 -- ---- the verdict ----
 
--- The verdict that no bound is known, for this cause at this place.
+-- The verdict that no bound is known, for this cause, at this table and entry.
 abbrev pub unknown : Cause → (ℕ × ℕ) → Verdict
 unknown why (t, e) = verdict.Unknown why t e
 
 -- The verdict by the first cause that is found, and the bound where there is none.
 abbrev pub first_cause : Verdict → List (Cause × Option (ℕ × ℕ)) → Verdict
 first_cause bound [] = bound
-first_cause bound ((why, place) ∷ others) = option_map_or (unknown why) place (first_cause bound others)
+first_cause bound ((why, spot) ∷ others) = option_map_or (unknown why) spot (first_cause bound others)
 
 -- The verdict on a game.
 unfoldable pub bounds : GameLists → Verdict

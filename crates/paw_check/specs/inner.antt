@@ -3,7 +3,7 @@ pub mod Condacts
 pub mod Capped
 pub mod Own
 pub mod Within
-pub mod Places
+pub mod Spots
 pub mod Found
 pub mod Levels
 pub mod Reached

@@ -12,7 +12,7 @@ ghost use Rattle.paw_check.specs.inner.Verdicts.{bound_or_cause};
 
 use crate::costs::round_cost;
 use crate::own::Own;
-use crate::places::Wanted;
+use crate::spots::Wanted;
 use crate::reached::reached_from;
 use crate::texts::{most_end, most_outside, prints_of};
 use crate::verdict::{Cause, Verdict};
@@ -77,7 +77,7 @@ fn bound_or_cause(
     })
 }
 
-// The verdict that no bound is known, for a cause that lies in no single place.
+// The verdict that no bound is known, for a cause that lies in no single table and entry.
 fn nowhere(cause: Cause) -> Verdict
     ensures value { result ≡ verdict.Unknown cause 0 0 }
 {
@@ -103,7 +103,7 @@ pub fn check(alloc: Global, game: &Game) -> Result<Verdict, NoRoom>
         parts,
         &[RESPONSE_TABLE, DESCRIBED_TABLE, FRAME_TABLE],
     )?;
-    if let Some((table, entry)) = Wanted::Call.place(tables, reached.deepest.as_slice()) {
+    if let Some((table, entry)) = Wanted::Call.spot(tables, reached.deepest.as_slice()) {
         return Ok(Verdict::Unknown {
             cause: Cause::Calls,
             table,
@@ -111,7 +111,7 @@ pub fn check(alloc: Global, game: &Game) -> Result<Verdict, NoRoom>
         });
     }
     let described = reached_from(alloc, parts, &[DESCRIBED_TABLE, FRAME_TABLE])?;
-    if let Some((table, entry)) = Wanted::Description.place(tables, described.all.as_slice()) {
+    if let Some((table, entry)) = Wanted::Description.spot(tables, described.all.as_slice()) {
         return Ok(Verdict::Unknown {
             cause: Cause::Redescribe,
             table,

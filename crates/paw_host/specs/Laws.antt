@@ -6,7 +6,7 @@ use Rattle.paw_base.specs.Bytes.{Bytes, Lines, Name, Seed, Text, Texts}
 use Rattle.paw_effects.specs.Story.{Story}
 use Rattle.paw_effects.specs.Standing.{AreBytes}
 use Rattle.paw_effects.specs.declared.act.Prompt.{Prompt}
-use Rattle.paw_reading.specs.declared.places.Frame.{Frame}
+use Rattle.paw_reading.specs.declared.frames.Frame.{Frame}
 use Rattle.paw_reading.specs.Run.{Run}
 use Rattle.paw_reading.specs.Turn.{WaitsAt, reading, pieces_of}
 use Rattle.paw_reading.specs.Bounds.{ValidStory}

@@ -12,7 +12,7 @@ use Rattle.paw_stage.specs.declared.StageCall.TheVariants as call
 use Rattle.paw_journal.proofs.Disks.{stable_leaves}
 use Rattle.paw_effects.specs.declared.act.Prompt.{Prompt}
 use Rattle.paw_effects.specs.declared.act.Prompt.TheVariants as prompt
-use Rattle.paw_reading.specs.declared.places.Frame.{Frame}
+use Rattle.paw_reading.specs.declared.frames.Frame.{Frame}
 use Rattle.paw_reading.specs.Run.{Run}
 use Rattle.paw_reading.specs.Turn.{Ending, WaitsAt, going_on_from, text_of}
 use Rattle.paw_process.specs.inner.OpenTables.{OpenTables, only_counting}

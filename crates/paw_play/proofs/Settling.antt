@@ -15,14 +15,14 @@ use Rattle.paw_effects.specs.inner.Worlds.{ArePlacesOf, StandsIn}
 use Rattle.paw_effects.specs.Standing.{AreBytes}
 use Rattle.paw_effects.specs.inner.Standing.{MayBePosition, IsWorldOf}
 use Rattle.paw_effects.proofs.Worlds.{few_objects, place_small}
-use Rattle.paw_reading.specs.declared.places.Frame.{Frame}
+use Rattle.paw_reading.specs.declared.frames.Frame.{Frame}
 use Rattle.paw_reading.specs.Run.{Run}
-use Rattle.paw_reading.specs.declared.places.Halt.TheVariants as halt
+use Rattle.paw_reading.specs.declared.frames.Halt.TheVariants as halt
 use Rattle.paw_reading.specs.Turn.{Ending, WaitsAt, Halted, reading}
 use Rattle.paw_reading.specs.inner.Bounds.{IsBounded}
 use Rattle.paw_reading.specs.inner.Pieces.{Counted}
-use Rattle.paw_reading.specs.Places.{waiting_code}
-use Rattle.paw_reading.specs.inner.Places.{AreOpenAt, StandsRightly, StopsRightly, StopsBounded}
+use Rattle.paw_reading.specs.Waits.{waiting_code}
+use Rattle.paw_reading.specs.inner.Waits.{AreOpenAt, StandsRightly, StopsRightly, StopsBounded}
 use Rattle.paw_reading.proofs.Counts.{pieces_of_lines}
 use Rattle.paw_reading.proofs.Rightly.{readings_stop_rightly, readings_are_bounded}
 use Rattle.paw_state.specs.State.{last_piece, state_at}

@@ -10,7 +10,7 @@ use Rattle.paw_stage.specs.Stage.{Standing, bytes_or_none}
 use Rattle.paw_stage.specs.declared.StageCall.TheVariants as call
 use Rattle.paw_effects.specs.declared.act.Prompt.{Prompt}
 use Rattle.paw_effects.specs.Standing.{AreBytes}
-use Rattle.paw_reading.specs.declared.places.Frame.{Frame}
+use Rattle.paw_reading.specs.declared.frames.Frame.{Frame}
 use Rattle.paw_reading.specs.Run.{Run}
 use Rattle.paw_reading.specs.Reading.{closes_piece}
 use Rattle.paw_reading.specs.Turn.{WaitsAt, reading, pieces_of}

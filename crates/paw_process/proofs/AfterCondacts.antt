@@ -11,7 +11,7 @@ use Rattle.paw_world.specs.World.{World, flag}
 use Rattle.paw_routines.specs.declared.routines.Routines.{Routines}
 use Rattle.paw_routines.specs.Routines.{AreAnswersOf}
 use Rattle.paw_effects.specs.Story.{Story, story_of}
-use Rattle.paw_reading.specs.declared.places.Frame.{Frame}
+use Rattle.paw_reading.specs.declared.frames.Frame.{Frame}
 use Rattle.paw_reading.specs.Run.{Run}
 use Rattle.paw_reading.specs.Reading.{Out}
 use Rattle.paw_process.specs.inner.OpenTables.{OpenTables}

@@ -14,10 +14,10 @@ use Rattle.paw_game.specs.Tables.{condact_at}
 use Rattle.paw_game.specs.Valid.{is_place}
 use Rattle.paw_effects.specs.declared.act.Prompt.{Prompt}
 use Rattle.paw_effects.specs.declared.act.Prompt.TheVariants as prompt
-use Rattle.paw_reading.specs.declared.places.Frame.{Frame}
-use Rattle.paw_reading.specs.declared.places.OpenLoop.{OpenLoop}
+use Rattle.paw_reading.specs.declared.frames.Frame.{Frame}
+use Rattle.paw_reading.specs.declared.frames.OpenLoop.{OpenLoop}
 use Rattle.paw_reading.specs.Turn.{first_table}
-use Rattle.paw_reading.specs.inner.Places.{LeadsTo, tables_of, IsLoopIn, AreOpenTo, AreOpenAt, AreFramesAndLoop}
+use Rattle.paw_reading.specs.inner.Waits.{LeadsTo, tables_of, IsLoopIn, AreOpenTo, AreOpenAt, AreFramesAndLoop}
 use Rattle.paw_process.specs.Kept.{frames_at, has_code, may_open, parameter_of}
 use Rattle.paw_process.specs.inner.Kept.{blank_frame}
 use Rattle.paw_process.specs.inner.Kept.{condact_at_frame, frame_stands, first_frame_fault}

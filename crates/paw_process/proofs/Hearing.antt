@@ -6,7 +6,7 @@ use Rattle.paw_game.specs.Valid.{Valid}
 use Rattle.paw_game.proofs.Kept.{table-short}
 use Rattle.paw_effects.specs.declared.act.Prompt.{Prompt}
 use Rattle.paw_effects.specs.declared.act.Prompt.TheVariants as prompt
-use Rattle.paw_reading.specs.declared.places.Frame.{Frame}
+use Rattle.paw_reading.specs.declared.frames.Frame.{Frame}
 use Rattle.paw_reading.specs.Run.{Run, is_ignored, with_line_heard, reply, is_yes}
 use Rattle.paw_reading.specs.Reading.{Out, prompt_asked, prompt_answered, deeper}
 use Rattle.paw_reading.specs.GoingOn.{on_path}

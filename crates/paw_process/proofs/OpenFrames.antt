@@ -6,8 +6,8 @@ use Rattle.std.proofs.lemmas.List.{reverse-append, reverse-reverse, length-take}
 use Rattle.std.proofs.Math.Seq.{take-suc, take-suc-set}
 use Rattle.paw_base.specs.inner.Steps.{KeptSteps}
 use Rattle.paw_effects.specs.declared.act.Prompt.{Prompt}
-use Rattle.paw_reading.specs.declared.places.Frame.{Frame}
-use Rattle.paw_reading.specs.declared.places.OpenLoop.{OpenLoop}
+use Rattle.paw_reading.specs.declared.frames.Frame.{Frame}
+use Rattle.paw_reading.specs.declared.frames.OpenLoop.{OpenLoop}
 use Rattle.paw_process.specs.inner.Kept.{machine_kept, blank_frame}
 use Rattle.paw_process.specs.inner.OpenTables.{OpenTables}
 use Rattle.paw_process.specs.inner.OpenTables.{below}

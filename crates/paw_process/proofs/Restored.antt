@@ -14,8 +14,8 @@ use Rattle.paw_game.specs.Valid.{Valid}
 use Rattle.paw_game.proofs.Kept.{condact-early, condact-small}
 use Rattle.paw_effects.specs.declared.act.Prompt.{Prompt}
 use Rattle.paw_effects.specs.declared.act.Prompt.TheVariants as prompt
-use Rattle.paw_reading.specs.declared.places.Frame.{Frame}
-use Rattle.paw_reading.specs.declared.places.OpenLoop.{OpenLoop}
+use Rattle.paw_reading.specs.declared.frames.Frame.{Frame}
+use Rattle.paw_reading.specs.declared.frames.OpenLoop.{OpenLoop}
 use Rattle.paw_process.specs.Kept.{has_code, may_open, parameter_of}
 use Rattle.paw_process.specs.inner.Kept.{is_that_table}
 use Rattle.paw_process.specs.inner.Kept.{condact_at_frame, frame_stands, first_frame_fault}

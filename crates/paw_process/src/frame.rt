@@ -10,7 +10,7 @@ use paw_base::limits::ENTRY_LIMIT;
 use paw_effects::act::Prompt;
 use paw_game::cursor::CondactCursor;
 use paw_phrase::Found;
-use paw_reading::places::Frame;
+use paw_reading::frames::Frame;
 
 /// The number just past the last entry that a table may have.
 pub const PAST_ENTRIES: u16 = ENTRY_LIMIT as u16;

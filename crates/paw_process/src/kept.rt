@@ -18,7 +18,7 @@ use paw_base::places::{CARRIED_PLACE, NOT_CREATED_PLACE};
 use paw_base::tables::FRAME_TABLE;
 use paw_effects::act::Prompt;
 use paw_game::tables::Tables;
-use paw_reading::places::{Frame, OpenLoop};
+use paw_reading::frames::{Frame, OpenLoop};
 
 /// The number of tables that may be open at once, as a byte; it is also the depth that stands for the open loop.
 const MOST_OPEN: u8 = MOST_FRAMES as u8;

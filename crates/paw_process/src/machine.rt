@@ -8,7 +8,7 @@ ghost use Rattle.paw_effects.specs.declared.act.Prompt.{Prompt as AtPrompt};
 ghost use Rattle.paw_effects.specs.declared.act.Prompt.TheVariants as prompt;
 ghost use Rattle.paw_reading.specs.Reading.{step_at};
 ghost use Rattle.paw_reading.specs.Turn.{first_table};
-ghost use Rattle.paw_reading.specs.inner.Places.{AreFramesAndLoop};
+ghost use Rattle.paw_reading.specs.inner.Waits.{AreFramesAndLoop};
 ghost use Rattle.paw_base.specs.declared.limits.TheConstants.{STEP_LIMIT};
 ghost use Rattle.paw_process.specs.declared.machine.TheConstants.{MOST_FRAMES};
 ghost use Rattle.paw_process.specs.inner.OpenTables.{OpenTables};
@@ -32,7 +32,7 @@ use paw_base::parts::Condact;
 use paw_base::steps::{StepRow, Steps};
 use paw_effects::act::Prompt;
 use paw_game::tables::Tables;
-use paw_reading::places::{Frame, OpenLoop};
+use paw_reading::frames::{Frame, OpenLoop};
 use paw_routines::routines::Routines;
 use std::marker::Model;
 

@@ -14,7 +14,7 @@ ghost use Rattle.paw_effects.specs.Holds.{is_condition};
 ghost use Rattle.paw_effects.specs.Texts.{put_text};
 ghost use Rattle.paw_effects.specs.declared.act.Effect.TheVariants as effects;
 ghost use Rattle.paw_effects.specs.declared.act.Prompt.TheVariants as prompt;
-ghost use Rattle.paw_reading.specs.declared.places.Frame.{Frame};
+ghost use Rattle.paw_reading.specs.declared.frames.Frame.{Frame};
 ghost use Rattle.paw_reading.specs.Run.{Run};
 ghost use Rattle.paw_reading.specs.Reading.{Left, deeper, printing, waits, loop_of};
 ghost use Rattle.paw_reading.specs.inner.Steps.{parses};
@@ -50,7 +50,7 @@ use paw_effects::text::put;
 use paw_game::cursor::CondactCursor;
 use paw_game::tables::Tables;
 use paw_phrase::Pending;
-use paw_reading::places::{Frame, Halt, OpenLoop};
+use paw_reading::frames::{Frame, Halt, OpenLoop};
 use paw_routines::routines::Routines;
 use paw_world::world::World;
 

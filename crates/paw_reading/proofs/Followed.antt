@@ -9,10 +9,10 @@ use Rattle.paw_world.specs.World.{flag, with_flag}
 use Rattle.paw_phrase.specs.Sentence.{Parsed, IsSentence, IsUnknown, IsNoPhrase}
 use Rattle.paw_effects.specs.declared.act.Prompt.{Prompt}
 use Rattle.paw_effects.specs.declared.act.Prompt.TheVariants as prompt
-use Rattle.paw_reading.specs.declared.places.Frame.{Frame}
+use Rattle.paw_reading.specs.declared.frames.Frame.{Frame}
 use Rattle.paw_reading.specs.Run.{Run, piece_closed, fits, text_printed, with_world, line_dropped, is_timeout, is_ignored, with_line_heard}
 use Rattle.paw_reading.specs.Run.{taken_phrase}
-use Rattle.paw_reading.specs.declared.places.Halt.TheVariants as halt
+use Rattle.paw_reading.specs.declared.frames.Halt.TheVariants as halt
 use Rattle.paw_reading.specs.Reading.{Redescribes, Restarts, Halts, Out, Left, Waits, Stopped, deeper, table_read}
 use Rattle.paw_reading.specs.Reading.{coming_phrase}
 use Rattle.paw_reading.specs.GoingOn.{on_path}
@@ -26,7 +26,7 @@ use Rattle.paw_reading.specs.Turn.{first_table, goes_on, timeout_text}
 use Rattle.paw_reading.specs.inner.Steps.{line_set, unknown_text}
 use Rattle.paw_reading.specs.inner.Turn.{ending_followed, GoingOnIsReading}
 use Rattle.paw_reading.specs.inner.Longer.{TurnsGoOn}
-use Rattle.paw_reading.specs.inner.Places.{IsLoopOf}
+use Rattle.paw_reading.specs.inner.Waits.{IsLoopOf}
 use Rattle.paw_reading.proofs.Keeps.{Keeps, reads_keeps, deeper_keeps}
 use Rattle.paw_reading.proofs.Stops.{Stops, rest_stops}
 use Rattle.paw_reading.proofs.Stays.{IsInner, Stays, rest_stays}

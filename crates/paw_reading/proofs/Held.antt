@@ -29,11 +29,11 @@ use Rattle.paw_effects.specs.Effects.{Done, effect_of}
 use Rattle.paw_effects.proofs.Asking.{AsksAt, Leads}
 use Rattle.paw_effects.proofs.EachRow.{effect_leads, condition_asks, effect_placed, condition_placed}
 use Rattle.paw_effects.proofs.Placed.{IsPlaced, doall_place, referred_placed, restarted_placed}
-use Rattle.paw_reading.specs.declared.places.Frame.{Frame}
-use Rattle.paw_reading.specs.declared.places.OpenLoop.{OpenLoop}
+use Rattle.paw_reading.specs.declared.frames.Frame.{Frame}
+use Rattle.paw_reading.specs.declared.frames.OpenLoop.{OpenLoop}
 use Rattle.paw_reading.specs.Run.{Run, piece_closed, fits, text_printed, with_world, anew, is_ignored, with_line_heard, reply, is_yes, is_no}
 use Rattle.paw_reading.specs.Run.{taken_phrase}
-use Rattle.paw_reading.specs.declared.places.Halt.TheVariants as halt
+use Rattle.paw_reading.specs.declared.frames.Halt.TheVariants as halt
 use Rattle.paw_reading.specs.Reading.{Restarts, Halts, Out, Left, Waits, Stopped, halts, step_noted, after_call, at_level}
 use Rattle.paw_reading.specs.Reading.{next_object_or, is_taken, object_named, object_taken, over_objects, loop_of, over, prompt_answered}
 use Rattle.paw_reading.specs.Reading.{prompt_asked, after_test, after_parse}
@@ -43,7 +43,7 @@ use Rattle.paw_reading.specs.Reading.{table_called, deeper, rest_of_table, table
 use Rattle.paw_reading.specs.GoingOn.{on_path}
 use Rattle.paw_reading.specs.Turn.{first_table}
 use Rattle.paw_reading.specs.inner.Steps.{goodbye, quit_question}
-use Rattle.paw_reading.specs.inner.Places.{IsAt, LeadsTo, tables_of, IsLoopIn}
+use Rattle.paw_reading.specs.inner.Waits.{IsAt, LeadsTo, tables_of, IsLoopIn}
 use Rattle.paw_reading.proofs.Lists.{drop_more}
 use Rattle.paw_reading.proofs.Keeps.{either, open_or_not, at_level_is, prints}
 

@@ -8,8 +8,8 @@ use Rattle.paw_effects.specs.Story.{Story}
 use Rattle.paw_game.specs.Tables.{table_at, entry_at}
 use Rattle.paw_effects.specs.declared.act.Prompt.{Prompt}
 use Rattle.paw_effects.specs.declared.act.Effect.TheVariants as effect
-use Rattle.paw_reading.specs.declared.places.Frame.{Frame}
-use Rattle.paw_reading.specs.declared.places.OpenLoop.{OpenLoop}
+use Rattle.paw_reading.specs.declared.frames.Frame.{Frame}
+use Rattle.paw_reading.specs.declared.frames.OpenLoop.{OpenLoop}
 use Rattle.paw_reading.specs.Run.{Run, without_loop, with_line_heard}
 use Rattle.paw_reading.specs.Reading.{Out, Left, Waits, Stopped, after_call, at_level, next_object_or, is_taken, object_taken}
 use Rattle.paw_reading.specs.Reading.{over_objects, loop_of, over, prompt_asked}

@@ -11,10 +11,10 @@ use Rattle.paw_world.specs.World.{flag, with_flag}
 use Rattle.paw_phrase.specs.Sentence.{Parsed, IsSentence, IsUnknown, IsNoPhrase}
 use Rattle.paw_effects.specs.declared.act.Prompt.{Prompt}
 use Rattle.paw_effects.specs.declared.act.Prompt.TheVariants as prompt
-use Rattle.paw_reading.specs.declared.places.Frame.{Frame}
+use Rattle.paw_reading.specs.declared.frames.Frame.{Frame}
 use Rattle.paw_reading.specs.Run.{Run, Step, piece_closed, fits, text_printed, with_world, line_dropped, is_timeout, is_ignored}
 use Rattle.paw_reading.specs.Run.{with_line_heard, taken_phrase}
-use Rattle.paw_reading.specs.declared.places.Halt.TheVariants as halt
+use Rattle.paw_reading.specs.declared.frames.Halt.TheVariants as halt
 use Rattle.paw_reading.specs.Reading.{Redescribes, Restarts, Halts, Out, Left, Waits, Stopped, rest_of_table}
 use Rattle.paw_reading.specs.Reading.{table_read, coming_phrase}
 use Rattle.paw_reading.specs.GoingOn.{on_path}

@@ -18,11 +18,11 @@ use Rattle.paw_effects.specs.declared.act.Prompt.{Prompt}
 use Rattle.paw_effects.specs.declared.act.Prompt.TheVariants as prompt
 use Rattle.paw_effects.proofs.Asking.{AsksAt}
 use Rattle.paw_effects.proofs.Placed.{IsPlaced, opened_placed}
-use Rattle.paw_reading.specs.declared.places.Frame.{Frame}
-use Rattle.paw_reading.specs.declared.places.OpenLoop.{OpenLoop}
+use Rattle.paw_reading.specs.declared.frames.Frame.{Frame}
+use Rattle.paw_reading.specs.declared.frames.OpenLoop.{OpenLoop}
 use Rattle.paw_reading.specs.Run.{Run, Step, piece_closed, fits, text_printed, with_world, line_dropped, is_timeout, is_ignored}
 use Rattle.paw_reading.specs.Run.{with_line_heard, taken_phrase}
-use Rattle.paw_reading.specs.declared.places.Halt.TheVariants as halt
+use Rattle.paw_reading.specs.declared.frames.Halt.TheVariants as halt
 use Rattle.paw_reading.specs.Reading.{Redescribes, Restarts, Halts, Out, Left, Waits, Stopped, table_read}
 use Rattle.paw_reading.specs.Reading.{coming_phrase}
 use Rattle.paw_reading.specs.Turn.{TurnPhase, AtDescribe, AtTimeFrame, AtPhrase, AtResponse, Ending, WaitsAt, Halted}
@@ -35,10 +35,10 @@ use Rattle.paw_reading.specs.inner.Steps.{line_set, in_table, unknown_text}
 use Rattle.paw_reading.specs.Bounds.{IsLine, ValidStory}
 use Rattle.paw_reading.specs.inner.Bounds.{IsBounded}
 use Rattle.paw_reading.specs.inner.Longer.{without_past, with_past, ending_with_past}
-use Rattle.paw_reading.specs.inner.Places.{LeadsTo, tables_of, AreOpenTo, AreFramesAndLoop, IsLineTaken, StandsRightly}
-use Rattle.paw_reading.specs.inner.Places.{StopsRightly, StopsBounded}
-use Rattle.paw_reading.specs.inner.Places.{ReadingsStopRightly, GoingOnStopsRightly, ReadingsAreBounded}
-use Rattle.paw_reading.specs.inner.Places.{GoingOnIsBounded}
+use Rattle.paw_reading.specs.inner.Waits.{LeadsTo, tables_of, AreOpenTo, AreFramesAndLoop, IsLineTaken, StandsRightly}
+use Rattle.paw_reading.specs.inner.Waits.{StopsRightly, StopsBounded}
+use Rattle.paw_reading.specs.inner.Waits.{ReadingsStopRightly, GoingOnStopsRightly, ReadingsAreBounded}
+use Rattle.paw_reading.specs.inner.Waits.{GoingOnIsBounded}
 use Rattle.paw_reading.proofs.Held.{Sound, Held, none_open, table_held, path_held}
 use Rattle.paw_reading.proofs.Keeps.{either}
 use Rattle.paw_reading.proofs.Past.{past_stays}

@@ -17,11 +17,11 @@ use Rattle.paw_effects.specs.Effects.{Done, effect_of}
 pub use Rattle.paw_effects.proofs.Asking.{IsInner}
 use Rattle.paw_effects.proofs.Asking.{AsksInner}
 use Rattle.paw_effects.proofs.EachRow.{effect_asks}
-use Rattle.paw_reading.specs.declared.places.Frame.{Frame}
-use Rattle.paw_reading.specs.declared.places.OpenLoop.{OpenLoop}
+use Rattle.paw_reading.specs.declared.frames.Frame.{Frame}
+use Rattle.paw_reading.specs.declared.frames.OpenLoop.{OpenLoop}
 use Rattle.paw_reading.specs.Run.{Run, piece_closed, fits, text_printed, with_world, anew, is_ignored, with_line_heard, reply, is_yes, is_no}
 use Rattle.paw_reading.specs.Run.{taken_phrase}
-use Rattle.paw_reading.specs.declared.places.Halt.TheVariants as halt
+use Rattle.paw_reading.specs.declared.frames.Halt.TheVariants as halt
 use Rattle.paw_reading.specs.Reading.{Restarts, Out, Left, Waits, Stopped, halts, step_noted, after_call, at_level}
 use Rattle.paw_reading.specs.Reading.{next_object_or, is_taken}
 use Rattle.paw_reading.specs.Reading.{object_taken, over_objects, loop_of, over, prompt_answered, prompt_asked, after_test, after_parse}
@@ -32,7 +32,7 @@ use Rattle.paw_reading.specs.Reading.{waits}
 use Rattle.paw_reading.specs.GoingOn.{on_path}
 use Rattle.paw_reading.specs.Turn.{first_table}
 use Rattle.paw_reading.specs.inner.Steps.{goodbye, quit_question}
-use Rattle.paw_reading.specs.inner.Places.{IsLoopOf}
+use Rattle.paw_reading.specs.inner.Waits.{IsLoopOf}
 use Rattle.paw_reading.proofs.Keeps.{either, open_or_not, at_level_is, prints}
 use Rattle.paw_reading.proofs.EachCondact.{plain_goes}
 

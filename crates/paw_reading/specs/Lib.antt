@@ -3,6 +3,6 @@ pub mod Reading
 pub mod GoingOn
 pub mod Turn
 pub mod Bounds
-pub mod Places
+pub mod Waits
 pub mod Saving
 pub mod inner

@@ -13,7 +13,7 @@ use Rattle.paw_base.specs.declared.words.TheConstants.{NO_WORD}
 pub use Rattle.paw_base.specs.declared.steps.StepRow.{StepRow as Step}
 use Rattle.paw_world.specs.World.{World, flag, with_flag, world_restarted}
 use Rattle.paw_phrase.specs.declared.Sentence.{Sentence}
-use Rattle.paw_reading.specs.declared.places.OpenLoop.{OpenLoop}
+use Rattle.paw_reading.specs.declared.frames.OpenLoop.{OpenLoop}
 
 -- What stands at one time in play: the world; the unread bytes of the line, and the verb of the phrase before; the open
 -- loop; text and steps of the open piece (each condact read in it, in order, with yes, or no for a condition that

@@ -6,5 +6,5 @@ pub mod Turn
 pub mod Longer
 pub mod Pieces
 pub mod Bounds
-pub mod Places
+pub mod Waits
 pub mod Saving

@@ -3,8 +3,8 @@
 ghost use Rattle.paw_reading.specs.inner.Longer.{TablesGoOn, PathsGoOn, TurnsGoOn, PastStays};
 ghost use Rattle.paw_reading.specs.inner.Longer.{LongerReading, LongerText};
 ghost use Rattle.paw_reading.specs.inner.Pieces.{PiecesOfLines};
-ghost use Rattle.paw_reading.specs.inner.Places.{ReadingsStopRightly, GoingOnStopsRightly};
-ghost use Rattle.paw_reading.specs.inner.Places.{ReadingsAreBounded, GoingOnIsBounded};
+ghost use Rattle.paw_reading.specs.inner.Waits.{ReadingsStopRightly, GoingOnStopsRightly};
+ghost use Rattle.paw_reading.specs.inner.Waits.{ReadingsAreBounded, GoingOnIsBounded};
 ghost use Rattle.paw_reading.specs.inner.Rules.{ReadingOn};
 ghost use Rattle.paw_reading.specs.inner.Saving.{ReadingsKeepNoPosition, GoingOnKeepsPositions};
 ghost use Rattle.paw_reading.specs.inner.Turn.{TurnsEnd, EndsOnce, GoingOnEnds, GoesOnOnce, WaitsOn, GoingOnIsReading};

@@ -1,7 +1,7 @@
 //! The reading of a game's tables in written order, the turn, and the reading of a list of lines: what play means.
 #![tactic(auto)]
 
+pub mod frames;
 pub mod laws;
-pub mod places;
 #[cfg(test)]
 mod tests;

@@ -11,7 +11,7 @@ use Rattle.paw_world.specs.World.{World, Position}
 use Rattle.paw_phrase.specs.Pending.{PendingLine}
 use Rattle.paw_effects.specs.declared.act.Prompt.{Prompt}
 use Rattle.paw_effects.specs.declared.act.Prompt.TheVariants as prompt
-use Rattle.paw_reading.specs.declared.places.OpenLoop.{OpenLoop}
+use Rattle.paw_reading.specs.declared.frames.OpenLoop.{OpenLoop}
 use Rattle.paw_process.specs.declared.kept.Frames.{Frames}
 use Rattle.paw_state.specs.declared.fields.TheConstants.{POSITION_LENGTH}
 use Rattle.paw_state.specs.declared.position_field.PositionField.{PositionField}

@@ -6,7 +6,7 @@ use Rattle.std.proofs.lemmas.Bool.{eqb-true, leb-true}
 use Rattle.paw_game.specs.declared.parts.Entry.{Entry}
 use Rattle.paw_game.specs.Game.{GameLists}
 use Rattle.paw_game.specs.Tables.{condacts_of, entry_at, head_at, condact_at}
-use Rattle.paw_reading.specs.declared.places.Frame.{Frame}
+use Rattle.paw_reading.specs.declared.frames.Frame.{Frame}
 use Rattle.paw_process.specs.Kept.{may_open, has_code, parameter_of}
 use Rattle.paw_process.specs.inner.Kept.{condact_at_frame, is_unused, frame_stands}
 use Rattle.paw_process.specs.inner.Kept.{first_frame_fault as machine_fault}

@@ -5,7 +5,7 @@ use Rattle.std.specs.Prelude.{flat_map}
 use Rattle.std.proofs.lemmas.Grind.{flat_map-append}
 use Rattle.paw_game.specs.Game.{GameLists}
 use Rattle.paw_game.specs.Tables.{condact_at}
-use Rattle.paw_reading.specs.declared.places.OpenLoop.{OpenLoop}
+use Rattle.paw_reading.specs.declared.frames.OpenLoop.{OpenLoop}
 use Rattle.paw_process.specs.Kept.{parameter_of}
 use Rattle.paw_state.specs.declared.fields.FrameField.{FrameField}
 use Rattle.paw_state.specs.declared.fields.Fields.{Fields}

@@ -56,7 +56,7 @@ use Rattle.paw_state.specs.inner.State.{state_in}
 use Rattle.paw_state.specs.inner.State.{KeepsEach}
 use Rattle.paw_world.specs.World.{Position, IsSavedFor, IsWorld}
 use Rattle.std.proofs.Common.{reverse}
-use Rattle.paw_reading.specs.declared.places.OpenLoop.{OpenLoop}
+use Rattle.paw_reading.specs.declared.frames.OpenLoop.{OpenLoop}
 use Rattle.paw_process.specs.Kept.{frames_at}
 use Rattle.paw_state.specs.State.{last_piece}
 use Rattle.paw_state.specs.inner.State.{state_with}

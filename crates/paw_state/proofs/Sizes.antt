@@ -11,8 +11,8 @@ use Rattle.paw_game.specs.Tables.{condact_at}
 use Rattle.paw_game.proofs.Counts.{few_objects}
 use Rattle.paw_game.proofs.Kept.{condact-small}
 use Rattle.paw_world.specs.World.{Position}
-use Rattle.paw_reading.specs.declared.places.Frame.{Frame}
-use Rattle.paw_reading.specs.declared.places.OpenLoop.{OpenLoop}
+use Rattle.paw_reading.specs.declared.frames.Frame.{Frame}
+use Rattle.paw_reading.specs.declared.frames.OpenLoop.{OpenLoop}
 use Rattle.paw_process.specs.declared.kept.Frames.{Frames}
 use Rattle.paw_process.specs.Kept.{may_open, has_code, parameter_of}
 use Rattle.paw_process.specs.inner.Kept.{condact_at_frame, is_unused, frame_stands}

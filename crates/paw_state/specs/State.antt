@@ -12,7 +12,7 @@ use Rattle.paw_effects.specs.declared.act.Prompt.{Prompt}
 use Rattle.paw_effects.specs.declared.act.Prompt.TheVariants as prompt
 use Rattle.paw_effects.specs.Worlds.{IsOf}
 pub use Rattle.paw_effects.specs.Standing.{AreBytes}
-use Rattle.paw_reading.specs.declared.places.Frame.{Frame}
+use Rattle.paw_reading.specs.declared.frames.Frame.{Frame}
 use Rattle.paw_reading.specs.Run.{Run}
 use Rattle.paw_process.specs.declared.machine.TheConstants.{MOST_FRAMES}
 use Rattle.paw_process.specs.declared.kept.Frames.{Frames}

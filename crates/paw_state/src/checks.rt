@@ -25,7 +25,7 @@ use paw_base::limits::{EVENT_LIMIT, READ_LIMIT};
 use paw_effects::act::Prompt;
 use paw_game::tables::Tables;
 use paw_process::{count_fits, has_code, is_place, may_open, parameter_of, waiting_code};
-use paw_reading::places::OpenLoop;
+use paw_reading::frames::OpenLoop;
 
 /// The most random words that may be drawn in a piece.
 const MOST_DRAWS: u64 = READ_LIMIT as u64;

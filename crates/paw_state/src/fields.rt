@@ -21,7 +21,7 @@ use crate::writer::Writer;
 use paw_base::layout::{FIRST_LENGTH, PIECE_LENGTH_AT};
 use paw_base::limits::{FLAG_COUNT, OBJECT_LIMIT, POSITION_COUNT};
 use paw_process::MOST_FRAMES;
-use paw_reading::places::{Frame, OpenLoop};
+use paw_reading::frames::{Frame, OpenLoop};
 
 /// The length of the room in which a state is kept. The bytes after the state are 0.
 pub const STATE_ROOM: usize = 4096;

@@ -28,7 +28,7 @@ use paw_effects::opening::opening_world;
 use paw_game::tables::Tables;
 use paw_phrase::Pending;
 use paw_process::{Frames, MOST_FRAMES, Machine};
-use paw_reading::places::{Frame, OpenLoop};
+use paw_reading::frames::{Frame, OpenLoop};
 use paw_world::world::World;
 
 /// What is read back from a state's bytes: the parts with which a player goes on, the number of lines taken (at most

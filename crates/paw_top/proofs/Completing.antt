@@ -34,7 +34,7 @@ use Rattle.paw_top.specs.declared.outcome.Outcome.{Outcome}
 use Rattle.paw_top.specs.declared.outcome.Outcome.TheVariants as outcome
 use Rattle.paw_top.specs.declared.outcome.MemoryAt.{MemoryAt}
 use Rattle.paw_top.specs.declared.outcome.MemoryAt.TheVariants as memory
-use Rattle.paw_reading.specs.declared.places.Halt.TheVariants as halt
+use Rattle.paw_reading.specs.declared.frames.Halt.TheVariants as halt
 
 -- Where no count of failures rose, but maybe that of loads that found no file, only such a load may have failed.
 only_absent : (failed : Option StageCall) (first last : StageCall → ℕ) → CountsFailure failed first last → NoFailure first last →

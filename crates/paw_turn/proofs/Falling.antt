@@ -3,7 +3,7 @@ use Rattle.std.proofs.Common.{◌≡◌, ℕ, zero, suc, ◌+◌, ◌*◌, ◌<�
 use Rattle.std.proofs.Common.{length-append}
 use Rattle.paw_base.proofs.Noted.{kept_none}
 use Rattle.paw_effects.specs.Story.{Story}
-use Rattle.paw_reading.specs.declared.places.Frame.{Frame}
+use Rattle.paw_reading.specs.declared.frames.Frame.{Frame}
 use Rattle.paw_reading.specs.Run.{Run, Step as Read}
 use Rattle.paw_reading.specs.Reading.{Out, table_read}
 use Rattle.paw_reading.specs.Turn.{Ending, left_to_read}

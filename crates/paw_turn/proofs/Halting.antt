@@ -2,8 +2,8 @@
 use Rattle.std.proofs.Common.{◌≡◌, ℕ, Bool, true, false, List, Some, ap, ◌∙◌, subst}
 use Rattle.paw_effects.specs.Story.{Story}
 use Rattle.paw_reading.specs.Run.{Step as Read}
-use Rattle.paw_reading.specs.declared.places.Halt.{Halt}
-use Rattle.paw_reading.specs.declared.places.Halt.TheVariants as halt
+use Rattle.paw_reading.specs.declared.frames.Halt.{Halt}
+use Rattle.paw_reading.specs.declared.frames.Halt.TheVariants as halt
 use Rattle.paw_reading.specs.Reading.{closes_piece}
 use Rattle.paw_reading.specs.Turn.{Ending}
 use Rattle.paw_turn.specs.declared.Step.{Step}

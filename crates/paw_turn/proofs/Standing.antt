@@ -15,12 +15,12 @@ use Rattle.paw_effects.specs.declared.act.Prompt.{Prompt}
 use Rattle.paw_effects.specs.declared.act.Prompt.TheVariants as prompt
 use Rattle.paw_effects.specs.Standing.{AreBytes}
 use Rattle.paw_effects.specs.Story.{Story, story_of}
-use Rattle.paw_reading.specs.declared.places.Frame.{Frame}
+use Rattle.paw_reading.specs.declared.frames.Frame.{Frame}
 use Rattle.paw_reading.specs.Run.{Step as Read}
 use Rattle.paw_reading.specs.Turn.{Ending, reading, going_on_from}
 use Rattle.paw_reading.specs.inner.Turn.{MayWaitAlong}
 use Rattle.paw_reading.specs.Bounds.{IsLine, ValidStory}
-use Rattle.paw_reading.specs.inner.Places.{StandsRightly, StopsRightly}
+use Rattle.paw_reading.specs.inner.Waits.{StandsRightly, StopsRightly}
 use Rattle.paw_reading.proofs.Waiting.{waits_on}
 use Rattle.paw_reading.proofs.Rightly.{readings_stop_rightly, going_on_stops_rightly}
 use Rattle.paw_process.specs.inner.OpenTables.{OpenTables}

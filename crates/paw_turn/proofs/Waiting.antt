@@ -4,10 +4,10 @@ use Rattle.std.proofs.lemmas.List.{length-reverse}
 use Rattle.paw_effects.specs.Story.{Story}
 use Rattle.paw_effects.specs.declared.act.Prompt.{Prompt}
 use Rattle.paw_effects.specs.declared.act.Prompt.TheVariants as prompt
-use Rattle.paw_reading.specs.declared.places.Frame.{Frame}
+use Rattle.paw_reading.specs.declared.frames.Frame.{Frame}
 use Rattle.paw_reading.specs.Run.{Run, piece_closed}
 use Rattle.paw_reading.specs.Reading.{Out, Waits}
-use Rattle.paw_reading.specs.inner.Places.{IsLoopOf}
+use Rattle.paw_reading.specs.inner.Waits.{IsLoopOf}
 use Rattle.paw_process.specs.inner.OpenTables.{OpenTables}
 use Rattle.paw_process.specs.inner.OpenTables.{IsWaiting, IsClosed}
 use Rattle.paw_process.specs.inner.Meaning.{IsStopped}

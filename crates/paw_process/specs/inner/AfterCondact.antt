@@ -6,7 +6,7 @@ use Rattle.paw_game.specs.declared.cursor.CondactCursor.{CondactCursor}
 use Rattle.paw_game.specs.Game.{GameLists}
 use Rattle.paw_routines.specs.declared.routines.Routines.{Routines}
 use Rattle.paw_effects.specs.Story.{Story}
-use Rattle.paw_reading.specs.declared.places.Frame.{Frame}
+use Rattle.paw_reading.specs.declared.frames.Frame.{Frame}
 use Rattle.paw_reading.specs.Run.{Run}
 use Rattle.paw_reading.specs.Reading.{Out}
 use Rattle.paw_process.specs.inner.OpenTables.{OpenTables}

@@ -10,8 +10,8 @@ use Rattle.paw_world.specs.World.{World}
 use Rattle.paw_phrase.specs.declared.Found.{Found}
 use Rattle.paw_phrase.specs.declared.Found.TheVariants as found
 use Rattle.paw_effects.specs.declared.act.Effect.{Effect}
-use Rattle.paw_reading.specs.declared.places.Frame.{Frame}
-use Rattle.paw_reading.specs.declared.places.OpenLoop.{OpenLoop}
+use Rattle.paw_reading.specs.declared.frames.Frame.{Frame}
+use Rattle.paw_reading.specs.declared.frames.OpenLoop.{OpenLoop}
 use Rattle.paw_reading.specs.Run.{Run, Step}
 use Rattle.paw_reading.specs.Reading.{Out, Left, next_object_or, over_objects, rest_of_loop, deeper, from_condact}
 use Rattle.paw_reading.specs.Reading.{rest_of_entry}

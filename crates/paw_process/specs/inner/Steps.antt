@@ -8,7 +8,7 @@ use Rattle.paw_world.specs.World.{World}
 use Rattle.paw_routines.specs.declared.routines.Routines.{Routines}
 use Rattle.paw_routines.specs.Routines.{HaveAnswers}
 use Rattle.paw_effects.specs.Worlds.{IsOf}
-use Rattle.paw_reading.specs.declared.places.Frame.{Frame}
+use Rattle.paw_reading.specs.declared.frames.Frame.{Frame}
 use Rattle.paw_process.specs.inner.OpenTables.{OpenTables}
 use Rattle.paw_process.specs.inner.OpenTables.{below, ReadsNone, IsAtCondact, IsReading}
 use Rattle.paw_process.specs.inner.Meaning.{Held}

@@ -3,7 +3,7 @@ use Rattle.std.specs.Prelude.{◌≡◌, ℕ, Bool, List, [], ◌++◌, None}
 use Rattle.paw_base.specs.Bytes.{Lines, Seed, Texts}
 use Rattle.paw_effects.specs.Story.{Story}
 use Rattle.paw_effects.specs.declared.act.Prompt.{Prompt}
-use Rattle.paw_reading.specs.declared.places.Frame.{Frame}
+use Rattle.paw_reading.specs.declared.frames.Frame.{Frame}
 use Rattle.paw_reading.specs.Run.{Run, Step}
 use Rattle.paw_reading.specs.Reading.{rest_of_table}
 use Rattle.paw_reading.specs.GoingOn.{on_path}

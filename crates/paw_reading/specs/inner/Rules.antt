@@ -17,11 +17,11 @@ use Rattle.paw_effects.specs.declared.act.Effect.{Effect}
 use Rattle.paw_effects.specs.declared.act.Effect.TheVariants as effect
 use Rattle.paw_effects.specs.Holds.{is_condition, holds}
 use Rattle.paw_effects.specs.Effects.{effect_of}
-use Rattle.paw_reading.specs.declared.places.Frame.{Frame}
-use Rattle.paw_reading.specs.declared.places.OpenLoop.{OpenLoop}
+use Rattle.paw_reading.specs.declared.frames.Frame.{Frame}
+use Rattle.paw_reading.specs.declared.frames.OpenLoop.{OpenLoop}
 use Rattle.paw_reading.specs.Run.{Run, piece_closed, fits, text_printed, with_world, without_loop, anew}
 use Rattle.paw_reading.specs.Run.{is_ignored, with_line_heard, reply, is_yes, is_no, taken_phrase}
-use Rattle.paw_reading.specs.declared.places.Halt.TheVariants as halt
+use Rattle.paw_reading.specs.declared.frames.Halt.TheVariants as halt
 use Rattle.paw_reading.specs.Reading.{Redescribes, Restarts, Out, Left, Waits, Stopped}
 use Rattle.paw_reading.specs.Reading.{halts, step_noted, after_call, at_level, next_object_or, is_taken, object_taken}
 use Rattle.paw_reading.specs.Reading.{over_objects}

@@ -6,7 +6,7 @@ use Rattle.paw_base.specs.declared.limits.TheConstants.{POSITION_COUNT}
 use Rattle.paw_world.specs.World.{Position}
 use Rattle.paw_effects.specs.Story.{Story}
 use Rattle.paw_effects.specs.declared.act.Prompt.{Prompt}
-use Rattle.paw_reading.specs.declared.places.Frame.{Frame}
+use Rattle.paw_reading.specs.declared.frames.Frame.{Frame}
 use Rattle.paw_reading.specs.Run.{Run}
 use Rattle.paw_reading.specs.Turn.{Ending, WaitsAt, Halted, Unended, reading, going_on_from}
 use Rattle.paw_reading.specs.Saving.{NeverSaves}

@@ -11,7 +11,7 @@ use Rattle.paw_effects.specs.Story.{Story}
 use Rattle.paw_effects.specs.declared.act.Prompt.{Prompt}
 use Rattle.paw_effects.specs.Texts.{put_text, say_text}
 use Rattle.paw_effects.specs.Holds.{Tested}
-use Rattle.paw_reading.specs.declared.places.Frame.{Frame}
+use Rattle.paw_reading.specs.declared.frames.Frame.{Frame}
 use Rattle.paw_reading.specs.Run.{Run, with_world, with_timeout}
 use Rattle.paw_reading.specs.Reading.{Out, Onward, after_test, after_parse, coming_phrase}
 use Rattle.paw_reading.specs.GoingOn.{on_path}

@@ -17,10 +17,10 @@ use Rattle.paw_effects.specs.inner.Opening.{opening_world}
 use Rattle.paw_effects.specs.Story.{Story}
 use Rattle.paw_reading.specs.Run.{Run, Step as Read}
 use Rattle.paw_reading.specs.Reading.{closes_piece}
-use Rattle.paw_reading.specs.declared.places.Halt.{Halt}
-use Rattle.paw_reading.specs.declared.places.Halt.TheVariants as halt
+use Rattle.paw_reading.specs.declared.frames.Halt.{Halt}
+use Rattle.paw_reading.specs.declared.frames.Halt.TheVariants as halt
 use Rattle.paw_reading.specs.Turn.{Ending, Halted, first_table, going_on_from}
-use Rattle.paw_reading.specs.inner.Places.{IsLoopOf, StandsRightly}
+use Rattle.paw_reading.specs.inner.Waits.{IsLoopOf, StandsRightly}
 use Rattle.paw_process.specs.inner.OpenTables.{OpenTables}
 use Rattle.paw_process.specs.inner.OpenTables.{IsWaiting, IsClosed, new_machine, only_counting}
 use Rattle.paw_turn.specs.declared.Step.{Step}

@@ -2,7 +2,7 @@ use Rattle.std.proofs.Common.{◌≡◌, ◌∙◌, sym, ap, Some, None}
 use Rattle.paw_base.specs.declared.limits.TheConstants.{LEVEL_LIMIT}
 use Rattle.paw_game.specs.Game.{GameLists}
 use Rattle.paw_check.specs.Verdicts.{bounds}
-use Rattle.paw_check.specs.declared.places.Wanted.TheVariants as wanted
+use Rattle.paw_check.specs.declared.spots.Wanted.TheVariants as wanted
 use Rattle.paw_check.specs.inner.Verdicts.{bound_or_cause}
 use Rattle.paw_check.proofs.DecidingLaws.{bounds_calls, bounds_described, bounds_counted, found_in, any_found}
 use Rattle.paw_check.proofs.deciding.check.Goals as goal
@@ -14,13 +14,13 @@ returns-in-Some c =
     let deep = found_in g wanted.Call _ _ _ _ c.in-Some.ensures.value tables (c.as_slice.ensures.value ∙ c.in_ok-reached.ensures.deepest) in
     record { value = sym (bounds_calls g c.in-Some.table c.in-Some.entry deep) ∙ ap bounds c.parts-parts.ensures.value }
 
-pub returns-in-Some-place : goal.returns-in-Some-place
-returns-in-Some-place c =
+pub returns-in-Some-spot : goal.returns-in-Some-spot
+returns-in-Some-spot c =
     let g = c.parts-parts.result.now in
     let tables = c.as_slice-tables.ensures.value ∙ ap (λ (h : GameLists). h.tables) c.parts.view_is in
     let deep = found_in g wanted.Call _ _ _ _ c.in_default.ensures.value tables (c.as_slice.ensures.value ∙ c.in_ok-reached.ensures.deepest) in
-    let round = found_in g wanted.Description _ _ _ _ c.in-Some-place.ensures.value tables (c.as_slice-2.ensures.value ∙ c.in_ok-described.ensures.all) in
-    record { value = sym (bounds_described g c.in-Some-place.table c.in-Some-place.entry deep round) ∙ ap bounds c.parts-parts.ensures.value }
+    let round = found_in g wanted.Description _ _ _ _ c.in-Some-spot.ensures.value tables (c.as_slice-2.ensures.value ∙ c.in_ok-described.ensures.all) in
+    record { value = sym (bounds_described g c.in-Some-spot.table c.in-Some-spot.entry deep round) ∙ ap bounds c.parts-parts.ensures.value }
 
 pub bound_or_cause-requires-clause-changing : goal.bound_or_cause-requires-clause-changing
 bound_or_cause-requires-clause-changing c =
@@ -33,7 +33,7 @@ returns c =
     let g = c.parts-parts.result.now in
     let tables = c.as_slice-tables.ensures.value ∙ ap (λ (h : GameLists). h.tables) c.parts.view_is in
     let deep = found_in g wanted.Call _ _ _ _ c.in_default.ensures.value tables (c.as_slice.ensures.value ∙ c.in_ok-reached.ensures.deepest) in
-    let round = found_in g wanted.Description _ _ _ _ c.in_default-place.ensures.value tables (c.as_slice-2.ensures.value ∙ c.in_ok-described.ensures.all) in
+    let round = found_in g wanted.Description _ _ _ _ c.in_default-spot.ensures.value tables (c.as_slice-2.ensures.value ∙ c.in_ok-described.ensures.all) in
     let same : bound_or_cause g c.in_ok-reached.reached.levels ≡ bounds c.args.game.now =
     ap (bound_or_cause g) c.in_ok-reached.ensures.levels ∙ sym (bounds_counted g deep round) ∙ ap bounds c.parts-parts.ensures.value in
     record { value = rw (sym same) c.bound_or_cause.ensures.value }

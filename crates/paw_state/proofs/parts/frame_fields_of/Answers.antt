@@ -1,6 +1,6 @@
 use Rattle.std.proofs.Common.{false, ◌∙◌, arith}
 use Rattle.std.proofs.lemmas.List.{length-set}
-use Rattle.paw_reading.specs.declared.places.Frame.{Frame}
+use Rattle.paw_reading.specs.declared.frames.Frame.{Frame}
 use Rattle.paw_state.specs.State.{frame_field_of}
 use Rattle.paw_state.proofs.Written.{mapped_more, mapped_all}
 use Rattle.paw_state.proofs.parts.frame_fields_of.Goals as goal

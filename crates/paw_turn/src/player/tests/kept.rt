@@ -4,7 +4,7 @@ use super::game::asking_game;
 use paw_effects::act::Prompt;
 use paw_game::game::Game;
 use paw_process::{Frames, Machine};
-use paw_reading::places::{Frame, OpenLoop};
+use paw_reading::frames::{Frame, OpenLoop};
 use std::process::Abort;
 use std::test::Fail;
 

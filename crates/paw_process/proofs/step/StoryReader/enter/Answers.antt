@@ -1,6 +1,6 @@
 use Rattle.std.proofs.Common.{arith, sym, subst}
 use Rattle.paw_effects.specs.Story.{story_of}
-use Rattle.paw_reading.specs.declared.places.Frame.{Frame}
+use Rattle.paw_reading.specs.declared.frames.Frame.{Frame}
 use Rattle.paw_process.specs.inner.Moves.{Enters}
 use Rattle.paw_process.proofs.AfterCondacts.{enters_match}
 use Rattle.paw_process.proofs.Steps.{going_inside}

@@ -1,7 +1,7 @@
 use Rattle.std.proofs.Common.{arith, sym, ap, ◌∙◌, ◌≡◌, add-one, Some, None, ℕ, ◌∷◌, List, true, ◌+◌}
 use Rattle.std.specs.Prelude.{Option}
 use Rattle.paw_effects.specs.Story.{story_of}
-use Rattle.paw_reading.specs.declared.places.Frame.{Frame}
+use Rattle.paw_reading.specs.declared.frames.Frame.{Frame}
 use Rattle.paw_reading.specs.Reading.{Left}
 use Rattle.paw_reading.specs.inner.GoingOn.{along}
 use Rattle.paw_process.proofs.Steps.{turning_some, turning_none}

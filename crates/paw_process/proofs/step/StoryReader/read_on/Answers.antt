@@ -2,7 +2,7 @@ use Rattle.std.proofs.Common.{◌+◌, ◌*◌, ◌<◌, refl, sym, ap, subst, a
 use Rattle.paw_base.specs.declared.limits.TheConstants.{ENTRY_LIMIT}
 use Rattle.paw_base.specs.inner.Steps.{KeptSteps}
 use Rattle.paw_effects.specs.Story.{story_of}
-use Rattle.paw_reading.specs.declared.places.Frame.{Frame}
+use Rattle.paw_reading.specs.declared.frames.Frame.{Frame}
 use Rattle.paw_process.proofs.Readings.{reads_nothing}
 use Rattle.paw_process.proofs.AfterCondacts.{ready_at_frame, stepped_on, stepped_at_frame, left_on}
 use Rattle.paw_process.proofs.AfterCondacts.{table_starts, entry_starts, reading_goes_on, table_goes_on, entry_goes_on}

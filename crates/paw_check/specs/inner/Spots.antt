@@ -7,8 +7,8 @@ use Rattle.paw_game.specs.declared.parts.Entry.{Entry}
 use Rattle.paw_check.specs.Calls.{calls_table}
 use Rattle.paw_check.specs.Verbs.{may_write_verb}
 use Rattle.paw_check.specs.Verdicts.{redescribes, entry_with}
-use Rattle.paw_check.specs.declared.places.Wanted.{Wanted}
-use Rattle.paw_check.specs.declared.places.Wanted.TheVariants as wanted
+use Rattle.paw_check.specs.declared.spots.Wanted.{Wanted}
+use Rattle.paw_check.specs.declared.spots.Wanted.TheVariants as wanted
 
 -- Whether a condact is of this kind.
 abbrev pub is_wanted : Wanted → Condact → Bool

@@ -1,4 +1,4 @@
-// The first place of a condact of a kind, and condacts that matter to the bounds.
+// The spot, a table and an entry, where a condact of a kind stands first, and condacts that matter to the bounds.
 
 ghost use Rattle.std.specs.Prelude.{◌≡◌, ◌≤◌, [], IfSome, All, length, slice_get};
 ghost use Rattle.std.specs.List.{list_any};
@@ -6,7 +6,7 @@ ghost use Rattle.std.specs.Option.{unwrap_or};
 ghost use Rattle.paw_base.specs.declared.limits.TheConstants.{ENTRY_LIMIT};
 ghost use Rattle.paw_check.specs.Verbs.{may_write_verb};
 ghost use Rattle.paw_check.specs.Verdicts.{redescribes};
-ghost use Rattle.paw_check.specs.inner.Places.{is_wanted, entry_wanted, spot_wanted, any_in_entries, any_in_table};
+ghost use Rattle.paw_check.specs.inner.Spots.{is_wanted, entry_wanted, spot_wanted, any_in_entries, any_in_table};
 
 use crate::prints::{is_indirect, plain_code};
 use crate::sets::entries_of;
@@ -104,7 +104,7 @@ impl Wanted {
     }
 
     /// The first of the tables with these numbers that has a condact of this kind, and its first entry with one.
-    pub(crate) fn place(self, tables: &[Table], numbers: &[u8]) -> Option<(u8, u16)>
+    pub(crate) fn spot(self, tables: &[Table], numbers: &[u8]) -> Option<(u8, u16)>
         requires short { All (λ table. length table ≤ ENTRY_LIMIT) tables.now }
         ensures value { result ≡ spot_wanted self tables.now numbers.now }
     {

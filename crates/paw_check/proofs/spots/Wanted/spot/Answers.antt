@@ -1,5 +1,5 @@
 use Rattle.paw_check.proofs.PlaceLaws.{place_more, place_found}
-use Rattle.paw_check.proofs.places.Wanted.place.Goals as goal
+use Rattle.paw_check.proofs.spots.Wanted.spot.Goals as goal
 
 pub loop-number-preserved : goal.loop-number-preserved
 loop-number-preserved c =

@@ -1,4 +1,4 @@
--- Where a run may wait: words that contracts between crates and proofs use besides those of specs/Places.antt.
+-- Where a run may wait: words that contracts between crates and proofs use besides those of specs/Waits.antt.
 use Rattle.std.specs.Prelude.{◌≡◌, ◌≢◌, ℕ, suc, ◌<◌, ◌≤◌, List, [], ◌∷◌, Option, Some}
 use Rattle.std.specs.Prelude.{None, length, map, slice_get, IfSome, IsTrue, All}
 use Rattle.paw_base.specs.Bytes.{Lines, Seed}
@@ -12,14 +12,14 @@ use Rattle.paw_effects.specs.declared.act.Prompt.{Prompt}
 use Rattle.paw_effects.specs.declared.act.Prompt.TheVariants as prompt
 use Rattle.paw_effects.specs.inner.Standing.{IsWorldOf}
 use Rattle.paw_effects.specs.Story.{Story}
-use Rattle.paw_reading.specs.declared.places.Frame.{Frame}
-use Rattle.paw_reading.specs.declared.places.OpenLoop.{OpenLoop}
+use Rattle.paw_reading.specs.declared.frames.Frame.{Frame}
+use Rattle.paw_reading.specs.declared.frames.OpenLoop.{OpenLoop}
 use Rattle.paw_reading.specs.Run.{Run}
 use Rattle.paw_reading.specs.Bounds.{IsLine, ValidStory}
 use Rattle.paw_reading.specs.inner.Bounds.{IsBounded}
-use Rattle.paw_reading.specs.declared.places.Halt.TheVariants as halt
+use Rattle.paw_reading.specs.declared.frames.Halt.TheVariants as halt
 use Rattle.paw_reading.specs.Turn.{Ending, WaitsAt, Halted, reading, first_table, going_on_from}
-use Rattle.paw_reading.specs.Places.{waiting_code}
+use Rattle.paw_reading.specs.Waits.{waiting_code}
 
 -- A condact with this code stands at this frame.
 pub record IsAt (g : GameLists) (code t e k : ℕ) : Type 0 where
