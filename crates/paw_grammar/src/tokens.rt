@@ -18,7 +18,7 @@ use std::marker::Model;
 pub struct Tokens<'a> {
     source: &'a [u8],
     line: Line,
-    // the line's first place, or the place after the token that was taken last
+    // The offset where the line begins, or the one after the token that was taken last.
     at: usize,
 }
 

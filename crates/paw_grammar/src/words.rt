@@ -73,7 +73,7 @@ pub fn word(tokens: &mut Tokens) -> Result<[u8; WORD_LENGTH], LineError>
     }
 }
 
-/// The place of the name that a token is, in any case of letters.
+/// The index of the name that a token is, in any case of letters.
 pub(crate) fn index_among(names: &[&[u8]], token: &[u8]) -> Option<usize>
     ensures value { result ≡ position (λ name. is_named token.now name.now) names.now }
 {

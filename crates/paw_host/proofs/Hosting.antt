@@ -16,7 +16,7 @@ use Rattle.paw_stage.specs.Moments.{Passes}
 use Rattle.paw_stage.specs.AcrossCalls.{IsOneOf}
 use Rattle.paw_play.specs.Calls.{session_calls}
 use Rattle.paw_play.proofs.Walking.{drop_more, drop_all}
-use Rattle.paw_host.specs.Names.{Request, line_parted, parted_at, request_in, request_of, is_name, store_name}
+use Rattle.paw_host.specs.Names.{Request, line_split, split_at, request_in, request_of, is_name, store_name}
 use Rattle.paw_host.specs.Replies.{Sessions, reply_to, sessions_with, sessions_after, replies}
 use Rattle.paw_host.specs.Promise.{Stores, AllStore, AllLeft, EachLeft, IsUpToDate, IsNotOf, InHost, Answered}
 use Rattle.paw_host.specs.Promise.{BeginsWith, attached_with, attached_after}
@@ -45,15 +45,15 @@ pub cut_request : (line into given : List ℕ) (n : ℕ) → IsCut line into n �
 unfolding request_of
 cut_request line into given n cut e = ap request_in (e ∙ cut.same)
 
-text_line : (line : List ℕ) (at : Option ℕ) → length line ≤ LINE_LIMIT → AreBytes line → IfLine (parted_at line at).text
+text_line : (line : List ℕ) (at : Option ℕ) → length line ≤ LINE_LIMIT → AreBytes line → IfLine (split_at line at).text
 text_line line None short bytes = tt
 text_line line (Some at) short bytes =
     record { short = omega (arith, length-drop (at + 1) line, short); bytes = All-drop (λ b. b < 256) (at + 1) line bytes }
 
-request_line : (line : List ℕ) (named : Bool) → is_name (line_parted line).name ≡ named → length line ≤ LINE_LIMIT → AreBytes line → (r : Request) →
-    (if named then Some (line_parted line) else None) ≡ Some r → (is_name r.name ≡ true) × IfLine r.text
+request_line : (line : List ℕ) (named : Bool) → is_name (line_split line).name ≡ named → length line ≤ LINE_LIMIT → AreBytes line → (r : Request) →
+    (if named then Some (line_split line) else None) ≡ Some r → (is_name r.name ≡ true) × IfLine r.text
 request_line line true is short bytes r e =
-    let same : line_parted line ≡ r = cc in
+    let same : line_split line ≡ r = cc in
     subst (λ (q : Request). (is_name q.name ≡ true) × IfLine q.text) same (is, text_line line (position (λ b. b == 32) line) short bytes)
 request_line line false is short bytes r e = cc
 
@@ -61,7 +61,7 @@ request_line line false is short bytes r e = cc
 pub asks_line : (line : List ℕ) → AreBytes line → (r : Request) → request_of line ≡ Some r → (is_name r.name ≡ true) × IfLine r.text
 unfolding request_of
 asks_line line bytes r e =
-    request_line (take LINE_LIMIT line) (is_name (line_parted (take LINE_LIMIT line)).name) refl (omega (arith, length-take LINE_LIMIT line))
+    request_line (take LINE_LIMIT line) (is_name (line_split (take LINE_LIMIT line)).name) refl (omega (arith, length-take LINE_LIMIT line))
     (All-take (λ b. b < 256) LINE_LIMIT line bytes) r e
 
 -- Each line that is left is made of bytes.

@@ -19,18 +19,18 @@ pub record Request : Type 0 where
   pub name : Name
   pub text : Option Text
 
--- The request of a line that is parted at this place, where a space stands, or that isn't parted.
-abbrev pub parted_at : Line → Option ℕ → Request
-parted_at line None = record { name = line; text = None }
-parted_at line (Some at) = record { name = take at line; text = Some (drop (at + 1) line) }
+-- The request of a line that is split at this offset, where a space stands, or that isn't split.
+abbrev pub split_at : Line → Option ℕ → Request
+split_at line None = record { name = line; text = None }
+split_at line (Some at) = record { name = take at line; text = Some (drop (at + 1) line) }
 
--- The request of a line, which is parted at its first space.
-abbrev pub line_parted : Line → Request
-line_parted line = parted_at line (position (λ b. b == 32) line)
+-- The request of a line, which is split at its first space.
+abbrev pub line_split : Line → Request
+line_split line = split_at line (position (λ b. b == 32) line)
 
 -- What a line asks for, where it is a name, or a name, a space and a text.
 abbrev pub request_in : Line → Option Request
-request_in line = if is_name (line_parted line).name then Some (line_parted line) else None
+request_in line = if is_name (line_split line).name then Some (line_split line) else None
 
 -- What a typed line asks for; only its first 255 bytes count.
 unfoldable pub request_of : Line → Option Request

@@ -2,7 +2,7 @@
 
 ghost use Rattle.std.specs.Prelude.{◌≡◌, ◌==◌, ◌+◌, ◌≤◌, length, position, true, vec_capacity, IfSome};
 ghost use Rattle.std.specs.List.{list_all};
-ghost use Rattle.paw_host.specs.Names.{is_name_byte, is_name, line_parted, request_in, store_name};
+ghost use Rattle.paw_host.specs.Names.{is_name_byte, is_name, line_split, request_in, store_name};
 ghost use Rattle.paw_host.specs.inner.Names.{asks, SpellsRequest};
 ghost use Rattle.paw_host.specs.declared.names.TheConstants.{STORE_LIMIT};
 
@@ -54,9 +54,9 @@ fn first_space(line: &[u8]) -> Option<usize>
     line.iter().position(|byte| *byte == b' ')
 }
 
-// The request of a line, which is parted at its first space.
+// The request of a line, which is split at its first space.
 fn split_request<'a>(line: &'a [u8]) -> Request<'a>
-    ensures value { asks result ≡ line_parted line.now }
+    ensures value { asks result ≡ line_split line.now }
 {
     match first_space(line) {
         Some(at) => Request {

@@ -29,7 +29,7 @@ blank noun adjective = record {
 abbrev pub or_value : ℕ → ℕ → ℕ
 or_value old value = if old == NO_WORD then value else old
 
--- A noun fills the first of its two places that is free; where both are filled it is ignored.
+-- A noun becomes the first noun, or the second where there is a first; a third is ignored.
 abbrev pub with_noun : ℕ → Sentence → Sentence
 with_noun value s =
     if s.noun == NO_WORD then record s { noun = value } else record s { second_noun = or_value s.second_noun value }

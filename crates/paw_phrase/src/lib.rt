@@ -62,7 +62,7 @@ impl Sentence {
         }
     }
 
-    // A noun fills the first of its two places that is free; where both are filled it is ignored.
+    // A noun becomes the first noun, or the second where there is a first; a third is ignored.
     fn add_noun(&mut self, value: u8)
         ensures value { self.new ≡ with_noun value self.old }
     {
@@ -84,7 +84,7 @@ impl Sentence {
         }
     }
 
-    // A pronoun gives the noun and adjective that it stands for, if it has a noun and a noun's place is free.
+    // A pronoun gives the noun and adjective that it stands for, if it stands for a noun and one of the two nouns isn't there yet.
     fn add_pronoun(&mut self)
         ensures value { self.new ≡ with_pronoun self.old }
     {

@@ -1,4 +1,4 @@
-// Places in a table.
+// Frames: where reading stands in a table.
 
 ghost use Rattle.std.specs.Prelude.{◌≡◌, ◌+◌, ◌<◌, false, true, Some};
 ghost use Rattle.paw_base.specs.declared.limits.TheConstants.{ENTRY_LIMIT};

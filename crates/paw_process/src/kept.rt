@@ -23,8 +23,8 @@ use paw_reading::frames::{Frame, OpenLoop};
 /// The number of tables that may be open at once, as a byte; it is also the depth that stands for the open loop.
 const MOST_OPEN: u8 = MOST_FRAMES as u8;
 
-/// Places of a machine that waits, as they are kept: the number of open tables, their frames, the outermost first, with
-/// unused frames after them, and the open loop.
+/// Frames and loop of a machine that waits, as they are kept: the number of open tables, their frames, the outermost
+/// first, with unused frames after them, and the open loop.
 #[derive(Clone, Copy, Drop, PartialEq, Eq, Debug)]
 pub struct Frames {
     pub count: u8,

@@ -13,7 +13,7 @@ failed_call _ = None
 
 -- ---- memory ----
 
--- Where the answer is Memory, this holds of the place where memory was lacking; of any other answer nothing is said.
+-- Where the answer is Memory, this holds of what memory was lacking for; of any other answer nothing is said.
 abbrev pub IfMemory : Outcome → (MemoryAt → Type 0) → Type 0
 IfMemory (outcome.Memory at) P = P at
 IfMemory _ P = Unit {0}

@@ -71,7 +71,7 @@ call_name call.Sync = codes "Sync"
 call_name call.Ask = codes "Ask"
 call_name call.Show = codes "Show"
 
--- The name of a place where memory may be lacking.
+-- The name of what memory was lacking for.
 abbrev pub memory_name : MemoryAt → Name
 memory_name memory.Load = codes "Load"
 memory_name memory.Source = codes "Source"

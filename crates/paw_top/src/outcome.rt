@@ -147,7 +147,7 @@ fn kind_name(kind: SourceKind) -> &'static str
     }
 }
 
-// The name of a place where memory was lacking.
+// The name of what memory was lacking for.
 fn memory_name(at: MemoryAt) -> &'static str
     ensures value { result.now ≡ memory_name at }
 {

@@ -203,7 +203,7 @@ static NAMED_REPLIES: [(&str, &str); 3] = [
 ];
 
 #[test]
-fn names_and_texts_are_parted_at_the_first_space(rt: HostRuntime) -> Result<(), Fail> {
+fn names_and_texts_are_split_at_the_first_space(rt: HostRuntime) -> Result<(), Fail> {
     let alloc = rt.alloc();
     let mut stage = stage_of(alloc, &[])?;
     shows(&rt, alloc, &mut stage, &NAMED_LINES, &NAMED_REPLIES)
