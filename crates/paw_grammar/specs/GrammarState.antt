@@ -15,14 +15,14 @@ use Rattle.paw_grammar.specs.declared.section.Section.TheVariants as section
 -- The section that is open, and the rows that were read.
 pub record Spelt : Type 0 where
   pub section : Section
-  pub words : List Word  -- in the order of their letters
+  pub words : List Word  -- In the order of their letters.
   pub system : Texts
   pub messages : Texts
-  pub names : Texts  -- the texts of the objects
+  pub names : Texts  -- The texts of the objects.
   pub locations : Texts
-  pub begun : Bool  -- the last text has a line
-  pub exits : List (List Exit)  -- of the locations up to the last item of /CON
-  pub facts : List ObjectFacts  -- of the objects up to the last row of /OBJ
+  pub begun : Bool  -- Whether the last text has a line.
+  pub exits : List (List Exit)  -- Those of the locations up to the last item of /CON.
+  pub facts : List ObjectFacts  -- Those of the objects up to the last row of /OBJ.
   pub tables : List (List Entry)
 
 -- What is spelled before the first line.

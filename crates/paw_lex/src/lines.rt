@@ -79,11 +79,11 @@ fn first_line(text: &[u8]) -> Option<Cut>
 #[derive(Drop)]
 pub struct Lines<'a> {
     source: &'a [u8],
-    // the offset before which the source ends
+    // The offset before which the source ends.
     end: usize,
-    // the offset where the next line begins
+    // The offset where the next line begins.
     at: usize,
-    // how many lines were given
+    // How many lines were given.
     given: u32,
 }
 

@@ -84,7 +84,8 @@ impl Sentence {
         }
     }
 
-    // A pronoun gives the noun and adjective that it stands for, if it stands for a noun and one of the two nouns isn't there yet.
+    // A pronoun gives the noun and adjective that it stands for, if it stands for a noun and one of the two nouns isn't
+    // there yet.
     fn add_pronoun(&mut self)
         ensures value { self.new ≡ with_pronoun self.old }
     {

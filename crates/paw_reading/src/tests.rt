@@ -340,7 +340,7 @@ fn parts(alloc: Global, scenes: &[Scene]) -> Result<GameParts, AllocError> {
 
 // The facts of these objects.
 fn facts_of(alloc: Global, rows: &[ObjectRow]) -> Result<Vec<ObjectFacts>, AllocError>
-    ensures { IfOk result (λ facts. facts.items ≡ map (λ row. row.facts) rows.now) }
+    ensures facts { IfOk result (λ facts. facts.items ≡ map (λ row. row.facts) rows.now) }
 {
     rows.iter().map(|row| row.facts).collect(alloc)
 }

@@ -46,7 +46,7 @@ fn first_fit_breaks(alloc: Global, width: u8, text: &[u8]) -> Result<Vec<u32>, N
     ensures value { IfOk result (λ breaks. breaks.items ≡ breaks_from width 0 0 text.now) }
 {
     let mut breaks = Vec::new(alloc);
-    // where the line begins, and where a word of it ends
+    // Where the line begins, and where a word of it ends.
     let mut line = 0;
     let mut at = word_length(text);
     while at < text.len() {

@@ -4,7 +4,7 @@ use Rattle.std.specs.Prelude.{ℕ, suc, ◌+◌, ◌-◌, ◌==◌, Bool, List, 
 use Rattle.std.specs.Prelude.{Err}
 use Rattle.std.specs.Prelude.{length, take, drop, is_some, nat_le, if◌then◌else◌}
 use Rattle.std.specs.Option.{option_or}
-use Rattle.paw_base.specs.Bytes.{ObjectPlaces}
+use Rattle.paw_base.specs.Bytes.{Bytes, ObjectPlaces}
 use Rattle.paw_base.specs.declared.codes.TheConstants.{PROCESS}
 use Rattle.paw_game.specs.Game.{GameLists}
 use Rattle.paw_game.specs.Tables.{head_at, condact_at}
@@ -32,7 +32,7 @@ first [] = None
 first (o ∷ later) = option_or o (first later)
 
 -- The offset of the first byte that breaks this rule, where the first byte stands at this offset.
-unfoldable pub first_not : (ℕ → Bool) → ℕ → List ℕ → Option ℕ
+unfoldable pub first_not : (ℕ → Bool) → ℕ → Bytes → Option ℕ
 first_not p at [] = None
 first_not p at (b ∷ bs) = if p b then first_not p (suc at) bs else Some at
 

@@ -34,8 +34,8 @@ use Rattle.paw_top.specs.declared.outcome.MemoryAt.{MemoryAt}
 
 -- This is the answer that is due, or memory was lacking.
 abbrev pub Comes : Outcome → Outcome → Type 0
-Comes due (outcome.Memory at) = Unit {0}
-Comes due o = o ≡ due
+Comes answer (outcome.Memory at) = Unit {0}
+Comes answer o = o ≡ answer
 
 -- The file was refused as no image, with the offset of its first damage, or memory was lacking.
 abbrev pub IsDamaged : Standing → Name → Outcome → Type 0
