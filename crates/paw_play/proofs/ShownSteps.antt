@@ -34,8 +34,8 @@ take_twice (suc n) [] = refl
 take_twice (suc n) (x ∷ xs) = ap (λ ys. x ∷ ys) (take_twice n xs)
 
 -- What is kept of steps is shown as the steps are.
-kept_told : (k : KeptSteps) (steps : List Read) → k.most ≡ STEP_LIMIT → k ≡ kept_steps k.most steps → kept_text k ≡ steps_text steps
-kept_told k steps keeps e =
+kept_shown : (k : KeptSteps) (steps : List Read) → k.most ≡ STEP_LIMIT → k ≡ kept_steps k.most steps → kept_text k ≡ steps_text steps
+kept_shown k steps keeps e =
     ap kept_text (e ∙ ap (λ n. kept_steps n steps) keeps) ∙ ap (λ xs. flat_map step_line xs ++ more_line (length steps - STEP_LIMIT)) (take_twice STEP_LIMIT steps)
 
 -- One piece more.
@@ -54,7 +54,7 @@ pub pieces_more : {F : Type 0} (showing : ShowSteps) (next : PlayerView F) (piec
 pieces_more Plain next pieces traces steps each keeps kept = joined_more pieces next.piece
 pieces_more Stepped next pieces traces steps each keeps kept =
     ap concat (traced_more pieces traces next.piece steps each) ∙ joined_more (traced_pieces pieces traces) (steps_text steps ++ next.piece)
-    ∙ ap (λ t. concat (traced_pieces pieces traces) ++ (t ++ next.piece)) (sym (kept_told next.machine.steps steps keeps kept))
+    ∙ ap (λ t. concat (traced_pieces pieces traces) ++ (t ++ next.piece)) (sym (kept_shown next.machine.steps steps keeps kept))
 
 -- And it has its steps.
 pub steps_more : (showing : ShowSteps) (pieces : List (List ℕ)) (traces : List (List Read)) (piece : List ℕ) (steps : List Read) →
@@ -63,9 +63,9 @@ steps_more Plain pieces traces piece steps each = tt
 steps_more Stepped pieces traces piece steps each = omega (arith, length-append traces (steps ∷ []), length-append pieces (piece ∷ []), each)
 
 -- Before the first piece there is none to show.
-pub told_none : (showing : ShowSteps) → concat (shown_pieces showing [] []) ≡ []
-told_none Plain = refl
-told_none Stepped = refl
+pub shown_none : (showing : ShowSteps) → concat (shown_pieces showing [] []) ≡ []
+shown_none Plain = refl
+shown_none Stepped = refl
 
 pub steps_none : (showing : ShowSteps) → HaveSteps showing [] []
 steps_none Plain = tt
@@ -73,14 +73,14 @@ steps_none Stepped = refl
 
 -- ---- endings ----
 
-pub waits_told : (showing : ShowSteps) (p : Prompt) (path : List Frame) (r : Run) →
+pub waits_shown : (showing : ShowSteps) (p : Prompt) (path : List Frame) (r : Run) →
     shown_ending showing (WaitsAt p path r) ≡ WaitsAt p path (shown_run showing r)
-waits_told Plain p path r = refl
-waits_told Stepped p path r = refl
+waits_shown Plain p path r = refl
+waits_shown Stepped p path r = refl
 
-pub halts_told : (showing : ShowSteps) (halt : Halt) (r : Run) → shown_ending showing (Halted halt r) ≡ Halted halt (shown_run showing r)
-halts_told Plain halt r = refl
-halts_told Stepped halt r = refl
+pub halts_shown : (showing : ShowSteps) (halt : Halt) (r : Run) → shown_ending showing (Halted halt r) ≡ Halted halt (shown_run showing r)
+halts_shown Plain halt r = refl
+halts_shown Stepped halt r = refl
 
 -- How pieces are shown changes nothing of the lines to come.
 pub same_lines : (showing : ShowSteps) (r : Run) → (shown_run showing r).events ≡ r.events
@@ -88,18 +88,18 @@ same_lines Plain r = refl
 same_lines Stepped r = refl
 
 -- The closed pieces of a run with these, as they are shown.
-pub told_is : (showing : ShowSteps) (r : Run) (pieces : List (List ℕ)) (traces : List (List Read)) → r.pieces ≡ pieces → r.traces ≡ traces →
+pub text_shown_is : (showing : ShowSteps) (r : Run) (pieces : List (List ℕ)) (traces : List (List Read)) → r.pieces ≡ pieces → r.traces ≡ traces →
     concat (shown_run showing r).pieces ≡ concat (shown_pieces showing pieces traces)
-told_is Plain r pieces traces e f = ap concat e
-told_is Stepped r pieces traces e f = ap (λ ps. concat (traced_pieces ps r.traces)) e ∙ ap (λ ts. concat (traced_pieces pieces ts)) f
+text_shown_is Plain r pieces traces e f = ap concat e
+text_shown_is Stepped r pieces traces e f = ap (λ ps. concat (traced_pieces ps r.traces)) e ∙ ap (λ ts. concat (traced_pieces pieces ts)) f
 
 -- The text of a player's last piece comes last.
-pub told_more : {F : Type 0} (showing : ShowSteps) (next : PlayerView F) (pieces : List (List ℕ)) (traces : List (List Read)) (steps : List Read) →
+pub shown_more : {F : Type 0} (showing : ShowSteps) (next : PlayerView F) (pieces : List (List ℕ)) (traces : List (List Read)) (steps : List Read) →
     HaveSteps showing pieces traces → KeepsShown showing next.machine.steps.most → next.machine.steps ≡ kept_steps next.machine.steps.most steps →
     concat (shown_run showing (run_at next (pieces ++ next.piece ∷ []) (traces ++ steps ∷ []) [])).pieces
     ≡ concat (shown_pieces showing pieces traces) ++ seat_text showing next
-told_more showing next pieces traces steps each keeps kept =
-    told_is showing (run_at next (pieces ++ next.piece ∷ []) (traces ++ steps ∷ []) []) (pieces ++ next.piece ∷ []) (traces ++ steps ∷ []) refl refl
+shown_more showing next pieces traces steps each keeps kept =
+    text_shown_is showing (run_at next (pieces ++ next.piece ∷ []) (traces ++ steps ∷ []) []) (pieces ++ next.piece ∷ []) (traces ++ steps ∷ []) refl refl
     ∙ pieces_more showing next pieces traces steps each keeps kept
 
 -- A step that isn't refused brings a piece.

@@ -30,8 +30,8 @@ use Rattle.paw_play.specs.inner.ShowSteps.{with_shown_steps}
 use Rattle.paw_turn.specs.inner.Player.{IsStanding}
 use Rattle.paw_play.specs.inner.OnTheWay.{IsWalking, ShowsStep, WalksTo}
 use Rattle.paw_turn.proofs.Halting.{plays_halted}
-use Rattle.paw_play.proofs.ShownSteps.{pieces_more, told_more, steps_more, told_none, steps_none, waits_told, halts_told}
-use Rattle.paw_play.proofs.ShownSteps.{same_lines, told_is}
+use Rattle.paw_play.proofs.ShownSteps.{pieces_more, shown_more, steps_more, shown_none, steps_none, waits_shown}
+use Rattle.paw_play.proofs.ShownSteps.{halts_shown, same_lines, text_shown_is}
 use Rattle.paw_effects.specs.Story.{Story}
 
 -- ---- lines ----
@@ -126,9 +126,9 @@ waiting showing g whole n first now seat w seated =
       shown_run showing r,
       record {
         reading = ap (with_shown_steps showing whole) (sym (append-nil (first_lines n first.lines)))
-            ∙ ap (shown_ending showing) (w.goes_on [] ∙ on_waits g w.prompt seat.machine r stands) ∙ waits_told showing w.prompt path r;
+            ∙ ap (shown_ending showing) (w.goes_on [] ∙ on_waits g w.prompt seat.machine r stands) ∙ waits_shown showing w.prompt path r;
         there = w.there;
-        stands = w.stands ∙ ap (with_lines_taken first n) (sym (told_is showing r w.pieces w.traces refl refl));
+        stands = w.stands ∙ ap (with_lines_taken first n) (sym (text_shown_is showing r w.pieces w.traces refl refl));
       },
     )
 
@@ -139,7 +139,7 @@ pub text_so_far : {F : Type 0} (showing : ShowSteps) (g : Story) (whole : Ending
 unfolding waiting
 text_so_far showing g whole n first now seat w seated =
     ap text_of (waiting showing g whole n first now seat w seated).3.reading
-    ∙ told_is showing (run_at seat w.pieces w.traces []) w.pieces w.traces refl refl
+    ∙ text_shown_is showing (run_at seat w.pieces w.traces []) w.pieces w.traces refl refl
 
 -- The text of a step that brings a piece.
 pub text_shown : {F : Type 0} (showing : ShowSteps) (g : Story) (whole : EndingOf) (s : Step) (next : PlayerView F)
@@ -149,12 +149,12 @@ pub text_shown : {F : Type 0} (showing : ShowSteps) (g : Story) (whole : EndingO
 text_shown showing g whole (step.Waits p) next pieces traces each keeps h m plays =
     let r : Run = run_at next (pieces ++ next.piece ∷ []) (traces ++ plays.0 ∷ []) [] in
     ap (λ e. text_of (shown_ending showing e)) (plays.1.1 [] ∙ on_waits g p next.machine r m)
-    ∙ ap text_of (waits_told showing p (reverse next.machine.frames) r)
-    ∙ told_more showing next pieces traces plays.0 each keeps plays.1.0
+    ∙ ap text_of (waits_shown showing p (reverse next.machine.frames) r)
+    ∙ shown_more showing next pieces traces plays.0 each keeps plays.1.0
 text_shown showing g whole step.Ended next pieces traces each keeps h m plays =
     let r : Run = run_at next (pieces ++ next.piece ∷ []) (traces ++ plays.0 ∷ []) [] in
-    ap (λ e. text_of (shown_ending showing e)) (plays.1.1 []) ∙ ap text_of (halts_told showing halt.Over r)
-    ∙ told_more showing next pieces traces plays.0 each keeps plays.1.0
+    ap (λ e. text_of (shown_ending showing e)) (plays.1.1 []) ∙ ap text_of (halts_shown showing halt.Over r)
+    ∙ shown_more showing next pieces traces plays.0 each keeps plays.1.0
 text_shown showing g whole (step.Spent kind) next pieces traces each keeps h m plays = absurd h
 text_shown showing g whole (step.TooDeep u) next pieces traces each keeps h m plays = absurd h
 
@@ -206,10 +206,10 @@ module _ {F : Type 0} (showing : ShowSteps) (g : Story) (whole after : EndingOf)
         shown_run showing e.0,
         same_lines showing e.0 ∙ e.4,
         record {
-          reading = ap (shown_ending showing) (read_all ∙ e.1) ∙ halts_told showing halt e.0;
+          reading = ap (shown_ending showing) (read_all ∙ e.1) ∙ halts_shown showing halt e.0;
           there = there;
           stands = stands_with [] (same ∙ shown_nothing mid)
-              ∙ ap (with_lines_taken first n) (append-nil (concat (shown_pieces showing pieces traces)) ∙ sym (told_is showing e.0 pieces traces e.2 e.3));
+              ∙ ap (with_lines_taken first n) (append-nil (concat (shown_pieces showing pieces traces)) ∙ sym (text_shown_is showing e.0 pieces traces e.2 e.3));
         },
       )
 
@@ -237,10 +237,10 @@ module _ {F : Type 0} (showing : ShowSteps) (g : Story) (whole after : EndingOf)
         shown_run showing r,
         same_lines showing r,
         record {
-          reading = ap (shown_ending showing) (read_all ∙ at.1.1 []) ∙ halts_told showing halt.Over r;
+          reading = ap (shown_ending showing) (read_all ∙ at.1.1 []) ∙ halts_shown showing halt.Over r;
           there = there;
           stands = stands_with (seat_text showing next) told.1
-              ∙ ap (with_lines_taken first n) (sym (told_more showing next pieces traces at.0 each keeps at.1.0));
+              ∙ ap (with_lines_taken first n) (sym (shown_more showing next pieces traces at.0 each keeps at.1.0));
         },
       )
   comes_to most few (Some (end.Spent kind)) told =
@@ -321,8 +321,8 @@ pub walk_begins : {F : Type 0} (showing : ShowSteps) (g : Story) (whole : Ending
     (o : Option PlayEnd) → KeepsShown showing seat.machine.steps.most → IsSeated seat → seat.last ≡ s →
     PlaysTo g whole s seat [] [] → ShowsStep old new (seat_text showing seat) s o → WalksTo showing g whole most old new seat 0 o
 walk_begins showing g whole most old new seat s o keeps seated last plays told =
-    comes_to showing g whole whole 0 old old new seat s [] [] (steps_none showing) keeps last seated (omega arith) (λ more. refl) (sym (told_none showing))
-    (λ part e. first_stands old new part e ∙ ap (λ t. with_lines_taken old 0 (t ++ part)) (sym (told_none showing)))
+    comes_to showing g whole whole 0 old old new seat s [] [] (steps_none showing) keeps last seated (omega arith) (λ more. refl) (sym (shown_none showing))
+    (λ part e. first_stands old new part e ∙ ap (λ t. with_lines_taken old 0 (t ++ part)) (sym (shown_none showing)))
     plays most (omega arith) o told
 
 -- A player that was new has played piece 0.
