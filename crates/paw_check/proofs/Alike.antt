@@ -35,7 +35,7 @@ use Rattle.paw_reading.specs.Reading.{after_parse, after_action}
 use Rattle.paw_reading.specs.Reading.{coming_phrase, carried_out, acts, reads_one, condacts, is_for_now, entries}
 use Rattle.paw_reading.specs.Reading.{from_condact, rest_of_loop, read_at_level}
 use Rattle.paw_reading.specs.Reading.{game_over}
-use Rattle.paw_reading.specs.inner.Steps.{goodbye, quit_question}
+use Rattle.paw_reading.specs.inner.Parts.{goodbye, quit_question}
 use Rattle.paw_reading.proofs.Keeps.{either, prints, Keeps, IsOrNone, CallsKeeping, plain_keeps}
 
 -- The loop that is open is at this level or above it.

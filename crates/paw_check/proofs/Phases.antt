@@ -22,7 +22,7 @@ use Rattle.paw_reading.specs.Turn.{Unended, saying, location_described}
 use Rattle.paw_reading.specs.Turn.{time_frame_passed, view_text, turn_counted, prompt_text, timeout_text, at_main}
 use Rattle.paw_reading.specs.Turn.{after_phrase, refusal_text, exit_taken}
 use Rattle.paw_reading.specs.Turn.{after_left, table_done, turn, phases_left, opening, reading}
-use Rattle.paw_reading.specs.inner.Steps.{line_set, unknown_text}
+use Rattle.paw_reading.specs.inner.Parts.{line_set, unknown_text}
 use Rattle.paw_reading.proofs.Ends.{turns_end}
 use Rattle.paw_check.specs.Promise.{EndsWithin}
 use Rattle.paw_check.specs.inner.Within.{TableWithin}

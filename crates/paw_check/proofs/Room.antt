@@ -16,7 +16,7 @@ use Rattle.paw_reading.specs.Reading.{Out, coming_phrase, table_read}
 use Rattle.paw_reading.specs.Turn.{TurnPhase, AtDescribe, AtTimeFrame, AtPhrase, AtResponse, Ending, Unended}
 use Rattle.paw_reading.specs.Turn.{view_text, turn_counted, prompt_text, timeout_text, refusal_text}
 use Rattle.paw_reading.specs.Turn.{opening}
-use Rattle.paw_reading.specs.inner.Steps.{line_set, unknown_text}
+use Rattle.paw_reading.specs.inner.Parts.{line_set, unknown_text}
 use Rattle.paw_check.specs.Promise.{EndsWithin}
 use Rattle.paw_check.specs.inner.Within.{IsReadyWithin, HasUsed, TableWithin, LeavesDescribed}
 use Rattle.paw_check.proofs.Allowances.{for_phrases, fewer_bytes, phrase_less}

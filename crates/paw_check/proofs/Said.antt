@@ -8,7 +8,7 @@ use Rattle.paw_world.specs.World.{World, flag, is_unlit}
 use Rattle.paw_effects.specs.Texts.{put_text, say_text, location_text}
 use Rattle.paw_reading.specs.Run.{with_timeout}
 use Rattle.paw_reading.specs.Turn.{view_text, prompt_text, timeout_text, refusal_text}
-use Rattle.paw_reading.specs.inner.Steps.{unknown_text}
+use Rattle.paw_reading.specs.inner.Parts.{unknown_text}
 use Rattle.paw_check.specs.Measures.{most_of, most_put, most_said}
 use Rattle.paw_check.specs.Bounds.{most_view, most_refusal, most_prompt}
 use Rattle.paw_check.proofs.Lengths.{among_most, ended_most, put_most, say_most, at_most}

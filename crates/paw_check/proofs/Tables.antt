@@ -46,7 +46,7 @@ use Rattle.paw_reading.specs.Reading.{loop_of, over, prompt_answered, prompt_ask
 use Rattle.paw_reading.specs.Reading.{after_test, after_parse, coming_phrase, after_action, carried_out, acts}
 use Rattle.paw_reading.specs.Reading.{reads_one, condacts, is_for_now}
 use Rattle.paw_reading.specs.Reading.{entries, from_condact, rest_of_loop, read_at_level, game_over}
-use Rattle.paw_reading.specs.inner.Steps.{goodbye, quit_question}
+use Rattle.paw_reading.specs.inner.Parts.{goodbye, quit_question}
 use Rattle.paw_reading.proofs.EachCondact.{by_test}
 use Rattle.paw_reading.proofs.Keeps.{Keeps, CallsKeeping, IsOrNone, either, open_or_not, plain_keeps}
 use Rattle.paw_check.specs.Verbs.{may_write_verb}

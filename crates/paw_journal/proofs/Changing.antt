@@ -11,7 +11,7 @@ use Rattle.std.proofs.lemmas.List.{length-append, length-take-le, take_all, drop
 use Rattle.std.proofs.Math.Seq.{take-suc, drop-cons, set-append_seam}
 use Rattle.paw_journal.specs.Session.{Change, changes, with_changes, is_sound, first_unsound}
 use Rattle.paw_journal.specs.Session.{differing, change_bytes, differences_from}
-use Rattle.paw_journal.specs.inner.Steps.{ChangesInto, ChangesTo}
+use Rattle.paw_journal.specs.inner.Writes.{ChangesInto, ChangesTo}
 use Rattle.paw_journal.specs.Session.{base_length}
 
 pub changes-append : (n : ℕ) (a b : List ℕ) → length a ≡ 4 * n → changes (a ++ b) ≡ changes a ++ changes b

@@ -8,7 +8,7 @@ use Rattle.paw_journal.specs.declared.layout.Slot.{Slot}
 use Rattle.paw_journal.specs.declared.layout.Slot.TheVariants as which
 use Rattle.paw_journal.specs.Session.{recover, recover_by, slot_in_use, kept_digests, slot, session_length, header_length}
 use Rattle.paw_journal.specs.Session.{slot_length}
-use Rattle.paw_journal.specs.inner.Steps.{IsWithin, chosen_session}
+use Rattle.paw_journal.specs.inner.Writes.{IsWithin, chosen_session}
 use Rattle.paw_journal.specs.inner.Store.{InStore, CrashLeavesSuch, IsOldOrNew, InWriteAndSync}
 use Rattle.paw_journal.specs.inner.Room.{slot_number}
 use Rattle.paw_journal.proofs.Parts.{put_one, put_below, put_above}

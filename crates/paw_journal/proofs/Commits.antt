@@ -14,8 +14,8 @@ use Rattle.paw_journal.specs.Session.{slot_shows, stretch, kept_digests, piece_l
 use Rattle.paw_journal.specs.Session.{committed_in}
 use Rattle.paw_journal.specs.inner.Room.{Room, kept_slot, kept_of, with_slot_kept, KeepsSlots, slot_number}
 use Rattle.paw_journal.specs.inner.Written.{most_written}
-use Rattle.paw_journal.specs.inner.Steps.{IsSpare, IsFilling, Drafts, start_of, written_slot, written_session}
-use Rattle.paw_journal.specs.inner.Steps.{chosen_session}
+use Rattle.paw_journal.specs.inner.Writes.{IsSpare, IsFilling, Drafts, start_of, written_slot, written_session}
+use Rattle.paw_journal.specs.inner.Writes.{chosen_session}
 use Rattle.paw_journal.specs.inner.Store.{ChangesStoreOnly}
 use Rattle.paw_journal.specs.inner.Journal.{IsAtRest, KeptIn}
 use Rattle.paw_journal.specs.declared.layout.TheConstants.{PIECE_AT}

@@ -4,7 +4,7 @@ use Rattle.std.proofs.Common.{◌⊎◌, inl, inr}
 use Rattle.std.proofs.lemmas.Bool.Decides.{nat_tests}
 use Rattle.std.proofs.lemmas.List.{ext_get_or}
 use Rattle.paw_stage.specs.Disk.{Range, Disk, is_dirty, MayLeave, disk_written, stable, IsStable, IsInWrite, put_at}
-use Rattle.paw_journal.specs.inner.Steps.{IsWithin}
+use Rattle.paw_journal.specs.inner.Writes.{IsWithin}
 use Rattle.paw_journal.proofs.Parts.{length_put, put_below, put_above}
 
 pub within_stable : (lo hi : ℕ) (d : Disk) → IsStable d → IsWithin lo hi d.bytes d

@@ -12,7 +12,7 @@ use Rattle.paw_journal.specs.Session.{header_length, slot_length}
 use Rattle.paw_journal.specs.declared.layout.Slot.{Slot}
 use Rattle.paw_journal.specs.inner.Room.{slot_number}
 use Rattle.paw_journal.specs.inner.Store.{ChangesStoreOnly, InStore, CrashLeavesSuch}
-use Rattle.paw_journal.specs.inner.Steps.{IsMade, IsSpare, IsWithin, IsFilling, FillsPart, LeavesFirst, start_of}
+use Rattle.paw_journal.specs.inner.Writes.{IsMade, IsSpare, IsWithin, IsFilling, FillsPart, LeavesFirst, start_of}
 use Rattle.paw_journal.specs.inner.Calls.{WritesStore}
 use Rattle.paw_journal.proofs.Parts.{stretch_same}
 use Rattle.paw_journal.proofs.Puts.{stretch_put, stretch_long, put_nothing, put_between}

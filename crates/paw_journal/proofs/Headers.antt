@@ -7,7 +7,7 @@ use Rattle.paw_journal.specs.Session.{Unmade, Damaged, recover, recover_by, slot
 use Rattle.paw_journal.specs.Session.{stretch, header_length, session_length}
 use Rattle.paw_journal.specs.Session.{made_mark}
 use Rattle.paw_journal.specs.inner.Session.{digests_of}
-use Rattle.paw_journal.specs.inner.Steps.{Introduces}
+use Rattle.paw_journal.specs.inner.Writes.{Introduces}
 use Rattle.paw_journal.proofs.Parts.{stretch_stretch}
 use Rattle.paw_journal.proofs.Recovers.{unmade_is, both_digests}
 

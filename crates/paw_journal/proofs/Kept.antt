@@ -17,7 +17,7 @@ use Rattle.paw_journal.specs.Session.{shown_state, zeros, slot_piece, slot_shows
 use Rattle.paw_journal.specs.Session.{piece_length, state_length}
 use Rattle.paw_journal.specs.inner.Room.{kept_slot}
 use Rattle.paw_journal.specs.inner.Written.{most_written}
-use Rattle.paw_journal.specs.inner.Steps.{ChangesInto, Drafts}
+use Rattle.paw_journal.specs.inner.Writes.{ChangesInto, Drafts}
 use Rattle.paw_journal.specs.declared.layout.TheConstants.{BASE_AT, CHANGES_AT, PIECE_AT}
 use Rattle.paw_base.specs.declared.layout.TheConstants.{VERSION}
 use Rattle.paw_journal.specs.Session.{base_length, slot_length}

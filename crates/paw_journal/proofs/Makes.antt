@@ -17,7 +17,7 @@ use Rattle.paw_journal.specs.Session.{made_header}
 use Rattle.paw_journal.specs.inner.Session.{digests_of}
 use Rattle.paw_journal.specs.inner.Store.{ChangesStoreOnly, InStore, CrashLeavesSuch, LeavesUnmade, LeavesMarked}
 use Rattle.paw_journal.specs.inner.Store.{HoldsPut, InWriteAndSync}
-use Rattle.paw_journal.specs.inner.Steps.{IsBlank, IsWithin, LaysBlank}
+use Rattle.paw_journal.specs.inner.Writes.{IsBlank, IsWithin, LaysBlank}
 use Rattle.paw_journal.specs.inner.Calls.{WritesStore}
 use Rattle.paw_journal.proofs.Calls.{writes_then, writes_weaker}
 use Rattle.paw_journal.proofs.Parts.{put_below, put_end}

@@ -5,7 +5,7 @@ use Rattle.paw_stage.specs.Disk.{Disk, MayLeave, IsInWrite, IsStable, disk_writt
 use Rattle.paw_stage.specs.Stage.{Standing, Files, InWrite, InSync, store_holding, wrote, with_written, with_store_synced}
 use Rattle.paw_stage.proofs.Names.{held_other, holds_same}
 use Rattle.paw_journal.specs.Session.{Recovered}
-use Rattle.paw_journal.specs.inner.Steps.{IsWithin}
+use Rattle.paw_journal.specs.inner.Writes.{IsWithin}
 use Rattle.paw_journal.specs.inner.Store.{ChangesStoreOnly, InStore, CrashLeavesSuch}
 use Rattle.paw_journal.proofs.Disks.{within_stable, within_write}
 

@@ -10,7 +10,7 @@ use Rattle.paw_journal.specs.Session.{is_version}
 use Rattle.paw_journal.specs.Session.{Digests, kept_digests, stretch, session_length, slot_length, header_length}
 use Rattle.paw_journal.specs.Session.{made_mark}
 use Rattle.paw_journal.specs.inner.Session.{digests_of}
-use Rattle.paw_journal.specs.inner.Steps.{IsMade}
+use Rattle.paw_journal.specs.inner.Writes.{IsMade}
 use Rattle.paw_journal.proofs.Parts.{stretch_same}
 
 pub recover_is : (k : ℕ) (a : List ℕ) → slot_in_use a ≡ k → recover a ≡ recover_by k a

@@ -19,7 +19,7 @@ use Rattle.paw_journal.specs.Session.{slot_in_use, kept_digests, piece_length, s
 use Rattle.paw_journal.specs.Session.{session_length, slot_length, zeros, made_mark}
 use Rattle.paw_journal.specs.Session.{made_header, made_slot, made_session}
 use Rattle.paw_journal.specs.inner.Store.{ChangesStoreOnly, InStore, CrashLeavesSuch, IsOldOrNew}
-use Rattle.paw_journal.specs.inner.Steps.{Introduces, MakesSession}
+use Rattle.paw_journal.specs.inner.Writes.{Introduces, MakesSession}
 use Rattle.paw_journal.specs.declared.layout.TheConstants.{BASE_AT, PIECE_AT}
 use Rattle.paw_base.specs.declared.layout.TheConstants.{VERSION}
 use Rattle.paw_journal.specs.Session.{base_length}

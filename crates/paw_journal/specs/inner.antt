@@ -3,6 +3,6 @@ pub mod Session
 pub mod Room
 pub mod Store
 pub mod Written
-pub mod Steps
+pub mod Writes
 pub mod Journal
 pub mod Calls

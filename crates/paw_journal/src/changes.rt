@@ -4,7 +4,7 @@ ghost use Rattle.std.specs.Prelude.{◌≡◌, ◌+◌, ◌*◌, ◌<◌, ◌≤
 ghost use Rattle.std.specs.Prelude.{vec_capacity};
 ghost use Rattle.paw_journal.specs.declared.changes.TheConstants.{STRETCH};
 ghost use Rattle.paw_journal.specs.Session.{changes, with_changes, first_unsound, change_bytes};
-ghost use Rattle.paw_journal.specs.inner.Steps.{ChangesInto, ChangesTo};
+ghost use Rattle.paw_journal.specs.inner.Writes.{ChangesInto, ChangesTo};
 
 use crate::layout::BASE_LENGTH;
 

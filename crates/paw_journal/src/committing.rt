@@ -8,7 +8,7 @@ ghost use Rattle.paw_stage.specs.AcrossCalls.{IfTelling};
 ghost use Rattle.paw_journal.specs.Session.{session_length, slot_length, slot_head};
 ghost use Rattle.paw_journal.specs.inner.Room.{slot_number};
 ghost use Rattle.paw_journal.specs.inner.Store.{LeavesSame, LeavesSlot};
-ghost use Rattle.paw_journal.specs.inner.Steps.{IsSpare, LeavesFirst, FillsPart, WritesSlot, Chooses};
+ghost use Rattle.paw_journal.specs.inner.Writes.{IsSpare, LeavesFirst, FillsPart, WritesSlot, Chooses};
 ghost use Rattle.paw_journal.specs.inner.Calls.{WritesStore};
 ghost use Rattle.paw_journal.specs.inner.Journal.{IsAtRest};
 

@@ -2,7 +2,7 @@
 
 ghost use Rattle.std.specs.Prelude.{◌≡◌, ◌≤◌, vec_capacity};
 ghost use Rattle.paw_journal.specs.Session.{slot_length};
-ghost use Rattle.paw_journal.specs.inner.Steps.{Drafts};
+ghost use Rattle.paw_journal.specs.inner.Writes.{Drafts};
 
 use crate::changes::add_changes;
 use crate::layout::{BASE_AT, CHANGE_LENGTH, CHANGES_AT, MOST_CHANGES};

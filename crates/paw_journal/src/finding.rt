@@ -4,7 +4,7 @@ ghost use Rattle.std.specs.Prelude.{◌≡◌, ◌≢◌, ◌+◌, ◌≤◌, No
 ghost use Rattle.paw_base.specs.Bytes.{Bytes};
 ghost use Rattle.paw_journal.specs.Session.{Recovered, Shown, BelongsTo, recover, is_version, stretch, header_length};
 ghost use Rattle.paw_journal.specs.Session.{session_length};
-ghost use Rattle.paw_journal.specs.inner.Steps.{IsHeaderOf, header_digests};
+ghost use Rattle.paw_journal.specs.inner.Writes.{IsHeaderOf, header_digests};
 ghost use Rattle.paw_journal.specs.inner.Calls.{ReadsStore};
 ghost use Rattle.paw_journal.specs.inner.Journal.{IsSessionRefused, refused_call, outside};
 

@@ -6,7 +6,7 @@ ghost use Rattle.paw_journal.specs.Session.{BelongsTo, recover, kept_digests, pi
 ghost use Rattle.paw_journal.specs.inner.Session.{digests_of};
 ghost use Rattle.paw_journal.specs.inner.Written.{WritesLittle};
 ghost use Rattle.paw_journal.specs.inner.Store.{LeavesMade, LeavesOldOr};
-ghost use Rattle.paw_journal.specs.inner.Steps.{MakesSession, CommitsTo};
+ghost use Rattle.paw_journal.specs.inner.Writes.{MakesSession, CommitsTo};
 ghost use Rattle.paw_journal.specs.inner.Calls.{WritesStore, ReadsStore};
 ghost use Rattle.paw_journal.specs.inner.Journal.{IsAtRest, KeptIn, IsSessionRefused, refused_call};
 

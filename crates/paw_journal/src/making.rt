@@ -5,7 +5,7 @@ ghost use Rattle.paw_stage.specs.Disk.{put_at};
 ghost use Rattle.paw_journal.specs.Session.{session_length, header_length, slot_length, made_header};
 ghost use Rattle.paw_journal.specs.inner.Session.{digests_of};
 ghost use Rattle.paw_journal.specs.inner.Store.{LaysSlots, LeavesUnmade, LeavesMarked};
-ghost use Rattle.paw_journal.specs.inner.Steps.{IsBlank, LaysBlank, LaysSession, MarksAsMade};
+ghost use Rattle.paw_journal.specs.inner.Writes.{IsBlank, LaysBlank, LaysSession, MarksAsMade};
 ghost use Rattle.paw_journal.specs.inner.Calls.{WritesStore};
 ghost use Rattle.paw_journal.specs.inner.Journal.{IsAtRest};
 

@@ -8,7 +8,7 @@ ghost use Rattle.paw_journal.specs.inner.Session.{IsDamagedAt};
 ghost use Rattle.paw_journal.specs.inner.Room.{kept_slot, kept_of, with_slot_kept, with_made, with_state};
 ghost use Rattle.paw_journal.specs.inner.Room.{slot_with_records};
 ghost use Rattle.paw_journal.specs.inner.Room.{HasReadSlot, ShowsSlot, KeepsRead};
-ghost use Rattle.paw_journal.specs.inner.Steps.{Drafts};
+ghost use Rattle.paw_journal.specs.inner.Writes.{Drafts};
 ghost use Rattle.paw_journal.specs.inner.Calls.{ReadsStore};
 ghost use Rattle.paw_journal.specs.inner.Journal.{failed_stage_call};
 

@@ -17,7 +17,7 @@ use Rattle.paw_game.specs.declared.parts.Word.{Word}
 abbrev pub after_spaces : Tokens → Line
 after_spaces tokens = flat_map (λ t. 32 ∷ t) tokens
 
--- Tokens in a row: the first, and then the others, each after one space.
+-- Tokens, one after another: the first, and then the others, each after one space.
 abbrev pub tokens_spaced : Tokens → Line
 tokens_spaced [] = []
 tokens_spaced (t ∷ ts) = t ++ after_spaces ts

@@ -29,7 +29,7 @@ use Rattle.paw_reading.specs.Run.{Run, Step, piece_closed, with_world}
 use Rattle.paw_reading.specs.declared.frames.Halt.TheVariants as halt
 use Rattle.paw_reading.specs.Reading.{Out, halts, step_at, step_noted, printing, waits}
 use Rattle.paw_reading.specs.Reading.{acts, carried_out, after_action, loop_of, deeper}
-use Rattle.paw_reading.specs.inner.Steps.{tests_condition, parses}
+use Rattle.paw_reading.specs.inner.Parts.{tests_condition, parses}
 use Rattle.paw_reading.specs.GoingOn.{on_path}
 use Rattle.paw_reading.specs.inner.GoingOn.{along}
 use Rattle.paw_process.specs.inner.OpenTables.{OpenTables}

@@ -17,7 +17,7 @@ ghost use Rattle.paw_effects.specs.declared.act.Prompt.TheVariants as prompt;
 ghost use Rattle.paw_reading.specs.declared.frames.Frame.{Frame};
 ghost use Rattle.paw_reading.specs.Run.{Run};
 ghost use Rattle.paw_reading.specs.Reading.{Left, deeper, printing, waits, loop_of};
-ghost use Rattle.paw_reading.specs.inner.Steps.{parses};
+ghost use Rattle.paw_reading.specs.inner.Parts.{parses};
 ghost use Rattle.paw_reading.specs.inner.GoingOn.{along};
 ghost use Rattle.paw_process.specs.inner.OpenTables.{below, ReadsNone, IsAtCondact, AtCondacts};
 ghost use Rattle.paw_process.specs.inner.OpenTables.{IsLoopWithin, LoopFits, IsReading};

@@ -34,7 +34,7 @@ use Rattle.paw_reading.specs.Turn.{location_described, time_frame_passed}
 use Rattle.paw_reading.specs.Turn.{view_text, turn_counted, prompt_text, at_main, after_phrase, refusal_text, exit_taken}
 use Rattle.paw_reading.specs.Turn.{after_left}
 use Rattle.paw_reading.specs.Turn.{table_done, turn, phases_left, opening, timeout_text}
-use Rattle.paw_reading.specs.inner.Steps.{goodbye, quit_question, line_set, unknown_text}
+use Rattle.paw_reading.specs.inner.Parts.{goodbye, quit_question, line_set, unknown_text}
 use Rattle.paw_reading.specs.inner.Pieces.{count, Counted, PiecesOfLines}
 use Rattle.paw_reading.proofs.Keeps.{either, open_or_not, prints}
 use Rattle.paw_reading.proofs.EachCondact.{plain_goes}

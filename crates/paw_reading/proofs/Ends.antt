@@ -21,7 +21,7 @@ use Rattle.paw_reading.specs.Turn.{TurnPhase, AtDescribe, AtTimeFrame, AtPhrase,
 use Rattle.paw_reading.specs.Turn.{saying, location_described, time_frame_passed}
 use Rattle.paw_reading.specs.Turn.{view_text, prompt_text, at_main, after_phrase, refusal_text, exit_taken, after_left}
 use Rattle.paw_reading.specs.Turn.{table_done, turn, left_to_read, phases_left, first_table, goes_on}
-use Rattle.paw_reading.specs.inner.Steps.{line_set, in_table, unknown_text}
+use Rattle.paw_reading.specs.inner.Parts.{line_set, in_table, unknown_text}
 use Rattle.paw_reading.specs.inner.Turn.{TurnsEnd, EndsOnce, GoingOnEnds, GoesOnOnce}
 use Rattle.paw_reading.proofs.Spends.{brought, brought_more, Spends, table_spends, path_spends}
 

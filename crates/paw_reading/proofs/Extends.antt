@@ -32,7 +32,7 @@ use Rattle.paw_reading.specs.Reading.{waits, after_test}
 use Rattle.paw_reading.specs.Reading.{after_parse, after_action, carried_out, acts, reads_one, is_for_now}
 use Rattle.paw_reading.specs.Reading.{rest_of_entry, from_condact, rest_of_loop, deeper}
 use Rattle.paw_reading.specs.Reading.{rest_of_table, coming_phrase, game_over}
-use Rattle.paw_reading.specs.inner.Steps.{goodbye, quit_question}
+use Rattle.paw_reading.specs.inner.Parts.{goodbye, quit_question}
 use Rattle.paw_reading.specs.GoingOn.{on_path}
 use Rattle.paw_reading.proofs.Keeps.{Keeps, at_level_own, at_level_is, turns_closes, plain_keeps, looped_closes}
 use Rattle.paw_reading.proofs.Keeps.{deeper_keeps}

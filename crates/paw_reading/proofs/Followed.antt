@@ -23,7 +23,7 @@ use Rattle.paw_reading.specs.Turn.{location_described, time_frame_passed, view_t
 use Rattle.paw_reading.specs.Turn.{refusal_text}
 use Rattle.paw_reading.specs.Turn.{exit_taken, after_left, table_done, turn, phases_left, turns_from, opening}
 use Rattle.paw_reading.specs.Turn.{first_table, goes_on, timeout_text}
-use Rattle.paw_reading.specs.inner.Steps.{line_set, unknown_text}
+use Rattle.paw_reading.specs.inner.Parts.{line_set, unknown_text}
 use Rattle.paw_reading.specs.inner.Turn.{ending_followed, GoingOnIsReading}
 use Rattle.paw_reading.specs.inner.Longer.{TurnsGoOn}
 use Rattle.paw_reading.specs.inner.Waits.{IsLoopOf}

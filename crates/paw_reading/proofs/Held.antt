@@ -42,7 +42,7 @@ use Rattle.paw_reading.specs.Reading.{from_condact, rest_of_loop, read_at_level}
 use Rattle.paw_reading.specs.Reading.{table_called, deeper, rest_of_table, table_read, game_over, waits}
 use Rattle.paw_reading.specs.GoingOn.{on_path}
 use Rattle.paw_reading.specs.Turn.{first_table}
-use Rattle.paw_reading.specs.inner.Steps.{goodbye, quit_question}
+use Rattle.paw_reading.specs.inner.Parts.{goodbye, quit_question}
 use Rattle.paw_reading.specs.inner.Waits.{IsAt, LeadsTo, tables_of, IsLoopIn}
 use Rattle.paw_reading.proofs.Lists.{drop_more}
 use Rattle.paw_reading.proofs.Keeps.{either, open_or_not, at_level_is, prints}

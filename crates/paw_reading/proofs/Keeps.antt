@@ -30,7 +30,7 @@ use Rattle.paw_reading.specs.Reading.{after_action, carried_out}
 use Rattle.paw_reading.specs.Reading.{acts, reads_one, from_condact, rest_of_loop, read_at_level, table_called, deeper}
 use Rattle.paw_reading.specs.Reading.{game_over, printing}
 use Rattle.paw_reading.specs.Reading.{waits}
-use Rattle.paw_reading.specs.inner.Steps.{goodbye, quit_question}
+use Rattle.paw_reading.specs.inner.Parts.{goodbye, quit_question}
 use Rattle.paw_reading.proofs.EachCondact.{plain_goes}
 
 -- The loop is this one, or there is none.

@@ -15,7 +15,7 @@ use Rattle.paw_reading.specs.Reading.{Out, Left, Waits, Stopped, after_call, at_
 use Rattle.paw_reading.specs.Reading.{over_objects, loop_of, over, prompt_asked}
 use Rattle.paw_reading.specs.Reading.{reads_one, entries, is_for_now, rest_of_entry, from_condact, rest_of_loop, deeper}
 use Rattle.paw_reading.specs.Reading.{rest_of_table, game_over}
-use Rattle.paw_reading.specs.inner.Steps.{goodbye}
+use Rattle.paw_reading.specs.inner.Parts.{goodbye}
 use Rattle.paw_reading.specs.GoingOn.{on_path}
 use Rattle.paw_reading.specs.inner.Rules.{past, at_frame, leaves, looks, goes, MayRead, ReadsEntries, ReadsCondacts}
 use Rattle.paw_reading.specs.inner.Rules.{FollowsActions}

@@ -26,7 +26,7 @@ use Rattle.paw_reading.specs.Turn.{refusal_text}
 use Rattle.paw_reading.specs.Turn.{exit_taken, after_left, table_done, turn, phases_left, first_table, goes_on}
 use Rattle.paw_reading.specs.Turn.{going_on_from, reading}
 use Rattle.paw_reading.specs.Turn.{text_of, timeout_text}
-use Rattle.paw_reading.specs.inner.Steps.{line_set, in_table, unknown_text}
+use Rattle.paw_reading.specs.inner.Parts.{line_set, in_table, unknown_text}
 use Rattle.paw_reading.specs.inner.Longer.{with_past, without_past, ending_with_past, PastStays, LongerReading}
 use Rattle.paw_reading.specs.inner.Longer.{LongerText}
 use Rattle.paw_reading.proofs.Onward.{waits_on}

@@ -31,7 +31,7 @@ use Rattle.paw_reading.specs.Turn.{location_described, time_frame_passed, view_t
 use Rattle.paw_reading.specs.Turn.{refusal_text}
 use Rattle.paw_reading.specs.Turn.{exit_taken, after_left, table_done, turn, phases_left, opening, first_table, goes_on}
 use Rattle.paw_reading.specs.Turn.{timeout_text}
-use Rattle.paw_reading.specs.inner.Steps.{line_set, in_table, unknown_text}
+use Rattle.paw_reading.specs.inner.Parts.{line_set, in_table, unknown_text}
 use Rattle.paw_reading.specs.Bounds.{IsLine, ValidStory}
 use Rattle.paw_reading.specs.inner.Bounds.{IsBounded}
 use Rattle.paw_reading.specs.inner.Longer.{without_past, with_past, ending_with_past}

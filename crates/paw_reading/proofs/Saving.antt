@@ -41,7 +41,7 @@ use Rattle.paw_reading.specs.Turn.{exit_taken, after_left, table_done, turn, pha
 use Rattle.paw_reading.specs.Turn.{timeout_text}
 use Rattle.paw_reading.specs.Saving.{NeverSaves}
 use Rattle.paw_reading.specs.inner.Saving.{no_positions, EndsKeeping, ReadingsKeepNoPosition, GoingOnKeepsPositions}
-use Rattle.paw_reading.specs.inner.Steps.{goodbye, quit_question, line_set, unknown_text, in_table}
+use Rattle.paw_reading.specs.inner.Parts.{goodbye, quit_question, line_set, unknown_text, in_table}
 use Rattle.paw_reading.proofs.Lists.{drop_more}
 use Rattle.paw_reading.proofs.Keeps.{either, open_or_not, prints}
 

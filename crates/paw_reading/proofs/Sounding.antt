@@ -51,7 +51,7 @@ use Rattle.paw_reading.specs.Turn.{view_text, turn_counted, prompt_text, at_main
 use Rattle.paw_reading.specs.Turn.{after_left}
 use Rattle.paw_reading.specs.Turn.{table_done, turn, phases_left, opening, reading, first_table, goes_on, going_on_from}
 use Rattle.paw_reading.specs.Turn.{timeout_text}
-use Rattle.paw_reading.specs.inner.Steps.{goodbye, quit_question, line_set, in_table, unknown_text}
+use Rattle.paw_reading.specs.inner.Parts.{goodbye, quit_question, line_set, in_table, unknown_text}
 use Rattle.paw_reading.proofs.EachCondact.{by_test}
 use Rattle.paw_reading.proofs.Keeps.{either, open_or_not}
 use Rattle.paw_reading.specs.Bounds.{IsLine, ValidStory}

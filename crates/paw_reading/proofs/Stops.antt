@@ -25,7 +25,7 @@ use Rattle.paw_reading.specs.Reading.{after_parse, after_action}
 use Rattle.paw_reading.specs.Reading.{carried_out, acts, reads_one, from_condact, rest_of_loop, read_at_level, table_called}
 use Rattle.paw_reading.specs.Reading.{deeper, rest_of_table, game_over}
 use Rattle.paw_reading.specs.Reading.{waits}
-use Rattle.paw_reading.specs.inner.Steps.{goodbye, quit_question}
+use Rattle.paw_reading.specs.inner.Parts.{goodbye, quit_question}
 use Rattle.paw_reading.specs.GoingOn.{on_path}
 use Rattle.paw_reading.proofs.Keeps.{either, open_or_not, prints}
 use Rattle.paw_reading.proofs.EachCondact.{plain_goes}

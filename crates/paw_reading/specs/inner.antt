@@ -1,6 +1,6 @@
 -- Words of contracts between crates, and of proofs. What a reader must believe doesn't reach them.
 pub mod GoingOn
-pub mod Steps
+pub mod Parts
 pub mod Rules
 pub mod Turn
 pub mod Longer

@@ -1,5 +1,5 @@
--- What happened at a stage across a call, or across several in a row: `old` is the stage before, `new` the stage after,
--- and `g` has what the stage reports.
+-- What happened at a stage across a call, or across several, one after another: `old` is the stage before, `new` the
+-- stage after, and `g` has what the stage reports.
 use Rattle.std.specs.Prelude.{◌≡◌, ◌↔◌, ◌⊎◌, ◌≤◌, ℕ, List, [], ◌∷◌, Option, IfSome}
 use Rattle.paw_stage.specs.declared.StageCall.{StageCall}
 use Rattle.paw_stage.specs.Stage.{Standing, CountsFailure}

@@ -58,8 +58,8 @@ file_bytes s name = bytes_or_none (s.files name)
 abbrev pub Rose : ℕ → ℕ → Type 0
 Rose old new = (old < new) ⊎ ((old ≡ 2 ^ 64 - 1) × (new ≡ 2 ^ 64 - 1))
 
--- What one call, or several in a row, did to the counts of failures: the count of the call that failed rose, and no
--- other changed. Where none failed, none changed.
+-- What one call, or several, one after another, did to the counts of failures: the count of the call that failed rose,
+-- and no other changed. Where none failed, none changed.
 abbrev pub CountsFailure : Option StageCall → (StageCall → ℕ) → (StageCall → ℕ) → Type 0
 CountsFailure None old new = (c : StageCall) → new c ≡ old c
 CountsFailure (Some failed) old new = Rose (old failed) (new failed) × ((c : StageCall) → c ≢ failed → new c ≡ old c)

@@ -27,7 +27,7 @@ use Rattle.paw_base.specs.Bytes.{Bytes, Lines, Name, RoutineAnswers, Seed, Text,
 use Rattle.paw_journal.specs.Session.{Digests, Recovered, Shown, recover, kept_digests, base_length, state_length}
 use Rattle.paw_journal.specs.Session.{session_committed}
 use Rattle.paw_journal.specs.inner.Store.{InStore, CrashLeavesSuch, IsOldOrNew}
-use Rattle.paw_journal.specs.inner.Steps.{SameDigests}
+use Rattle.paw_journal.specs.inner.Writes.{SameDigests}
 use Rattle.paw_journal.specs.inner.Room.{Room}
 use Rattle.paw_journal.specs.inner.Journal.{IsAtRest, KeptIn}
 use Rattle.paw_journal.specs.declared.store.Attached.{Attached}

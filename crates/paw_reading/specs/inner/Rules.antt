@@ -28,7 +28,7 @@ use Rattle.paw_reading.specs.Reading.{over_objects}
 use Rattle.paw_reading.specs.Reading.{loop_of}
 use Rattle.paw_reading.specs.Reading.{over, coming_phrase, after_action, carried_out, frame_at}
 use Rattle.paw_reading.specs.Reading.{is_for_now, rest_of_entry, from_condact, rest_of_loop, deeper, rest_of_table}
-use Rattle.paw_reading.specs.inner.Steps.{quit_question}
+use Rattle.paw_reading.specs.inner.Parts.{quit_question}
 use Rattle.paw_reading.specs.GoingOn.{on_path}
 
 -- ---- words ----

@@ -1,5 +1,5 @@
--- What happened at a stage across a call, or across several in a row: definitions for contracts and proofs, besides
--- those of specs/AcrossCalls.antt.
+-- What happened at a stage across a call, or across several, one after another: definitions for contracts and proofs,
+-- besides those of specs/AcrossCalls.antt.
 use Rattle.std.specs.Prelude.{Result, OnOk}
 use Rattle.paw_stage.specs.Stage.{Standing}
 use Rattle.paw_stage.specs.declared.Stage.{Ghosts}

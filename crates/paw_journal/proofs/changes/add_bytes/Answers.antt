@@ -1,6 +1,6 @@
 use Rattle.std.proofs.Common.{◌+◌, ◌<◌, ◌∙◌, length, arith, sym, refl, ap, subst}
 use Rattle.std.specs.Prelude.{vec_capacity}
-use Rattle.paw_journal.specs.inner.Steps.{ChangesTo}
+use Rattle.paw_journal.specs.inner.Writes.{ChangesTo}
 use Rattle.paw_journal.proofs.Changing.{leads_same, leads_other, at_next}
 use Rattle.paw_journal.proofs.changes.add_bytes.Goals.{then-old-at, else-old-at}
 use Rattle.paw_journal.proofs.changes.add_bytes.Goals as goal

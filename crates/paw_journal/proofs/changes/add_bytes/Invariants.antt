@@ -1,6 +1,6 @@
 use Rattle.std.proofs.Common.{◌≤◌}
 use Rattle.std.specs.Prelude.{vec_capacity}
-use Rattle.paw_journal.specs.inner.Steps.{ChangesTo}
+use Rattle.paw_journal.specs.inner.Writes.{ChangesTo}
 use Rattle.paw_journal.proofs.changes.add_bytes.Given as goal
 
 abbrev pub invariant-loop-at : goal.invariant-loop-at

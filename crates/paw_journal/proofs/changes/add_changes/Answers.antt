@@ -1,6 +1,6 @@
 use Rattle.std.proofs.Common.{◌*◌, arith, subst}
 use Rattle.paw_journal.specs.declared.changes.TheConstants.{STRETCH}
-use Rattle.paw_journal.specs.inner.Steps.{ChangesTo}
+use Rattle.paw_journal.specs.inner.Writes.{ChangesTo}
 use Rattle.paw_journal.proofs.Changing.{leads_none, leads_all}
 use Rattle.paw_journal.proofs.changes.add_changes.Goals as goal
 

@@ -1,7 +1,7 @@
 use Rattle.std.proofs.Common.{◌≤◌, ◌*◌}
 use Rattle.std.specs.Prelude.{vec_capacity}
 use Rattle.paw_journal.specs.declared.changes.TheConstants.{STRETCH}
-use Rattle.paw_journal.specs.inner.Steps.{ChangesTo}
+use Rattle.paw_journal.specs.inner.Writes.{ChangesTo}
 use Rattle.paw_journal.proofs.changes.add_changes.Given as goal
 
 abbrev pub invariant-loop-stretch : goal.invariant-loop-stretch

@@ -4,7 +4,7 @@ use Rattle.paw_stage.specs.Stage.{Standing}
 use Rattle.paw_journal.specs.declared.layout.Slot.{Slot}
 use Rattle.paw_journal.specs.Session.{slot}
 use Rattle.paw_journal.specs.inner.Journal.{IsAtRest}
-use Rattle.paw_journal.specs.inner.Steps.{IsSpare, IsFilling}
+use Rattle.paw_journal.specs.inner.Writes.{IsSpare, IsFilling}
 use Rattle.paw_journal.specs.inner.Room.{slot_number}
 use Rattle.paw_journal.specs.declared.layout.TheConstants.{PIECE_AT}
 use Rattle.paw_journal.proofs.Calls.{writes_failed, writes_then}

@@ -2,7 +2,7 @@ use Rattle.std.proofs.Common.{◌++◌, length, ap, ◌∙◌}
 use Rattle.paw_stage.specs.Disk.{stable}
 use Rattle.paw_journal.specs.Session.{made_header}
 use Rattle.paw_journal.specs.inner.Session.{digests_of}
-use Rattle.paw_journal.specs.inner.Steps.{LaysBlank}
+use Rattle.paw_journal.specs.inner.Writes.{LaysBlank}
 use Rattle.paw_journal.proofs.Calls.{writes_failed}
 use Rattle.paw_journal.proofs.Makes.{length_header, unmade_then}
 use Rattle.paw_journal.proofs.making.lay_out.Goals as goal

@@ -1,6 +1,6 @@
 use Rattle.std.proofs.Common.{arith, length, ap, subst}
 use Rattle.paw_journal.specs.inner.Session.{digests_of}
-use Rattle.paw_journal.specs.inner.Steps.{IsBlank}
+use Rattle.paw_journal.specs.inner.Writes.{IsBlank}
 use Rattle.paw_journal.proofs.Calls.{writes_weaker}
 use Rattle.paw_journal.proofs.Moved.{beside_none}
 use Rattle.paw_journal.proofs.Makes.{in_blank_write, blank_now, blank_wrote, header_written}

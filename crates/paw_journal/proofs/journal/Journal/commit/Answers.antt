@@ -7,7 +7,7 @@ use Rattle.paw_journal.specs.inner.Session.{session_shown}
 use Rattle.paw_journal.specs.inner.Room.{kept_of, kept_slot, slot_number}
 use Rattle.paw_journal.specs.inner.Written.{WritesLittle}
 use Rattle.paw_journal.specs.inner.Store.{LeavesOldOr, LeavesSlot}
-use Rattle.paw_journal.specs.inner.Steps.{Chooses, CommitsTo, Drafts, IsSpare, IsFilling, WritesSlot, written_slot}
+use Rattle.paw_journal.specs.inner.Writes.{Chooses, CommitsTo, Drafts, IsSpare, IsFilling, WritesSlot, written_slot}
 use Rattle.paw_journal.specs.inner.Calls.{WritesStore}
 use Rattle.paw_journal.proofs.Calls.{writes_done, writes_failed, writes_then}
 use Rattle.paw_journal.proofs.Moved.{beside_none}

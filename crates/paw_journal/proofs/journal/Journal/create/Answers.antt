@@ -6,7 +6,7 @@ use Rattle.paw_stage.specs.declared.StageCall.{StageCall}
 use Rattle.paw_journal.specs.Session.{recover, kept_digests, slot_length, made_slot, made_session}
 use Rattle.paw_journal.specs.inner.Session.{digests_of, with_made_mark, session_shown}
 use Rattle.paw_journal.specs.inner.Store.{LeavesMade, LeavesMarked}
-use Rattle.paw_journal.specs.inner.Steps.{MakesSession, MarksAsMade}
+use Rattle.paw_journal.specs.inner.Writes.{MakesSession, MarksAsMade}
 use Rattle.paw_journal.specs.inner.Calls.{WritesStore}
 use Rattle.paw_journal.proofs.Calls.{writes_done, writes_failed, writes_then}
 use Rattle.paw_journal.proofs.Moved.{beside_none}

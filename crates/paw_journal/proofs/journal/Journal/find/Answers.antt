@@ -4,7 +4,7 @@ use Rattle.std.specs.Prelude.{None}
 use Rattle.paw_journal.specs.Session.{BelongsTo, recover, slot_shows, slot, kept_digests}
 use Rattle.paw_journal.specs.inner.Calls.{ReadsStore}
 use Rattle.paw_journal.specs.inner.Room.{HasReadSlot, slot_number}
-use Rattle.paw_journal.specs.inner.Steps.{header_digests}
+use Rattle.paw_journal.specs.inner.Writes.{header_digests}
 use Rattle.paw_journal.proofs.Calls.{reads_named, reads_then}
 use Rattle.paw_journal.proofs.Sessions.{introduced_shows, found_keeps, found_slots}
 use Rattle.paw_journal.proofs.Sessions.{shown_stays}

@@ -141,7 +141,7 @@ pub record ChangesInto (old new records : Bytes) : Type 0 where
   pub sound : first_unsound (changes records) ≡ None
   pub turned : with_changes (changes records) old ≡ new
 
--- Change records turn this many bytes of one state into those of another.
+-- Change records that make the first i bytes of one state those of another.
 pub record ChangesTo (old new : Bytes) (i : ℕ) (records : Bytes) : Type 0 where
   pub exact : records ++ differences_from i (drop i old) (drop i new) ≡ differences old new
   pub many : length records ≡ 4 * differing (take i old) (take i new)
