@@ -31,7 +31,7 @@ use std::alloc::Global;
 use std::marker::Model;
 
 // A line that is left.
-type Line = Rows<u8>;
+type LineBytes = Rows<u8>;
 
 /// A stage in memory, which reports everything.
 ///
@@ -41,7 +41,7 @@ type Line = Rows<u8>;
 /// from the spare bytes. Exactly where either is too small the call is Failed, and then only its own count changes.
 #[derive(Drop)]
 pub struct MemoryStage {
-    lines: Vec<Line>,
+    lines: Vec<LineBytes>,
     next: usize,
     log: Log,
     counts: FailureCounts,
@@ -90,7 +90,7 @@ impl MemoryStage {
         ensures ok { OnOk result (self.new ≡ with_line_left line.now self.old) }
         ensures err { OnErr result (self.new ≡ self.old) }
     {
-        let line = Line::from_slice(alloc, line)?;
+        let line = LineBytes::from_slice(alloc, line)?;
         self.lines.push(line).map_err(|_| NoRoom)
     }
 
