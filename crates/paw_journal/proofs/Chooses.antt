@@ -2,7 +2,7 @@
 use Rattle.std.proofs.Common.{◌≡◌, ◌≢◌, ℕ, ◌+◌, ◌-◌, ◌*◌, ◌%◌, ◌≤◌, ◌<◌, List, [], ◌∷◌, length, ap, ◌∙◌, arith, get_or, refl}
 use Rattle.std.proofs.Common.{◌⊎◌, inl, inr}
 use Rattle.paw_stage.specs.Disk.{Disk, IsStable, disk_written}
-use Rattle.paw_stage.specs.Stage.{Standing, wrote}
+use Rattle.paw_stage.specs.Stage.{Standing, with_disk}
 use Rattle.paw_stage.specs.Stage.{InWrite, InSync}
 use Rattle.paw_journal.specs.declared.layout.Slot.{Slot}
 use Rattle.paw_journal.specs.declared.layout.Slot.TheVariants as which
@@ -53,7 +53,7 @@ in_choosing k s m low long h w = in_moved_write 1 2 1 1 s s _ m (moved_none 1 2 
     (omega arith) (λ d i. choosing k s.disk.bytes d low long i) w
 
 chose : (x : ℕ) (s t : Standing) (n : ℕ) → length s.disk.bytes ≡ session_length → IsStable s.disk →
-    t ≡ wrote s (disk_written 1 1 (x ∷ []) s.disk) n → IsMoved 1 2 s t
+    t ≡ with_disk s (disk_written 1 1 (x ∷ []) s.disk) n → IsMoved 1 2 s t
 chose x s t n long h e = moved_wrote 1 2 1 1 n (x ∷ []) s s t (moved_none 1 2 s h) (omega arith) (omega arith) (omega arith) (omega arith) e
 
 in_chosen : (k : ℕ) (s t : Standing) (m : Standing) → k < 2 → length s.disk.bytes ≡ session_length → IsMoved 1 2 s t →

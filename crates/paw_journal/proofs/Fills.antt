@@ -5,7 +5,7 @@ use Rattle.std.specs.Prelude.{Result, Ok}
 use Rattle.paw_stage.specs.declared.Stage.{Ghosts}
 use Rattle.paw_stage.specs.declared.StageCall.{StageCall}
 use Rattle.paw_stage.specs.Disk.{Disk, put_at, stable, IsStable, disk_written}
-use Rattle.paw_stage.specs.Stage.{Standing, wrote}
+use Rattle.paw_stage.specs.Stage.{Standing, with_disk}
 use Rattle.paw_stage.specs.Stage.{InWrite, InSync}
 use Rattle.paw_journal.specs.Session.{recover, recover_by, is_version, slot, slot_in_use, kept_digests, session_length}
 use Rattle.paw_journal.specs.Session.{header_length, slot_length}
@@ -54,7 +54,7 @@ moved k s t h = record { beside = h.beside; within = h.within }
 
 pub filling_wrote : (k at a : ℕ) (new : List ℕ) (s t u : Standing) → IsFilling k s t →
     at ≡ header_length + slot_length * k + a → a + length new ≤ slot_length →
-    u ≡ wrote t (disk_written at (length new) new t.disk) (length new) → IsFilling k s u
+    u ≡ with_disk t (disk_written at (length new) new t.disk) (length new) → IsFilling k s u
 filling_wrote k at a new s t u h e fits w =
     let l = h.low in
     let b = h.made.long in
@@ -87,7 +87,7 @@ parts_then {two = two} h k =
 -- The bytes of the slot itself.
 pub wrote_slot : (k at a : ℕ) (new : List ℕ) (t u : Standing) → k < 2 → length t.disk.bytes ≡ session_length →
     at ≡ header_length + slot_length * k + a → a + length new ≤ slot_length →
-    u ≡ wrote t (disk_written at (length new) new t.disk) (length new) →
+    u ≡ with_disk t (disk_written at (length new) new t.disk) (length new) →
     slot k u.disk.bytes ≡ put_at a new (slot k t.disk.bytes)
 wrote_slot k at a new t u low long e fits w =
     ap (λ x. slot k x.disk.bytes) w

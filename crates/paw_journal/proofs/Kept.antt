@@ -10,7 +10,7 @@ use Rattle.paw_journal.specs.declared.drafting.SlotState.{SlotState}
 use Rattle.paw_journal.specs.declared.drafting.CommitDraft.{CommitDraft}
 use Rattle.paw_journal.specs.Session.{Digests, Damaged, Shown, stretch, two_byte_number, base, changes, with_changes}
 use Rattle.paw_journal.specs.Session.{first_unsound, slot_changes, slot_state}
-use Rattle.paw_journal.specs.Session.{has_state, differing, differences, slot_head, rewritten, records_with}
+use Rattle.paw_journal.specs.Session.{has_state, differing, differences, slot_head, slot_rewritten, records_with}
 use Rattle.paw_journal.specs.Session.{takes_changes, committed_slot}
 use Rattle.paw_journal.specs.Session.{is_current, form_length, slot_version}
 use Rattle.paw_journal.specs.Session.{shown_state, zeros, slot_piece, slot_shows, shown_unless, most_changes}
@@ -242,26 +242,26 @@ takes_as n was state old is =
     ∙ ap (λ l. nat_le (n + differing l state) most_changes) k.3))
 
 exact_base : (state bytes piece old : List ℕ) → bytes ≡ state → takes_changes state old ≡ false →
-    rewritten BASE_AT bytes 0 piece old ≡ committed_slot state piece old
+    slot_rewritten BASE_AT bytes 0 piece old ≡ committed_slot state piece old
 unfolding committed_slot
 exact_base state bytes piece old e t =
-    ap (λ b. rewritten BASE_AT b 0 piece old) e
-    ∙ sym (ap (λ b. if b then rewritten (CHANGES_AT + 4 * two_byte_number 0 old) (differences (slot_state old) state) (records_with state old) piece old
-    else rewritten BASE_AT state 0 piece old) t)
+    ap (λ b. slot_rewritten BASE_AT b 0 piece old) e
+    ∙ sym (ap (λ b. if b then slot_rewritten (CHANGES_AT + 4 * two_byte_number 0 old) (differences (slot_state old) state) (records_with state old) piece old
+    else slot_rewritten BASE_AT state 0 piece old) t)
 
 exact_behind : (n c : ℕ) (was state bytes piece old : List ℕ) → bytes ≡ differences was state → differing was state ≡ c →
     n + c ≤ most_changes → kept_slot old ≡ Some (record { records = n; state = was }) →
-    rewritten (CHANGES_AT + 4 * n) bytes (n + c) piece old ≡ committed_slot state piece old
+    slot_rewritten (CHANGES_AT + 4 * n) bytes (n + c) piece old ≡ committed_slot state piece old
 unfolding committed_slot
 exact_behind n c was state bytes piece old e d few is =
     let k = kept_some (is_current old) (has_state old) (record { records = two_byte_number 0 old; state = slot_state old }) n was is in
     let t = takes_as n was state old is ∙ low n c (differing was state) d few in
-    sym (ap (λ b. if b then rewritten (CHANGES_AT + 4 * two_byte_number 0 old) (differences (slot_state old) state) (records_with state old) piece old
-    else rewritten BASE_AT state 0 piece old) t
-    ∙ (ap (λ m. rewritten (CHANGES_AT + 4 * m) (differences (slot_state old) state) (m + differing (slot_state old) state) piece old) k.2
-    ∙ (ap (λ l. rewritten (CHANGES_AT + 4 * n) (differences l state) (n + differing l state) piece old) k.3
-    ∙ (ap (λ m. rewritten (CHANGES_AT + 4 * n) (differences was state) (n + m) piece old) d
-    ∙ ap (λ b. rewritten (CHANGES_AT + 4 * n) b (n + c) piece old) (sym e)))))
+    sym (ap (λ b. if b then slot_rewritten (CHANGES_AT + 4 * two_byte_number 0 old) (differences (slot_state old) state) (records_with state old) piece old
+    else slot_rewritten BASE_AT state 0 piece old) t
+    ∙ (ap (λ m. slot_rewritten (CHANGES_AT + 4 * m) (differences (slot_state old) state) (m + differing (slot_state old) state) piece old) k.2
+    ∙ (ap (λ l. slot_rewritten (CHANGES_AT + 4 * n) (differences l state) (n + differing l state) piece old) k.3
+    ∙ (ap (λ m. slot_rewritten (CHANGES_AT + 4 * n) (differences was state) (n + m) piece old) d
+    ∙ ap (λ b. slot_rewritten (CHANGES_AT + 4 * n) b (n + c) piece old) (sym e)))))
   where
     low : (n c d : ℕ) → d ≡ c → n + c ≤ most_changes → nat_le (n + d) most_changes ≡ true
     low n c d e few = grind (arith, nat_tests)

@@ -9,7 +9,7 @@ use Rattle.std.proofs.lemmas.List.{length-append, length-drop, length-replicate,
 use Rattle.paw_stage.specs.declared.Stage.{Ghosts}
 use Rattle.paw_stage.specs.declared.StageCall.{StageCall}
 use Rattle.paw_stage.specs.Disk.{Range, Disk, is_dirty, IsInWrite, put_at, stable, IsStable, disk_written}
-use Rattle.paw_stage.specs.Stage.{Standing, wrote, with_written}
+use Rattle.paw_stage.specs.Stage.{Standing, with_disk, with_written}
 use Rattle.paw_stage.specs.Stage.{InWrite, InSync}
 use Rattle.paw_base.specs.declared.layout.TheConstants.{VERSION}
 use Rattle.paw_journal.specs.Session.{Digests, IsUnmade, recover, session_mark, zeros, made_mark, session_length}
@@ -41,7 +41,7 @@ in_beginning : (s m : Standing) → s.disk.longest ≤ 1 → InWrite s 0 1 m →
 in_beginning s m h w = in_write s 0 1 (CrashLeavesSuch IsUnmade) m (λ d i. short_leaves d (short_write s.disk d h i)) w
 
 in_begun : (x n : ℕ) (s t : Standing) (m : Standing) → s.disk.longest ≤ 1 →
-    t ≡ wrote s (disk_written 0 1 (x ∷ []) s.disk) n → InSync t m → InStore s (CrashLeavesSuch IsUnmade) m
+    t ≡ with_disk s (disk_written 0 1 (x ∷ []) s.disk) n → InSync t m → InStore s (CrashLeavesSuch IsUnmade) m
 in_begun x n s t m h e w =
     let l : t.disk.longest ≤ 1 = let q : t.disk.longest ≡ max s.disk.longest 1 = ap (λ x. x.disk.longest) e in omega arith in
     in_later s t (CrashLeavesSuch IsUnmade) (CrashLeavesSuch IsUnmade) m (beside_wrote s t _ n e) (λ d p. p) (in_sync t IsUnmade m (short_leaves t.disk l) w)
@@ -86,7 +86,7 @@ in_blank_sync s t m b h w =
     in_later s t (CrashLeavesSuch IsUnmade) (CrashLeavesSuch IsUnmade) m b (λ d p. p) (in_sync t IsUnmade m (blank_leaves t.disk.bytes t.disk h) w)
 
 pub blank_wrote : (at : ℕ) (new : List ℕ) (s t : Standing) (n c : ℕ) → IsBlank s.disk.bytes s.disk → 1 ≤ at →
-    at ≤ length s.disk.bytes → t ≡ wrote s (disk_written at n new s.disk) c → IsBlank (put_at at new s.disk.bytes) t.disk
+    at ≤ length s.disk.bytes → t ≡ with_disk s (disk_written at n new s.disk) c → IsBlank (put_at at new s.disk.bytes) t.disk
 blank_wrote at new s t n c h low high e =
     subst (λ d. IsBlank (put_at at new s.disk.bytes) d) (sym (ap (λ x. x.disk) e)) (blank_touched at n new s.disk h low high)
 
@@ -169,7 +169,7 @@ in_marking s m long h w = in_moved_write 0 1 0 1 s s
     (omega arith) (omega arith) (λ d i. marking s.disk.bytes d long i) w
 
 in_marked : (x c : ℕ) (s t : Standing) (m : Standing) → length s.disk.bytes ≡ session_length → IsStable s.disk →
-    t ≡ wrote s (disk_written 0 1 (x ∷ []) s.disk) c → InSync t m →
+    t ≡ with_disk s (disk_written 0 1 (x ∷ []) s.disk) c → InSync t m →
     InStore s (CrashLeavesSuch (λ r. IsUnmade r ⊎ (r ≡ recover (made_mark ∷ drop 1 s.disk.bytes)))) m
 in_marked x c s t m long h e w =
     in_moved_sync 0 1 s t (λ r. IsUnmade r ⊎ (r ≡ recover (made_mark ∷ drop 1 s.disk.bytes))) m
@@ -213,7 +213,7 @@ appends {g = g} at bytes {old = old} {new = new} call low blank end =
     (omega (arith, end tells)))
   where
     blank_end : (at : ℕ) (new : List ℕ) (s t : Standing) (n c : ℕ) → IsBlank s.disk.bytes s.disk → 1 ≤ at →
-        at ≡ length s.disk.bytes → t ≡ wrote s (disk_written at n new s.disk) c → IsBlank (s.disk.bytes ++ new) t.disk
+        at ≡ length s.disk.bytes → t ≡ with_disk s (disk_written at n new s.disk) c → IsBlank (s.disk.bytes ++ new) t.disk
     blank_end at new s t n c h low e w =
         subst (λ l. IsBlank l t.disk) (put_end at new s.disk.bytes (sym e)) (blank_wrote at new s t n c h low (omega (arith, e)) w)
 

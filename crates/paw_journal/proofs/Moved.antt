@@ -2,7 +2,7 @@
 use Rattle.std.proofs.Common.{◌≡◌, ℕ, ◌+◌, ◌≤◌, List, length, inl, inr, refl, sym, ap, subst, ◌∙◌}
 use Rattle.std.specs.Prelude.{Option, Some}
 use Rattle.paw_stage.specs.Disk.{Disk, MayLeave, IsInWrite, IsStable, disk_written, put_at, stable}
-use Rattle.paw_stage.specs.Stage.{Standing, Files, InWrite, InSync, store_holding, wrote, with_written, with_store_synced}
+use Rattle.paw_stage.specs.Stage.{Standing, Files, InWrite, InSync, store_holding, with_disk, with_written, with_store_synced}
 use Rattle.paw_stage.proofs.Names.{held_other, holds_same}
 use Rattle.paw_journal.specs.Session.{Recovered}
 use Rattle.paw_journal.specs.inner.Writes.{IsWithin}
@@ -15,7 +15,7 @@ held_same attached n bytes files e = ap (λ a. store_holding a bytes files n) e 
 pub beside_none : (s : Standing) → ChangesStoreOnly s s
 beside_none s = record { lines = refl; asked = refl; shown = refl; attached = refl; files = λ n ne. refl; file = λ n e h. h }
 
-pub beside_wrote : (s t : Standing) (d : Disk) (n : ℕ) → t ≡ wrote s d n → ChangesStoreOnly s t
+pub beside_wrote : (s t : Standing) (d : Disk) (n : ℕ) → t ≡ with_disk s d n → ChangesStoreOnly s t
 beside_wrote s t d n e = subst (λ x. ChangesStoreOnly s x) (sym e) (record {
   lines = refl;
   asked = refl;
@@ -92,7 +92,7 @@ pub moved_none : (lo hi : ℕ) (s : Standing) → IsStable s.disk → IsMoved lo
 moved_none lo hi s h = record { beside = beside_none s; within = within_stable lo hi s.disk h }
 
 pub moved_wrote : (lo hi at n c : ℕ) (new : List ℕ) (s t u : Standing) → IsMoved lo hi s t → lo ≤ at → at + n ≤ hi →
-    hi ≤ length s.disk.bytes → length new ≤ n → u ≡ wrote t (disk_written at n new t.disk) c → IsMoved lo hi s u
+    hi ≤ length s.disk.bytes → length new ≤ n → u ≡ with_disk t (disk_written at n new t.disk) c → IsMoved lo hi s u
 moved_wrote lo hi at n c new s t u h low high long short e =
     record {
       beside = beside_on s t u h.beside (beside_wrote t u _ c e);

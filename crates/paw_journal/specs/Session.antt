@@ -236,8 +236,8 @@ slot_head records = (records % 256) ∷ (records / 256) ∷ VERSION ∷ []
 
 -- A slot once it is given the version that is written, this number of change records, this piece, and these bytes at an
 -- offset. All its other bytes stay.
-abbrev pub rewritten : ℕ → Bytes → ℕ → Text → Bytes → Bytes
-rewritten at new records piece bytes = put_at 0 (slot_head records) (put_at PIECE_AT piece (put_at at new bytes))
+abbrev pub slot_rewritten : ℕ → Bytes → ℕ → Text → Bytes → Bytes
+slot_rewritten at new records piece bytes = put_at 0 (slot_head records) (put_at PIECE_AT piece (put_at at new bytes))
 
 -- How many change records a slot has once those are added that give it this state: those that it has, and one for each
 -- byte at which its state differs from this one.
@@ -254,9 +254,9 @@ takes_changes state bytes = is_current bytes && has_state bytes && nat_le (recor
 unfoldable pub committed_slot : Bytes → Text → Bytes → Bytes
 committed_slot state piece bytes =
     if takes_changes state bytes
-    then rewritten (CHANGES_AT + 4 * two_byte_number 0 bytes) (differences (slot_state bytes) state)
+    then slot_rewritten (CHANGES_AT + 4 * two_byte_number 0 bytes) (differences (slot_state bytes) state)
     (records_with state bytes) piece bytes
-    else rewritten BASE_AT state 0 piece bytes
+    else slot_rewritten BASE_AT state 0 piece bytes
 
 -- The bytes of a session after a commit to slot k, which is then in use. All other bytes stay.
 unfoldable pub committed_in : ℕ → Bytes → Text → Bytes → Bytes

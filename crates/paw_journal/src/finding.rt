@@ -69,7 +69,7 @@ pub(crate) fn read_header<S: Stage>(stage: &mut S, size: u64) -> Result<Header, 
         IfErr result (IsSessionRefused (recover (S.standing stage.old).disk.bytes) game rules) }
 {
     if size != SESSION_LENGTH {
-        return Err(unmade(stage, size));
+        return Err(refusal_of_length(stage, size));
     }
     let mut bytes = [0; HEADER_LENGTH];
     match read(stage, 0, &mut bytes) {
@@ -79,7 +79,7 @@ pub(crate) fn read_header<S: Stage>(stage: &mut S, size: u64) -> Result<Header, 
 }
 
 // Why a store of another length holds no session: its length, and its first byte, if any.
-fn unmade<S: Stage>(stage: &mut S, size: u64) -> JournalRefusal
+fn refusal_of_length<S: Stage>(stage: &mut S, size: u64) -> JournalRefusal
     requires attached { S.Tells stage.old → IsSome (S.standing stage.old).attached }
     requires size { S.Tells stage.old → size ≡ length (S.standing stage.old).disk.bytes }
     requires other { size ≢ session_length }

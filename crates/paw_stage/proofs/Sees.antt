@@ -6,7 +6,7 @@ use Rattle.std.specs.Prelude.{Option, Some, None, is_some}
 use Rattle.std.proofs.lemmas.Slice.Eq.{bytes_eq-Decides}
 use Rattle.std.proofs.lemmas.List.{ext_get_or, get_or-take, get_or-drop, length-take, length-drop}
 use Rattle.paw_stage.specs.Disk.{put_at, disk_written}
-use Rattle.paw_stage.specs.Stage.{Standing, store_holding, bytes_or_none, wrote}
+use Rattle.paw_stage.specs.Stage.{Standing, store_holding, bytes_or_none, with_disk}
 use Rattle.paw_stage.specs.inner.Done.{is_attached}
 use Rattle.paw_stage.specs.inner.Seen.{Sees, IsFiled, laid_over}
 use Rattle.paw_stage.specs.declared.replay.Seen.{Seen}
@@ -38,7 +38,7 @@ pub sees_written : (s : Standing) (name : List ℕ) (at place : ℕ) (bytes into
     → now ≡ record { here = seen.here; attached = seen.attached; len = max seen.len (min place seen.len + length bytes) }
     → length new ≡ length into
     → ((j : ℕ) → j < length into → slice_index new j ≡ laid_over (min place seen.len) bytes (at + j) (slice_index into j))
-    → Sees (wrote s (disk_written place (length bytes) bytes s.disk) (length bytes)) name at now new
+    → Sees (with_disk s (disk_written place (length bytes) bytes s.disk) (length bytes)) name at now new
 sees_written s name at place bytes into new seen now filed h on is same laid =
     let old : List ℕ = s.disk.bytes in
     let a : s.attached ≡ Some name = attached_is s.attached name (sym h.attached ∙ on) in

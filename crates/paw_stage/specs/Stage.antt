@@ -153,19 +153,20 @@ InAttach old new name m =
     (m ≡ old) ⊎ (m ≡ record old { files = made_if_missing name (old.files name) old.files }) ⊎ (m ≡ new)
 
 -- What stands once the store's bytes are those of this disk, and n more bytes were written.
-abbrev pub wrote : Standing → Disk → ℕ → Standing
-wrote old d n = record old { files = store_holding old.attached d.bytes old.files; disk = d; written = old.written + n }
+abbrev pub with_disk : Standing → Disk → ℕ → Standing
+with_disk old d n =
+    record old { files = store_holding old.attached d.bytes old.files; disk = d; written = old.written + n }
 
 -- What stands once these bytes were written to the store from an offset on.
 abbrev pub with_written : ℕ → Bytes → Standing → Standing
-with_written at bytes s = wrote s (disk_written at (length bytes) bytes s.disk) (length bytes)
+with_written at bytes s = with_disk s (disk_written at (length bytes) bytes s.disk) (length bytes)
 
 -- What stands at a moment of a write of n bytes: nothing changed, or some of them were written and may be any bytes. As
 -- many bytes, or fewer, count as written.
 abbrev pub InWrite : Standing → ℕ → ℕ → Standing → Type 0
 InWrite old at n m =
     (m ≡ old)
-    ⊎ ((disk : Disk) × (count : ℕ) × IsInWrite at n old.disk disk × (count ≤ n) × (m ≡ wrote old disk count))
+    ⊎ ((disk : Disk) × (count : ℕ) × IsInWrite at n old.disk disk × (count ≤ n) × (m ≡ with_disk old disk count))
 
 -- What a write of these bytes leaves. Where it failed, that is what stands at one of its moments.
 abbrev pub WritesTo : {A : Type 0} → Standing → Standing → ℕ → Bytes → Result A Failed → Type 0

@@ -14,7 +14,7 @@ use Rattle.paw_journal.specs.Session.{version}
 use Rattle.paw_journal.specs.Session.{is_version}
 use Rattle.paw_journal.specs.Session.{Digests, kept_digests, changes, with_changes, first_unsound, slot, recover}
 use Rattle.paw_journal.specs.inner.Session.{digests_of, session_shown, laid_session, with_made_mark}
-use Rattle.paw_journal.specs.Session.{made_session, differing, differences, differences_from, rewritten}
+use Rattle.paw_journal.specs.Session.{made_session, differing, differences, differences_from, slot_rewritten}
 use Rattle.paw_journal.specs.Session.{committed_slot, session_committed}
 use Rattle.paw_journal.specs.inner.Room.{slot_number, kept_slot}
 use Rattle.paw_journal.specs.inner.Written.{most_written}
@@ -151,7 +151,7 @@ pub record ChangesTo (old new : Bytes) (i : ℕ) (records : Bytes) : Type 0 wher
 
 -- The bytes of a slot once a commit has written it.
 abbrev pub written_slot : CommitDraft → Bytes → Text → Bytes → Bytes
-written_slot draft bytes piece old = rewritten draft.at bytes draft.records piece old
+written_slot draft bytes piece old = slot_rewritten draft.at bytes draft.records piece old
 
 -- The bytes of a session once a commit has written this slot, and not chosen it yet.
 abbrev pub written_session : ℕ → CommitDraft → Bytes → Text → Bytes → Bytes
