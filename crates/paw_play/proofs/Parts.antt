@@ -25,16 +25,16 @@ two_parts g old mid new Before After only counts turned h k =
         | inl p ↦ elim (h.nothing_else t m low p) [
           | inl q ↦ inl q
           | inr q ↦ inr (
-            λ u early. k.keeps u m (omega (arith, early, h.later)) (q.0 u early),
+            λ u early. k.stays u m (omega (arith, early, h.later)) (q.0 u early),
             elim q.1 [
               | inl b ↦ inl b
-              | inr e ↦ inr (k.keeps (g.clock mid) m (omega arith) (subst (λ x. g.since mid (g.clock mid) x) (sym e) counts))
+              | inr e ↦ inr (k.stays (g.clock mid) m (omega arith) (subst (λ x. g.since mid (g.clock mid) x) (sym e) counts))
             ],
           )
         ]
         | inr q ↦ inr (λ u early. q.0 u (omega (arith, early, h.later)), inr (q.0 (g.clock mid) (omega arith)))
       ];
-      keeps = λ t m low past. k.keeps t m (omega (arith, low, h.later)) (h.keeps t m low past);
+      stays = λ t m low past. k.stays t m (omega (arith, low, h.later)) (h.stays t m low past);
     })
 
 -- Calls that belong to the first part come before.

@@ -114,7 +114,7 @@ passes ds d =
               | inr j ↦ let i = subst (λ s. StandsInside s d m) (after_split fresh t ds) j in inr (since_each ds d m i, i)
             ]
       ];
-      keeps = λ t m low h. inr (let q = take_push t ds d low in
+      stays = λ t m low h. inr (let q = take_push t ds d low in
           subst (λ l. StoodInside (after fresh l) (drop t (ds ++ d ∷ [])) m) (sym q.0) (subst (λ l. StoodInside (after fresh (take t ds)) l m) (sym q.1)
           (elim h [
             | inl k ↦ last (after fresh (take t ds)) (drop t ds) d m

@@ -9,7 +9,7 @@ pub Passes_map : (b n : ℕ) (past since : ℕ → Standing → Type 0) (P Q : S
 Passes_map b n past since P Q h f = record {
   later = h.later;
   nothing_else = λ t m low now. elim (h.nothing_else t m low now) [ inl q ↦ inl q | inr q ↦ inr (q.0, f m q.1) ];
-  keeps = h.keeps;
+  stays = h.stays;
 }
 
 -- Two calls, one after the other.
@@ -20,16 +20,16 @@ Passes_on b n n' past since since' P Q h k f = record {
   nothing_else = λ t m low now. elim (k.nothing_else t m (omega (arith, h.later)) now) [
     | inl q ↦ elim (h.nothing_else t m low q) [
       | inl p ↦ inl p
-      | inr p ↦ inr (λ u early. k.keeps u m (omega (arith, early, h.later)) (p.0 u early), p.1)
+      | inr p ↦ inr (λ u early. k.stays u m (omega (arith, early, h.later)) (p.0 u early), p.1)
     ]
     | inr q ↦ inr (λ u early. q.0 u (omega (arith, early, h.later)), f m q.1)
   ];
-  keeps = λ t m low past. k.keeps t m (omega (arith, h.later)) (h.keeps t m low past);
+  stays = λ t m low past. k.stays t m (omega (arith, h.later)) (h.stays t m low past);
 }
 
 -- No time passed.
 pub Passes_none : (b : ℕ) (since : ℕ → Standing → Type 0) (P : Standing → Type 0) → Passes b b since since P
-Passes_none b since P = record { later = omega arith; nothing_else = λ t m low now. inl now; keeps = λ t m low past. past }
+Passes_none b since P = record { later = omega arith; nothing_else = λ t m low now. inl now; stays = λ t m low past. past }
 
 -- The same moments, once each is mapped: so is what stands inside the call.
 pub Passes_image : (b n : ℕ) (past since : ℕ → Standing → Type 0) (P : Standing → Type 0) (f g : Standing → Standing) →
@@ -42,5 +42,5 @@ Passes_image b n past since P f g same h = record {
     | inl p ↦ inl (now.0, p, now.2 ∙ same now.0)
     | inr p ↦ inr (λ u early. (now.0, p.0 u early, now.2), (now.0, p.1, now.2 ∙ same now.0))
   ];
-  keeps = λ t x low old. (old.0, h.keeps t old.0 low old.1, old.2 ∙ sym (same old.0));
+  stays = λ t x low old. (old.0, h.stays t old.0 low old.1, old.2 ∙ sym (same old.0));
 }

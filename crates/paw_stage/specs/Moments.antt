@@ -9,7 +9,7 @@ pub record Passes (before now : ℕ) (past since : ℕ → Standing → Type 0) 
   pub later : before ≤ now
   pub nothing_else : (t : ℕ) (m : Standing) → t ≤ before → since t m →
       past t m ⊎ (((u : ℕ) → u ≤ before → since u m) × Inside m)
-  pub keeps : (t : ℕ) (m : Standing) → t ≤ before → past t m → since t m
+  pub stays : (t : ℕ) (m : Standing) → t ≤ before → past t m → since t m
 
 -- The moments of a call, or of several, are those before, and others for which `Inside` holds. `clock` and `since` give
 -- the time and the moments of the stage `old`, and of what the calls make of it.
