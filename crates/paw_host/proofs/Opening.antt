@@ -133,7 +133,7 @@ shows_kept digests bytes buffer piece st e k = e ∙ ap (λ b. Shown digests b p
 pub read_shows : (g : GameLists) (digests : Digests) (bytes buffer piece : List ℕ) (r : Restored) →
     recover bytes ≡ session_shown digests buffer piece → IsRead g buffer r → ShowsState g digests bytes (state_read r) piece
 read_shows g digests bytes buffer piece r shown read =
-    record { keeps = read.keeps; fits = read.fits; shown = shows_kept digests bytes buffer piece (state_read r) shown read.are }
+    record { valid = read.valid; fits = read.fits; shown = shows_kept digests bytes buffer piece (state_read r) shown read.are }
 
 over_step : (at : Prompt) → prompt_step at ≡ step.Ended → at ≡ prompt.Over
 over_step prompt.Main h = cc
@@ -215,7 +215,7 @@ is_fit : (g : GameLists) (own : Digests) (bytes : List ℕ) (digests : Digests) 
     recover bytes ≡ Shown digests (take state_length buffer) piece → Fit g buffer
 unfolding kept_bytes
 is_fit g own bytes digests buffer piece q st shows is =
-    record { state = st; keeps = shows.keeps; fits = shows.fits; are = same_state _ _ _ _ _ _ (sym is ∙ shows.shown) }
+    record { state = st; valid = shows.valid; fits = shows.fits; are = same_state _ _ _ _ _ _ (sym is ∙ shows.shown) }
   where
     same_state : (d : Digests) (s p : List ℕ) (e : Digests) (t q : List ℕ) → Shown d s p ≡ Shown e t q → s ≡ t
     same_state d s p e t q h = cc

@@ -46,7 +46,7 @@ module _ (g : Story) (digests : Digests) (name : List ℕ) (st : State) (piece :
     text = [];
     last = [];
     there = omega arith;
-    few = omega (arith, (each_of g.game st shows.keeps).events);
+    few = omega (arith, (each_of g.game st shows.valid).events);
     asked = asked ∙ omega arith;
     shown = shown ∙ sym (append-nil old.shown);
     before = refl;

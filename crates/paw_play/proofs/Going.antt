@@ -30,7 +30,7 @@ use Rattle.paw_play.specs.Played.{ShowsState, going_on}
 -- Where a reading stops its state follows the rules, and nothing of a piece is open; so much was read in each closed
 -- piece.
 pub record Settles (g : GameLists) (n : ℕ) (p : Prompt) (path : List Frame) (r : Run) : Type 0 where
-  pub keeps : IsValidState g (state_at n p path r)
+  pub valid : IsValidState g (state_at n p path r)
   pub fits : FitsFields (state_at n p path r)
   pub current : r.current ≡ []
   pub read : r.read ≡ []
@@ -163,14 +163,14 @@ module _ (g : Story) (seed : ℕ) (es fs : List (List ℕ)) where
   ended_goes (WaitsAt p path s) is k counted digests other r kept st piece v keeps fits shown =
       let both : Shown other (kept_bytes st) piece ≡ Shown digests (state_bytes (state_at (length es) p path s)) (last_piece s.pieces) = sym shown
       ∙ kept.shown in
-      let same : st ≡ state_at (length es) p path s = bytes_tell_the_state g.game st (state_at (length es) p path s) v keeps fits k.keeps k.fits cc in
+      let same : st ≡ state_at (length es) p path s = bytes_tell_the_state g.game st (state_at (length es) p path s) v keeps fits k.valid k.fits cc in
       let piece_is : piece ≡ last_piece s.pieces = cc in
       rw (same, piece_is) (refl, waiting_goes p path s is k counted)
   ended_goes (Halted halt.Over s) is k counted digests other r kept st piece v keeps fits shown =
       let both : Shown other (kept_bytes st) piece ≡ Shown digests (state_bytes (state_at (length es) prompt.Over [] s)) (last_piece s.pieces) = sym shown
       ∙ kept.shown in
       let same : st ≡ state_at (length es) prompt.Over [] s = bytes_tell_the_state g.game st
-      (state_at (length es) prompt.Over [] s) v keeps fits k.keeps k.fits cc in
+      (state_at (length es) prompt.Over [] s) v keeps fits k.valid k.fits cc in
       let piece_is : piece ≡ last_piece s.pieces = cc in
       rw (same, piece_is) (refl, over_goes s is k kept.played counted)
   ended_goes _ is k counted digests other r kept st piece v keeps fits shown = absurd kept.played
@@ -182,7 +182,7 @@ module _ (g : Story) (seed : ℕ) (es fs : List (List ℕ)) where
   goes_on settled bytes digests st piece v stands shows =
       let e : Ending = reading g seed es in
       let goes = ended_goes e refl settled (pieces_of_lines g seed es) stands.digests digests
-      (recover bytes) stands.keeps st piece v shows.keeps shows.fits shows.shown in
+      (recover bytes) stands.keeps st piece v shows.valid shows.fits shows.shown in
       let ps : List (List ℕ) = pieces_of e in
       let ts : List (List Step) = traces_of e in
       (goes.0, goes.1.4 ∙ sym (ap (ending_since (length es)) goes.1.3 ∙ since_past (length es) ps ts goes.1.0 goes.1.1 goes.1.2))

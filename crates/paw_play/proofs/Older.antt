@@ -80,11 +80,11 @@ ending_kept : (g : GameLists) (v : Valid g) (digests : Digests) (n : ℕ) (bytes
     → KeepsAsOlder digests n e bytes → IsKept digests n e (recover bytes)
 ending_kept g v digests n bytes (WaitsAt p path r) k none old = record {
   played = tt;
-  shown = state_same g v (state_at n p path r) k.keeps k.fits none bytes digests old.state (last_piece r.pieces) old.first old.shown old.same;
+  shown = state_same g v (state_at n p path r) k.valid k.fits none bytes digests old.state (last_piece r.pieces) old.first old.shown old.same;
 }
 ending_kept g v digests n bytes (Halted halt.Over r) k none old = record {
   played = old.played;
-  shown = state_same g v (state_at n prompt.Over [] r) k.keeps k.fits none bytes digests old.state (last_piece r.pieces) old.first old.shown old.same;
+  shown = state_same g v (state_at n prompt.Over [] r) k.valid k.fits none bytes digests old.state (last_piece r.pieces) old.first old.shown old.same;
 }
 ending_kept g v digests n bytes _ k none old = absurd old.played
 

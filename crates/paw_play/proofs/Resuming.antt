@@ -138,7 +138,7 @@ module _ {F : Type 0} {g : Story} {name piece : List ℕ} {r : Restored} {first 
   rests_first : RestsWith (read_session g name piece r first) first first 0
   rests_first = record {
     there = omega arith;
-    few = omega (arith, (each_of g.game (state_read r) u.state.keeps).events);
+    few = omega (arith, (each_of g.game (state_read r) u.state.valid).events);
     attached = u.store.attached;
     stable = u.store.stable;
     file = u.store.file;
@@ -164,7 +164,7 @@ module _ {F : Type 0} {g : Story} {name piece : List ℕ} {r : Restored} {first 
     text = take i.0 piece;
     last = take i.0 piece;
     there = omega arith;
-    few = omega (arith, (each_of g.game (state_read r) u.state.keeps).events);
+    few = omega (arith, (each_of g.game (state_read r) u.state.valid).events);
     asked = omega arith;
     shown = refl;
     before = refl;

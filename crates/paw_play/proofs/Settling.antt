@@ -83,7 +83,7 @@ module _ (g : GameLists) (v : Valid g) (seed : ℕ) (n : ℕ) (fits : seed < 2 ^
   settles : (p : Prompt) (path : List Frame) (r : Run) → StandsRightly g p path r → IsBounded seed 0 r → length r.pieces + length r.events ≡ suc n →
       Settles g n p path r
   settles p path r k bound count = record {
-    keeps = keeps_of g (state_at n p path r) (record {
+    valid = keeps_of g (state_at n p path r) (record {
       world = k.world.of;
       sound = world_sound g v r.world k.world;
       places = (k.world.places, (saved_stands g r.world.saved k.world.saved, λ i d low. saved_stands g _ (k.world.kept i d low)));

@@ -56,7 +56,7 @@ pub one_state : (g : Story) (d e : Digests) (bytes name : List ℕ) (s t : State
     ShowsState g.game d bytes s p → ShowsState g.game e bytes t q → from_state g s p d name ≡ from_state g t q e name
 one_state g d e bytes name s t p q valid h k =
     let one = same_shown d e (kept_bytes s) p (kept_bytes t) q (sym h.shown ∙ k.shown) in
-    let state : s ≡ t = bytes_tell_the_state g.game s t valid h.keeps h.fits k.keeps k.fits (bytes_same s t one.1) in
+    let state : s ≡ t = bytes_tell_the_state g.game s t valid h.valid h.fits k.valid k.fits (bytes_same s t one.1) in
     ap (λ x. from_state g x p d name) state ∙ ap (λ x. from_state g t x d name) one.2 ∙ ap (λ x. from_state g t q x name) one.0
 
 -- ---- parts that were read fit a player ----
@@ -96,9 +96,9 @@ pending_of g s m k fits stands =
 
 pub read_fits : (g : GameLists) (bytes : List ℕ) (r : Restored) → IsRead g bytes r → Fits g r.world r.machine r.pending r.prompt
 read_fits g bytes r is =
-    restored_fits g r.prompt (machine_kept r.machine) r.world r.machine r.pending (world_of g (state_read r) is.keeps is.fits)
-    (pending_of g (state_read r) r.machine is.keeps is.fits is.stands)
-    is.keeps.rows is.machine is.stands (each_of g (state_read r) is.keeps).frames
+    restored_fits g r.prompt (machine_kept r.machine) r.world r.machine r.pending (world_of g (state_read r) is.valid is.fits)
+    (pending_of g (state_read r) r.machine is.valid is.fits is.stands)
+    is.valid.rows is.machine is.stands (each_of g (state_read r) is.valid).frames
 
 -- ---- a player that was made of what was read ----
 
@@ -118,7 +118,7 @@ resumed g name buffer state piece r first routines seat shown same read long is 
       stands = (read_fits g.game buffer r read).machine;
       seated = seated;
       store = store;
-      state = record { keeps = read.keeps; fits = read.fits; shown = shows_kept digests bytes buffer piece (state_read r) there read.are };
+      state = record { valid = read.valid; fits = read.fits; shown = shows_kept digests bytes buffer piece (state_read r) there read.are };
     }
 
 -- The store shows no other state and piece.
@@ -140,22 +140,22 @@ module _ (g : Story) (digests : Digests) (bytes : List ℕ) (st : State) (piece 
   state_is : st ≡ state_of st.world machine st.pending st.prompt st.events st.piece
   unfolding machine
   state_is = ap (λ k. record { world = st.world; frames = k; pending = st.pending; prompt = st.prompt; events = st.events; piece = st.piece })
-      (sym (restored_kept g.game st.prompt (waiting_at st.prompt) st.frames shows.keeps.rows (each_of g.game st shows.keeps).frames))
+      (sym (restored_kept g.game st.prompt (waiting_at st.prompt) st.frames shows.valid.rows (each_of g.game st shows.valid).frames))
 
   stands : StandsClosed (prompt_step st.prompt) machine
   unfolding machine
   stands =
       let at : WaitsAtPrompt st.prompt (machine_restored st.frames (waiting_at st.prompt)) =
-      stands_at g.game st.prompt st.frames valid shows.keeps.rows (each_of g.game st shows.keeps).frames in
+      stands_at g.game st.prompt st.frames valid shows.valid.rows (each_of g.game st shows.valid).frames in
       (restored_fits g.game st.prompt st.frames st.world (machine_restored st.frames (waiting_at st.prompt)) st.pending
-      (world_of g.game st shows.keeps shows.fits)
-      (pending_of g.game st (machine_restored st.frames (waiting_at st.prompt)) shows.keeps shows.fits at) shows.keeps.rows refl at
-      (each_of g.game st shows.keeps).frames).machine
+      (world_of g.game st shows.valid shows.fits)
+      (pending_of g.game st (machine_restored st.frames (waiting_at st.prompt)) shows.valid shows.fits at) shows.valid.rows refl at
+      (each_of g.game st shows.valid).frames).machine
 
   long : length piece ≡ st.piece
   unfolding kept_bytes
   long =
-      let told = piece_told st (long_state g.game st valid shows.keeps shows.fits) shows.fits.piece in
+      let told = piece_told st (long_state g.game st valid shows.valid shows.fits) shows.fits.piece in
       shown_long bytes digests (state_bytes st) piece shows.shown (omega (arith, told, shows.fits.piece)) ∙ told
 
   -- It is kept before a line is taken.

@@ -43,9 +43,9 @@ use Rattle.paw_effects.specs.Story.{Story}
 ending_shows : (g : GameLists) (digests : Digests) (n : ℕ) (bytes : List ℕ) (e : Ending) → IsSettled g n e → IsKept digests n e (recover bytes) →
     (st : State) × (piece : List ℕ) × ShowsState g digests bytes st piece
 ending_shows g digests n bytes (WaitsAt p path r) k kept =
-    (state_at n p path r, last_piece r.pieces, record { keeps = k.keeps; fits = k.fits; shown = kept.shown })
+    (state_at n p path r, last_piece r.pieces, record { valid = k.valid; fits = k.fits; shown = kept.shown })
 ending_shows g digests n bytes (Halted halt.Over r) k kept =
-    (state_at n prompt.Over [] r, last_piece r.pieces, record { keeps = k.keeps; fits = k.fits; shown = kept.shown })
+    (state_at n prompt.Over [] r, last_piece r.pieces, record { valid = k.valid; fits = k.fits; shown = kept.shown })
 ending_shows g digests n bytes _ k kept = absurd kept.played
 
 -- In the session whose lines they are.
@@ -85,7 +85,7 @@ going_on_is_the_reading g seed es fs p path r played few is =
     let last : List ℕ = last_piece r.pieces in
     let ended : ending_with_past (last ∷ []) [] goes.2 ≢ Unended = λ none. goes_to_an_end g st last fs (goes.4 ∙ none) in
     record {
-      keeps = settled.keeps;
+      valid = settled.valid;
       fits = settled.fits;
       ends = goes.4 ∙ sym (ap (ending_since (length es)) goes.3 ∙ since_past (length es) r.pieces r.traces goes.0 goes.1 goes.2);
       pieces = ap pieces_of goes.3 ∙ pieces_with_past r.pieces r.traces last goes.2 ended
@@ -192,7 +192,7 @@ unfolding kept_bytes
 is_fit g d e bytes buffer piece q st shows is =
     record {
       state = st;
-      keeps = shows.keeps;
+      valid = shows.valid;
       fits = shows.fits;
       are = same_state e d (take state_length buffer) piece (state_bytes st) q (sym is ∙ shows.shown);
     }

@@ -63,7 +63,7 @@ pub record KeptLinesStand : Type 0 where
 -- rules of the game; going on ends as the whole reading does, at the same prompt and in the same world; and the pieces
 -- of the whole reading are those before, and then those that going on adds.
 pub record GoesOnAsRead (g : Story) (seed : Seed) (es fs : Lines) (st : State) (piece : Text) : Type 0 where
-  pub keeps : IsValidState g.game st
+  pub valid : IsValidState g.game st
   pub fits : FitsFields st
   pub ends : going_on g st piece fs ≡ reading_since g seed es fs
   pub pieces : pieces_of (reading g seed (es ++ fs)) ≡

@@ -53,7 +53,7 @@ from_state g st piece digests name =
 
 -- The bytes of a store hold a session with these digests, which shows this state of the game and this piece.
 pub record ShowsState (g : GameLists) (digests : Digests) (bytes : Bytes) (st : State) (piece : Text) : Type 0 where
-  pub keeps : IsValidState g st
+  pub valid : IsValidState g st
   pub fits : FitsFields st
   pub shown : recover bytes ≡ Shown digests (kept_bytes st) piece
 

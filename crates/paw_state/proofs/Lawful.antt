@@ -11,7 +11,7 @@ use Rattle.paw_state.specs.State.{fields_of, state_bytes}
 use Rattle.paw_state.specs.inner.Fields.{field_bytes}
 use Rattle.paw_state.specs.inner.Fields.{fields_at}
 use Rattle.paw_state.specs.inner.Faults.{fields_fault}
-use Rattle.paw_state.specs.inner.State.{KeepsEach}
+use Rattle.paw_state.specs.inner.State.{FollowsEach}
 use Rattle.paw_state.specs.inner.Fields.{parts_fault}
 use Rattle.paw_state.specs.inner.State.{state_in}
 use Rattle.paw_state.specs.declared.parts.Restored.{Restored}
@@ -40,7 +40,7 @@ is_unfit g bytes at n b h =
     record { fields = fields_at bytes; sized = sized_at bytes n b; are = sym (fields_join bytes n b) ∙ sym (bytes_same (fields_at bytes)); fault = h }
 
 -- The fields that stand in bytes of which the first are a state's.
-fields_there : (g : GameLists) (s : State) (bytes : List ℕ) → Valid g → KeepsEach g s → FitsFields s → take STATE_LENGTH bytes ≡ state_bytes s
+fields_there : (g : GameLists) (s : State) (bytes : List ℕ) → Valid g → FollowsEach g s → FitsFields s → take STATE_LENGTH bytes ≡ state_bytes s
     → fields_at bytes ≡ fields_of s
 fields_there g s bytes v k h e =
     let split : bytes ≡ field_bytes (fields_of s) ++ drop STATE_LENGTH bytes =
@@ -48,7 +48,7 @@ fields_there g s bytes v k h e =
     ap fields_at split ∙ fields_cut (fields_of s) (drop STATE_LENGTH bytes) (sized_of g s v k h)
 
 pub fit_has_none : (g : GameLists) (bytes : List ℕ) → Valid g → Fit g bytes → unfit g bytes ≡ None
-fit_has_none g bytes v h = ap (fields_fault g) (fields_there g h.state bytes v (each_of g h.state h.keeps) h.fits h.are) ∙ h.keeps.fields
+fit_has_none g bytes v h = ap (fields_fault g) (fields_there g h.state bytes v (each_of g h.state h.valid) h.fits h.are) ∙ h.valid.fields
 
 -- The fault that is found part by part.
 pub unfit_parts : (g : GameLists) (bytes : List ℕ) → STATE_LENGTH ≤ length bytes → AreBytes bytes → unfit g bytes ≡ parts_fault g (fields_at bytes)
@@ -72,7 +72,7 @@ state_kept g bytes v n b h =
 pub none_is_fit : (g : GameLists) (bytes : List ℕ) → Valid g → STATE_LENGTH ≤ length bytes → AreBytes bytes → unfit g bytes ≡ None → Fit g bytes
 none_is_fit g bytes v n b h = record {
   state = state_in g (fields_at bytes);
-  keeps = state_kept g bytes v n b h;
+  valid = state_kept g bytes v n b h;
   fits = fits_at g bytes n b;
   are = bytes_are g bytes v n b h;
 }
@@ -100,7 +100,7 @@ long_state g s v k h =
 pub written_is_fit : WrittenIsFit
 written_is_fit g s rest v k h =
     let n = (long_state g s v k h).all in
-    (n, record { state = s; keeps = k; fits = h; are = take_at (state_bytes s) rest STATE_LENGTH n })
+    (n, record { state = s; valid = k; fits = h; are = take_at (state_bytes s) rest STATE_LENGTH n })
 
 -- ---- what is read ----
 
@@ -110,7 +110,7 @@ pub is_read : (g : GameLists) (bytes : List ℕ) (r : Restored) → Valid g → 
     IsRead g bytes r
 is_read g bytes r v n b h e machine at = record {
   are = bytes_are g bytes v n b h ∙ ap state_bytes (sym e);
-  keeps = subst (IsValidState g) (sym e) (state_kept g bytes v n b h);
+  valid = subst (IsValidState g) (sym e) (state_kept g bytes v n b h);
   fits = subst FitsFields (sym e) (fits_at g bytes n b);
   machine = machine;
   stands = at;

@@ -53,7 +53,7 @@ use Rattle.paw_state.specs.inner.Fields.{parts_fault}
 use Rattle.paw_state.specs.inner.Fields.{fields_at}
 use Rattle.paw_state.specs.inner.Parts.{held_in, world_in, frames_in, frame_in}
 use Rattle.paw_state.specs.inner.State.{state_in}
-use Rattle.paw_state.specs.inner.State.{KeepsEach}
+use Rattle.paw_state.specs.inner.State.{FollowsEach}
 use Rattle.paw_world.specs.World.{Position, IsSavedFor, IsWorld}
 use Rattle.std.proofs.Common.{reverse}
 use Rattle.paw_reading.specs.declared.frames.OpenLoop.{OpenLoop}
@@ -224,7 +224,7 @@ same_state a b world frames pending at events piece =
     (record { world = a.world; frames = a.frames; pending = a.pending; prompt = a.prompt; events = a.events; piece = a.piece })
     (record { world = b.world; frames = b.frames; pending = b.pending; prompt = b.prompt; events = b.events; piece = b.piece }) = cc in e
 
-pub fields_back : (g : GameLists) (s : State) → KeepsEach g s → state_in g (fields_of s) ≡ s
+pub fields_back : (g : GameLists) (s : State) → FollowsEach g s → state_in g (fields_of s) ≡ s
 fields_back g s k =
     same_state (state_in g (fields_of s)) s
     (same_world (world_in g (fields_of s)) s.world (sym k.world.facts) (sym k.world.locations) refl
@@ -259,7 +259,7 @@ sound_in g f v z s =
       };
     }
 
-pub keeps_in : (g : GameLists) (f : Fields) → Valid g → AreSized f → AreSound g f → KeepsEach g (state_in g f)
+pub keeps_in : (g : GameLists) (f : Fields) → Valid g → AreSized f → AreSound g f → FollowsEach g (state_in g f)
 keeps_in g f v z s = record {
   world = record { facts = refl; locations = refl; flags = z.flags; places = objects_length g f.places v z.places };
   sound = sound_in g f v z s;
@@ -278,7 +278,7 @@ keeps_in g f v z s = record {
   pending = line_kept (waiting_code (prompt_of f.prompt)) f.pending f.line s.pending;
 }
 
-pub sound_fields : (g : GameLists) (s : State) → KeepsEach g s → AreSound g (fields_of s)
+pub sound_fields : (g : GameLists) (s : State) → FollowsEach g s → AreSound g (fields_of s)
 sound_fields g s k =
     let m = machine_sound g (waiting_code s.prompt) s.frames k.frames in
     let again = sym (prompt_again s.prompt) in
@@ -313,7 +313,7 @@ lengths_of g s of world rows line = record {
       (λ i d low. saved_sized (length s.world.places) (get_or s.world.kept i d) world.objects (world.kept.each i d low));
 }
 
-pub each_of : (g : GameLists) (s : State) → IsValidState g s → KeepsEach g s
+pub each_of : (g : GameLists) (s : State) → IsValidState g s → FollowsEach g s
 each_of g s k =
     let f = fields_of s in
     let none : parts_fault g f ≡ None = sym (faults_same g f (lengths_of g s k.world k.sound k.rows k.line)) ∙ k.fields in
@@ -342,7 +342,7 @@ each_of g s k =
 
 -- ---- to fields ----
 
-pub keeps_of : (g : GameLists) (s : State) → KeepsEach g s → IsValidState g s
+pub keeps_of : (g : GameLists) (s : State) → FollowsEach g s → IsValidState g s
 keeps_of g s k = record {
   world = k.world;
   sound = k.sound;
@@ -369,7 +369,7 @@ fits_at g bytes n h =
       piece = s.piece;
     }
 
-pub sized_of : (g : GameLists) (s : State) → Valid g → KeepsEach g s → FitsFields s → AreSized (fields_of s)
+pub sized_of : (g : GameLists) (s : State) → Valid g → FollowsEach g s → FitsFields s → AreSized (fields_of s)
 sized_of g s v k h =
     let m = machine_sound g (waiting_code s.prompt) s.frames k.frames in
     record {

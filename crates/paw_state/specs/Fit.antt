@@ -10,7 +10,7 @@ use Rattle.paw_state.specs.State.{State, IsValidState, FitsFields, state_bytes}
 -- Bytes are fit for a game if the first STATE_LENGTH of them are those of a state that follows its rules.
 pub record Fit (g : GameLists) (bytes : Bytes) : Type 0 where
   pub state : State
-  pub keeps : IsValidState g state
+  pub valid : IsValidState g state
   pub fits : FitsFields state
   pub are : take STATE_LENGTH bytes ≡ state_bytes state
 

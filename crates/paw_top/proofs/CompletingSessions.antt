@@ -188,7 +188,7 @@ is_unfit : (g : GameLists) (d c : Digests) (bytes state piece : List ℕ) → re
 unfolding kept_bytes
 is_unfit g d c bytes state piece is not st p h =
     let e : Shown d (take state_length state) piece ≡ Shown c (kept_bytes st) p = sym is ∙ h.shown in
-    not (record { state = st; keeps = h.keeps; fits = h.fits; are = same_state _ _ _ _ _ _ e })
+    not (record { state = st; valid = h.valid; fits = h.fits; are = same_state _ _ _ _ _ _ e })
 
 -- A session that shows a state shows no other bytes.
 shows_other : (g : GameLists) (d c : Digests) (bytes state p q : List ℕ) (st : State) → recover bytes ≡ Shown c state q → ShowsState g d bytes st p →

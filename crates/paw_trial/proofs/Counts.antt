@@ -31,7 +31,7 @@ module _ (g : GameLists) (n : ℕ) (buffer piece : List ℕ) (r : Recovered) (di
   counts : (e : Ending) (own : Digests) → IsSettled g n e → Waits e → IsKept own n e r → IsTallyOf e (tally_in buffer)
   counts (WaitsAt p path s) own settled w kept =
       let same : take state_length buffer ≡ kept_bytes (state_at n p path s) = same_state _ _ _ _ _ _ (sym is ∙ kept.shown) in
-      let size : length s.world.flags ≡ 256 = settled.keeps.world.flags in
+      let size : length s.world.flags ≡ 256 = settled.valid.world.flags in
       let flag_at : (i : ℕ) → i < 256 → slice_index buffer i ≡ slice_index s.world.flags i = λ i low.
       sym (get_or-take state_length buffer i 0 (omega (arith, low)))
       ∙ (ap (λ xs. get_or xs i 0) same ∙ flags_first (state_at n p path s) i (omega (arith, low, size))) in

@@ -20,7 +20,7 @@ unfit g bytes = fields_fault g (fields_at bytes)
 -- the prompt with a full budget.
 pub record IsRead (g : GameLists) (bytes : Bytes) (r : Restored) : Type 0 where
   pub are : take STATE_LENGTH bytes ≡ state_bytes (state_read r)
-  pub keeps : IsValidState g (state_read r)
+  pub valid : IsValidState g (state_read r)
   pub fits : FitsFields (state_read r)
   pub machine : r.machine ≡ machine_restored (machine_kept r.machine) (waiting_at r.prompt)
   pub stands : WaitsAtPrompt r.prompt r.machine

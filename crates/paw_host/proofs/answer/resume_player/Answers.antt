@@ -83,7 +83,7 @@ returns-clause-stays g c = stays_at _ _ _ _ c.args.player.now c.seat.new.player 
 
 pub returns-clause-opened : goal.returns-clause-opened
 returns-clause-opened g c =
-    stands_after (g.T.Tables.game c.args.tables.now) _ _ c.in-Ok-read_state.restored c.seat.new.player c.in-Ok-read_state.ensures.read.keeps c.seat.ensures.value
+    stands_after (g.T.Tables.game c.args.tables.now) _ _ c.in-Ok-read_state.restored c.seat.new.player c.in-Ok-read_state.ensures.read.valid c.seat.ensures.value
 
 pub returns-clause-meaning : goal.returns-clause-meaning
 returns-clause-meaning g c = λ tells X answers.

@@ -34,12 +34,12 @@ play_lines-requires-clause-player g c =
       drew = omega (
         arith,
         seat_draws game2 c.args.routines.now r.world (only_counting r.machine) r.pending r.prompt c.in-Ok-player_of.player c.in-Ok-player_of.ensures.value,
-        (each_of game2 (state_read r) c.in-Ok.ensures.read.keeps).draws,
+        (each_of game2 (state_read r) c.in-Ok.ensures.read.valid).draws,
       );
     }
 
 pub play_lines-requires-clause-few : goal.play_lines-requires-clause-few
-play_lines-requires-clause-few g c = (each_of (g.T.Tables.game c.args.tables.now) (state_read c.in-Ok.restored) c.in-Ok.ensures.read.keeps).events
+play_lines-requires-clause-few g c = (each_of (g.T.Tables.game c.args.tables.now) (state_read c.in-Ok.restored) c.in-Ok.ensures.read.valid).events
 
 pub play_lines-requires-clause-kept : goal.play_lines-requires-clause-kept
 play_lines-requires-clause-kept g c = λ tells.

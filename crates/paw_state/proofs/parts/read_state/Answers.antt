@@ -70,4 +70,4 @@ returns-clause-piece g c =
     let r = is_read game c.args.bytes.now c.restore_fields.result c.check.ensures.valid c.at-fields.ensures.room c.at-fields.ensures.bytes none
     (c.restore_fields.ensures.state ∙ ap (state_in game) c.at-fields.ensures.value) c.restore_fields.ensures.machine c.restore_fields.ensures.stands in
     piece_read (state_read c.restore_fields.result) c.args.bytes.now r.are
-    (long_state game (state_read c.restore_fields.result) c.check.ensures.valid r.keeps r.fits) r.fits.piece
+    (long_state game (state_read c.restore_fields.result) c.check.ensures.valid r.valid r.fits) r.fits.piece
