@@ -12,8 +12,8 @@ ghost use Rattle.paw_check.specs.inner.Verdicts.{bound_or_cause};
 
 use crate::costs::round_cost;
 use crate::own::Own;
-use crate::spots::Wanted;
 use crate::reached::reached_from;
+use crate::spots::Wanted;
 use crate::texts::{most_end, most_outside, prints_of};
 use crate::verdict::{Cause, Verdict};
 use paw_base::fault::NoRoom;

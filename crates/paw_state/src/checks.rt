@@ -16,8 +16,8 @@ ghost use Rattle.paw_state.specs.Fields.{loop_fields, pending_fields, inside};
 use crate::StateFault;
 use crate::fields::{
     COUNT, DRAWS, EVENTS, FRAME_ACTED, FRAME_AT, FRAME_ENTRY, FRAME_LENGTH, FRAMES, Fields,
-    FrameField, POSITION_FLAGS, POSITION_LENGTH, POSITION_PLACES, KEPT, LINE, LOOP_AT, LOOP_ENTRY, LOOP_LAST,
-    LOOP_LEVEL, LOOP_PLACE, LOOP_TABLE, LOOPING, PENDING, PLACES, PROMPT, SAVED,
+    FrameField, KEPT, LINE, LOOP_AT, LOOP_ENTRY, LOOP_LAST, LOOP_LEVEL, LOOP_PLACE, LOOP_TABLE,
+    LOOPING, PENDING, PLACES, POSITION_FLAGS, POSITION_LENGTH, POSITION_PLACES, PROMPT, SAVED,
 };
 use crate::position_field::PositionField;
 use paw_base::codes::{DOALL, PROCESS};
