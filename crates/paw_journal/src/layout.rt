@@ -7,8 +7,10 @@ ghost use Rattle.paw_journal.specs.inner.Room.{slot_number};
 /// The length of a session: a header and two slots.
 pub(crate) const SESSION_LENGTH: u64 = 172_288;
 
+/// The length of the header of a session.
 pub(crate) const HEADER_LENGTH: usize = 128;
 
+/// The length of a slot: its head, its base, its piece and its change records.
 pub(crate) const SLOT_LENGTH: usize = 86_080;
 
 /// The header's bytes: the mark of a session that is made, the selector, the version, and the digests of the game and
@@ -30,14 +32,19 @@ pub(crate) const MADE: u8 = 0x50;
 /// A slot's bytes: the number of its change records, the version, the base, the piece, and the change records.
 pub(crate) const SLOT_VERSION_AT: usize = 2;
 
+/// The offset of the base in a slot.
 pub(crate) const BASE_AT: usize = 64;
 
+/// The offset of the piece in a slot.
 pub(crate) const PIECE_AT: usize = 4_160;
 
+/// The offset of the change records in a slot.
 pub(crate) const CHANGES_AT: usize = 69_696;
 
+/// The length of the base of a slot: a state, and room for more after it.
 pub(crate) const BASE_LENGTH: usize = 4_096;
 
+/// The most change records of a slot.
 pub(crate) const MOST_CHANGES: usize = 4_096;
 
 pub(crate) const CHANGE_LENGTH: usize = 4;
