@@ -44,7 +44,7 @@ redescribes c = does_one_of (DESC ∷ SAVE ∷ LOAD ∷ RESET ∷ []) c
 abbrev pub circle_of_descriptions : GameLists → Option (ℕ × ℕ)
 circle_of_descriptions g = first_with g redescribes (reached_from g (DESCRIBED_TABLE ∷ FRAME_TABLE ∷ []))
 
--- Where a number is above its limit, the place of that cause: 0 and 0, since it lies in no single place.
+-- The table and the entry of a cause that lies in none, where a number is above its limit: 0 and 0; nothing otherwise.
 abbrev pub above : ℕ → ℕ → Option (ℕ × ℕ)
 above limit n = if nat_lt limit n then Some (0, 0) else None
 

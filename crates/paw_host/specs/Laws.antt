@@ -102,7 +102,7 @@ CrashLeaves m next = (name : Name) → is_name name ≡ true →
     MayBeLeft (store_name name) m (file_bytes next (store_name name))
 
 -- Hosting that a crash cut off at any of its moments may be begun again over what is left: each name has a session as a
--- crash may leave it. The line that was at work is the last one that was taken.
+-- crash may leave it. The line that was being answered is the last one that was taken.
 abbrev pub MayBeBegunAgain : Type 0
 MayBeBegunAgain =
     (g : Story) (seed : Seed) (first : Sessions) (old next : Standing) (m : Standing) → ValidStory g → seed < 2 ^ 64 →

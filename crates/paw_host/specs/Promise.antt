@@ -58,9 +58,9 @@ EachLeft g seed before after m = (name : Name) → is_name name ≡ true → (by
 abbrev pub IsBetween : Text → Text → Text → Type 0
 IsBetween from to text = ((more : Text) × (text ≡ from ++ more)) × ((rest : Text) × (text ++ rest ≡ to))
 
--- This number of lines was taken, and this text was shown for them. The last one is at work, and the file of each name
--- is as before it, or as after it where its store is attached. The replies to the lines before it were shown. Its own
--- is shown only once the file of each name is as after it.
+-- This number of lines was taken, and this text was shown for them. The last one is being answered, and the file of
+-- each name is as before it, or as after it where its store is attached. The replies to the lines before it were shown.
+-- Its own is shown only once the file of each name is as after it.
 abbrev pub IsUpToDate : Story → Seed → Sessions → Lines → ℕ → Text → Standing → Type 0
 IsUpToDate g seed first lines zero text m = (text ≡ []) × AllLeft g first m
 IsUpToDate g seed first lines (suc n) text m =
@@ -79,13 +79,13 @@ unfoldable pub attached_after : Option Name → Lines → Option Name
 attached_after attached [] = attached
 attached_after attached (line ∷ lines) = attached_after (attached_with (request_of line) attached) lines
 
--- What may be attached while a line is at work: the store that was attached before, that of the line's name, or none;
--- for a line without a name, only the store before.
+-- What may be attached while a line is being answered: the store that was attached before, that of the line's name, or
+-- none; for a line without a name, only the store before.
 abbrev pub MayAttach : Option Request → Option Name → Option Name → Type 0
 MayAttach None before attached = attached ≡ before
 MayAttach (Some r) before attached = (attached ≡ before) ⊎ (attached ≡ Some (store_name r.name)) ⊎ (attached ≡ None)
 
--- What may be attached while the last of these lines is at work.
+-- What may be attached while the last of these lines is being answered.
 unfoldable pub AttachedIn : Option Name → Lines → Option Name → Type 0
 AttachedIn before [] attached = attached ≡ before
 AttachedIn before (line ∷ []) attached = MayAttach (request_of line) before attached

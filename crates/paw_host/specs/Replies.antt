@@ -10,8 +10,8 @@ use Rattle.paw_reading.specs.Turn.{Ending, Halted, reading, pieces_of}
 use Rattle.paw_state.specs.State.{last_piece}
 use Rattle.paw_host.specs.Names.{Request, request_of}
 
--- What there is of a name: no session; one of a game that was begun with this seed and stands at these lines; or a file
--- that is refused, with these bytes.
+-- The session of a name: none; one of a game that was begun with this seed and stands at these lines; or a file that is
+-- refused, with these bytes.
 pub data NamedSession : Type 0 where
   Absent : NamedSession
   At : (seed : Seed) (lines : Lines) → NamedSession

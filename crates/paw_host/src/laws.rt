@@ -14,8 +14,8 @@ pub fn pieces_are_answered()
 {}
 
 /// Hosting may be cut off by a crash at any moment, inside any call, and begun again over whatever the crash leaves:
-/// each name then has its session before the line that was at work, or after it. A name whose first session was being
-/// made may have one that stands at no lines, or a file that is refused until it is taken away.
+/// each name then has its session before the line that was being answered, or after it. A name whose first session was
+/// being made may have one that stands at no lines, or a file that is refused until it is taken away.
 pub fn may_be_begun_again()
     ensures again { MayBeBegunAgain }
 {}

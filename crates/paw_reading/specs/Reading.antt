@@ -99,7 +99,8 @@ abbrev pub at_level : ℕ → Option OpenLoop → Option OpenLoop
 at_level lv None = None
 at_level lv (Some l) = if l.level == lv then Some l else None
 
--- Where a table is left at the level of the open loop, reading goes on with the loop's next object; all else stays.
+-- How reading goes on after a table ends: with the open loop's next object, where it was left at that loop's level; all
+-- else stays.
 abbrev pub next_object_or : ℕ → (OpenLoop → Run → Out) → Out → Out
 next_object_or lv next (Left a r) = option_map_or (λ l. next l r) (at_level lv r.turning) (Left a r)
 next_object_or lv next x = x

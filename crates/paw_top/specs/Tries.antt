@@ -13,8 +13,8 @@ use Rattle.paw_top.specs.declared.outcome.Outcome.{Outcome}
 use Rattle.paw_top.specs.declared.outcome.Outcome.TheVariants as outcome
 use Rattle.paw_top.specs.declared.outcome.MemoryAt.TheVariants as memory
 
--- Where the reading of the trial's game with all its lines waits for another, the line of the world there is shown.
--- Where it ends for good, or memory was lacking, nothing is changed.
+-- How a trial ends: the line of the world is shown where the reading of all its lines waits for another. Where it ends
+-- for good, or memory was lacking, nothing is changed.
 pub data Tries (n : ℕ) (old new : Standing) : Outcome → Type 0 where
   shows : (o : Outcome) (p : Prompt) (path : List Frame) (r : Run) → trial_reading n ≡ WaitsAt p path r →
       Shows (trial_text n r.world) old new o → Tries n old new o

@@ -362,8 +362,8 @@ fn answer_of(rt: &impl Abort, alloc: Global, bytes: &[u8]) -> Result<Vec<u8>, Fa
     Ok(body.unwrap_or(b"").to_vec(alloc)?)
 }
 
-// Whether a crash may leave a store that gives this answer while this line of a player is at work: as before it, as
-// after it, or, where the line makes the session, refused, or at its first prompt.
+// Whether a crash may leave a store that gives this answer while this line of a player is being answered: as before it,
+// as after it, or, where the line makes the session, refused, or at its first prompt.
 fn may_be(name: &[u8], taken: usize, body: &[u8]) -> bool {
     let before = pieces(name, taken.saturating_sub(1));
     let after = pieces(name, taken);
