@@ -8,6 +8,7 @@ use Rattle.std.proofs.Math.Nat.{zero-mul, one-mul, add-mul}
 use Rattle.std.proofs.lemmas.Bool.{cases_lt, ne_eqb, eq-eqb}
 use Rattle.std.proofs.lemmas.List.Sums.{sum_by-cons, sum_by-append, sum_by_push}
 use Rattle.paw_base.specs.declared.parts.Condact.{Condact}
+use Rattle.paw_base.specs.declared.words.TheConstants.{ANY_WORD, NO_WORD}
 use Rattle.paw_game.specs.declared.parts.Entry.{Entry}
 use Rattle.paw_check.specs.Calls.{calls_table, is_call_of}
 use Rattle.paw_check.specs.Costs.{with_call, counting}
@@ -71,7 +72,7 @@ counting_parts changing v t es =
     sum_passing _ t es
     ∙ sum_same _ (λ (e : Entry). cond (is_for_every changing e) (sum_by t e.condacts) 0
     + cond (is_for_every changing e) 0 (cond (e.verb == v) (sum_by t e.condacts) 0)) es
-    (λ (e : Entry). one_or_other changing (e.verb == 1) (e.verb == 255) (e.verb == v) (sum_by t e.condacts))
+    (λ (e : Entry). one_or_other changing (e.verb == ANY_WORD) (e.verb == NO_WORD) (e.verb == v) (sum_by t e.condacts))
     ∙ sum_of_both _ _ es
 
 -- ---- calls ----

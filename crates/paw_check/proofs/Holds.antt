@@ -4,6 +4,7 @@ use Rattle.std.proofs.Common.{refl, arith}
 use Rattle.std.specs.Prelude.{if◌then◌else◌, nat_lt, sum_by, All}
 use Rattle.std.proofs.lemmas.Bool.{ltb-false}
 use Rattle.paw_base.specs.declared.limits.TheConstants.{READ_LIMIT, PIECE_LIMIT}
+use Rattle.paw_base.specs.declared.messages.TheConstants.{TIMEOUT_MESSAGE, GOODBYE_MESSAGE}
 use Rattle.paw_game.specs.Game.{GameLists}
 use Rattle.paw_effects.specs.Story.{Story}
 use Rattle.paw_reading.specs.Bounds.{IsLine, ValidStory}
@@ -35,7 +36,7 @@ takes_of g = record {
   prints = most_cost g (most_text g);
   view = most_view g;
   refusal = most_refusal g;
-  timeout = most_said g 35;
+  timeout = most_said g TIMEOUT_MESSAGE;
   prompt = most_prompt g;
 }
 
@@ -62,14 +63,14 @@ enough k goodbye low = record {
 
 enough_of : (g : GameLists) → most_piece g ≤ PIECE_LIMIT → IsEnough (most_condacts g) (most_piece g) (takes_of g)
 unfolding takes_of
-enough_of g low = enough (takes_of g) (most_said g 14) low
+enough_of g low = enough (takes_of g) (most_said g GOODBYE_MESSAGE) low
 
 -- What is added to the rounds of a piece has room for the goodbye.
 has_goodbye : (a goodbye b : ℕ) → goodbye ≤ a + (goodbye + b)
 has_goodbye a goodbye b = omega arith
 
 bound_of : (g : GameLists) → most_condacts g ≤ READ_LIMIT → most_piece g ≤ PIECE_LIMIT → IsBound (most_condacts g) (most_piece g) g
-bound_of g few short = record { reads = few; bytes = short; goodbye = has_goodbye _ (most_said g 14) _ }
+bound_of g few short = record { reads = few; bytes = short; goodbye = has_goodbye _ (most_said g GOODBYE_MESSAGE) _ }
 
 -- ---- readings ----
 

@@ -4,6 +4,9 @@ use Rattle.std.proofs.Common.{Some, None, refl, length, arith}
 use Rattle.std.proofs.Common.{length-append}
 use Rattle.std.specs.Prelude.{if◌then◌else◌, All}
 use Rattle.std.proofs.lemmas.Bool.{le-leb}
+use Rattle.paw_base.specs.declared.flags.TheConstants.{LOCATION_FLAG, VERB_FLAG, PRONOUN_NOUN_FLAG}
+use Rattle.paw_base.specs.declared.flags.TheConstants.{PRONOUN_ADJECTIVE_FLAG}
+use Rattle.paw_base.specs.declared.limits.TheConstants.{PIECE_LIMIT}
 use Rattle.paw_game.specs.Tables.{exit_at}
 use Rattle.paw_world.specs.World.{World, flag, with_flag}
 use Rattle.paw_phrase.specs.Sentence.{Parsed, IsSentence, IsUnknown, IsNoPhrase}
@@ -38,7 +41,7 @@ use Rattle.paw_check.proofs.Room.{Ready, Ends, HasRoom, less, moved, said, dropp
 pub record IsEnough (condacts text : ℕ) (k : Takes) : Type 0 where
   pub reads : 129 * round_reads k ≤ condacts
   pub bytes : 129 * round_text k + (k.timeout + k.prompt) ≤ text
-  pub limit : text ≤ 65535
+  pub limit : text ≤ PIECE_LIMIT
 
 module _ (g : Story) (valid : ValidStory g) (condacts text : ℕ) (k : Takes) (enough : IsEnough condacts text k) (says : Says g k)
     (tables : TablesTake g condacts text k) (only : (t : ℕ) (r : Run) → t ≤ 2 → r.turning ≡ None → DescribesOnly t (table_read g t r)) where
@@ -63,7 +66,8 @@ module _ (g : Story) (valid : ValidStory g) (condacts text : ℕ) (k : Takes) (e
   saying_stays : (words : List ℕ) (go : Run → Ending) (r : Run) → length r.current + length words ≤ text → Stays (go (text_printed words r)) →
       Stays (saying words go r)
   saying_stays words go r within h =
-      let fit : fits r words ≡ true = le-leb (length r.current + length words) 65535 (omega (arith, enough.limit)) in rw fit h
+      let fit : fits r words ≡ true =
+      le-leb (length r.current + length words) PIECE_LIMIT (omega (arith, enough.limit)) in rw fit h
 
   -- What is said takes no more than it may, and what follows it stays within the bound.
   says_on : (a b most : ℕ) (words : List ℕ) (go : Run → Ending) (r : Run) → length words ≤ most → Room a (most + b) r →
@@ -87,7 +91,8 @@ module _ (g : Story) (valid : ValidStory g) (condacts text : ℕ) (k : Takes) (e
         goes AtDescribe r
         (lesser (reads_behind k 0) (text_behind k 0) (reads_of k AtDescribe) (text_of k AtDescribe) r h (omega arith) (omega arith))
 
-    connected_stays : (r : Run) → Room (reads_behind k 0) (text_behind k 0) r → (to : Option ℕ) → exit_at g.game (flag r.world 38) (flag r.world 33) ≡ to →
+    connected_stays : (r : Run) → Room (reads_behind k 0) (text_behind k 0) r → (to : Option ℕ)
+        → exit_at g.game (flag r.world LOCATION_FLAG) (flag r.world VERB_FLAG) ≡ to →
         Stays (exit_taken g go r to)
     connected_stays r h None e =
         let s : Run = line_dropped r in
@@ -96,14 +101,15 @@ module _ (g : Story) (valid : ValidStory g) (condacts text : ℕ) (k : Takes) (e
         (lesser (reads_behind k 0) (text_behind k 0) (k.reads 2) (k.refusal + k.prints 2) s s_room (omega arith) (omega arith))
         (goes AtTimeFrame (text_printed (refusal_text g.game r.world) s))
     connected_stays r h (Some to) e =
-        described_again (with_world (with_flag r.world 38 to) r)
-        (moved g valid condacts text k (reads_behind k 0) (text_behind k 0) r h (with_flag r.world 38 to)
+        described_again (with_world (with_flag r.world LOCATION_FLAG to) r)
+        (moved g valid condacts text k (reads_behind k 0) (text_behind k 0) r h (with_flag r.world LOCATION_FLAG to)
         (exit_of g.game valid.game r.world h.ready.world to e))
 
     after_left_stays : (t : ℕ) (a : Bool) (r : Run) → Room (reads_behind k t) (text_behind k t) r → Stays (after_left g go t a r)
     after_left_stays zero true r h =
         goes AtTimeFrame r (lesser (reads_behind k 0) (text_behind k 0) (k.reads 2) (k.prints 2) r h (omega arith) (omega arith))
-    after_left_stays zero false r h = connected_stays r h (exit_at g.game (flag r.world 38) (flag r.world 33)) refl
+    after_left_stays zero false r h =
+        connected_stays r h (exit_at g.game (flag r.world LOCATION_FLAG) (flag r.world VERB_FLAG)) refl
     after_left_stays (suc zero) a r h = goes AtTimeFrame r h
     after_left_stays (suc (suc t)) a r h =
         goes AtPhrase (with_world (time_frame_passed r.world) r)
@@ -230,8 +236,10 @@ module _ (g : Story) (valid : ValidStory g) (condacts text : ℕ) (k : Takes) (e
       (lesser (k.reads 2) (k.prints 2) (k.reads 2 + 0) (k.prints 2 + 0) r h (omega arith) (omega arith))
   turn_stays (suc n) AtPhrase r h =
       after_phrase_stays (turn g n) (turn_stays n) r h (coming_phrase g r) refl
-      (parsed-shorter g.game r.pending r.earlier (flag r.world 46) (flag r.world 47))
-      (phrases_take_two g.game r.pending r.earlier (flag r.world 46) (flag r.world 47))
+      (parsed-shorter g.game r.pending r.earlier (flag r.world PRONOUN_NOUN_FLAG)
+      (flag r.world PRONOUN_ADJECTIVE_FLAG))
+      (phrases_take_two g.game r.pending r.earlier (flag r.world PRONOUN_NOUN_FLAG)
+      (flag r.world PRONOUN_ADJECTIVE_FLAG))
   turn_stays (suc n) AtResponse r h = table_stays (turn g n) (turn_stays n) 0 (omega arith) r h
 
   ended : (e : Ending) → Stays e → e ≢ Unended → EndsWithin condacts text e

@@ -3,6 +3,7 @@ use Rattle.std.proofs.Common.{◌≡◌, ℕ, zero, suc, ◌+◌, ◌≤◌, ◌
 use Rattle.std.proofs.Common.{length, arith, length-append}
 use Rattle.std.specs.Prelude.{All}
 use Rattle.std.proofs.lemmas.List.Elements.{All-append}
+use Rattle.paw_base.specs.declared.limits.TheConstants.{LINE_LIMIT}
 use Rattle.paw_world.specs.World.{World}
 use Rattle.paw_phrase.specs.declared.Sentence.{Sentence}
 use Rattle.paw_phrase.specs.Sentence.{IsSentence}
@@ -97,13 +98,14 @@ one_within most piece short (suc i) d low = absurd (omega arith)
 module _ (g : Story) (valid : ValidStory g) (condacts text : ℕ) where
   -- A run of which a line may be left.
   abbrev pub Ready : Run → Type 0
-  Ready r = IsReadyWithin condacts text 255 g.game r
+  Ready r = IsReadyWithin condacts text LINE_LIMIT g.game r
 
   abbrev pub Ends : Ending → Type 0
   Ends e = EndsSo condacts text e
 
   -- With another world, another line, another verb before it, other words in the open piece and other lines to come.
-  pub changed : (r : Run) → Ready r → (w : World) → IsWorldOf g.game w → (line : List ℕ) → length line ≤ 255 → (earlier : ℕ) → earlier < 256 →
+  pub changed : (r : Run) → Ready r → (w : World) → IsWorldOf g.game w → (line : List ℕ) → length line ≤ LINE_LIMIT
+      → (earlier : ℕ) → earlier < 256 →
       (words : List ℕ) (lines : List (List ℕ)) → All IsLine lines →
       Ready (record r { world = w; pending = line; earlier = earlier; current = words; events = lines })
   changed r h w world line short earlier early words lines are = record {
@@ -118,7 +120,8 @@ module _ (g : Story) (valid : ValidStory g) (condacts text : ℕ) where
   pub in_world : (r : Run) → Ready r → (w : World) → IsWorldOf g.game w → Ready (with_world w r)
   in_world r h w world = changed r h w world r.pending h.line r.earlier h.earlier r.current r.events h.lines
 
-  pub with_line : (r : Run) → Ready r → (line : List ℕ) → length line ≤ 255 → Ready (record r { pending = line })
+  pub with_line : (r : Run) → Ready r → (line : List ℕ) → length line ≤ LINE_LIMIT
+      → Ready (record r { pending = line })
   with_line r h line short = changed r h r.world h.world line short r.earlier h.earlier r.current r.events h.lines
 
   pub with_words : (r : Run) → Ready r → (words : List ℕ) → Ready (record r { current = words })

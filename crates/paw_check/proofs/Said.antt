@@ -3,6 +3,11 @@ use Rattle.std.proofs.Common.{ℕ, ◌+◌, ◌≤◌, ◌==◌, Bool, true, fal
 use Rattle.std.proofs.Common.{length-append}
 use Rattle.std.specs.Prelude.{if◌then◌else◌, max, nat_lt}
 use Rattle.std.specs.Option.{unwrap_or}
+use Rattle.paw_base.specs.declared.flags.TheConstants.{LOCATION_FLAG, VERB_FLAG, PROMPT_FLAG}
+use Rattle.paw_base.specs.declared.messages.TheConstants.{DARK_MESSAGE, UNKNOWN_MESSAGE, NO_WAY_MESSAGE}
+use Rattle.paw_base.specs.declared.messages.TheConstants.{IMPOSSIBLE_MESSAGE, TIMEOUT_MESSAGE, PROMPT_MESSAGE}
+use Rattle.paw_base.specs.declared.messages.TheConstants.{LINE_MESSAGE}
+use Rattle.paw_base.specs.declared.words.TheConstants.{FIRST_PLAIN_VERB}
 use Rattle.paw_game.specs.Game.{GameLists}
 use Rattle.paw_world.specs.World.{World, flag, is_unlit}
 use Rattle.paw_effects.specs.Texts.{put_text, say_text, location_text}
@@ -24,27 +29,47 @@ location_most g w l = omega (arith, ended_most g w (unwrap_or (slice_get g.locat
 
 pub view_short : (g : GameLists) (w : World) → length (view_text g w) ≤ most_view g
 view_short g w =
-    either_most (is_unlit w) (say_text g w 0) (location_text g w (flag w 38)) (most_put g 0) (most_of g g.locations) (say_most g w 0)
-    (location_most g w (flag w 38))
+    either_most (is_unlit w) (say_text g w DARK_MESSAGE) (location_text g w (flag w LOCATION_FLAG))
+    (most_put g DARK_MESSAGE) (most_of g g.locations) (say_most g w DARK_MESSAGE)
+    (location_most g w (flag w LOCATION_FLAG))
 
 -- ---- refusals ----
 
 pub unknown_short : (g : GameLists) (w : World) → length (unknown_text g w) ≤ most_refusal g
-unknown_short g w = omega (arith, say_most g w 6, among_most (most_put g) (6 ∷ 7 ∷ 8 ∷ []) 6 refl)
+unknown_short g w = omega (
+  arith,
+  say_most g w UNKNOWN_MESSAGE,
+  among_most (most_put g) (UNKNOWN_MESSAGE ∷ NO_WAY_MESSAGE ∷ IMPOSSIBLE_MESSAGE ∷ []) UNKNOWN_MESSAGE refl,
+)
 
-refused_short : (g : GameLists) (w : World) (b : Bool) → length (say_text g w (if b then 7 else 8)) ≤ most_refusal g
-refused_short g w true = omega (arith, say_most g w 7, among_most (most_put g) (6 ∷ 7 ∷ 8 ∷ []) 7 refl)
-refused_short g w false = omega (arith, say_most g w 8, among_most (most_put g) (6 ∷ 7 ∷ 8 ∷ []) 8 refl)
+refused_short : (g : GameLists) (w : World) (b : Bool)
+    → length (say_text g w (if b then NO_WAY_MESSAGE else IMPOSSIBLE_MESSAGE)) ≤ most_refusal g
+refused_short g w true = omega (
+  arith,
+  say_most g w NO_WAY_MESSAGE,
+  among_most (most_put g) (UNKNOWN_MESSAGE ∷ NO_WAY_MESSAGE ∷ IMPOSSIBLE_MESSAGE ∷ []) NO_WAY_MESSAGE refl,
+)
+refused_short g w false = omega (
+  arith,
+  say_most g w IMPOSSIBLE_MESSAGE,
+  among_most (most_put g) (UNKNOWN_MESSAGE ∷ NO_WAY_MESSAGE ∷ IMPOSSIBLE_MESSAGE ∷ []) IMPOSSIBLE_MESSAGE refl,
+)
 
 pub refusal_short : (g : GameLists) (w : World) → length (refusal_text g w) ≤ most_refusal g
-refusal_short g w = refused_short g w (nat_lt (flag w 33) 14)
+refusal_short g w = refused_short g w (nat_lt (flag w VERB_FLAG) FIRST_PLAIN_VERB)
 
 -- ---- lines ----
 
-pub timeout_short : (g : GameLists) (w : World) → length (timeout_text g w) ≤ most_said g 35
-timeout_short g w = say_most g (with_timeout true w) 35
+pub timeout_short : (g : GameLists) (w : World) → length (timeout_text g w) ≤ most_said g TIMEOUT_MESSAGE
+timeout_short g w = say_most g (with_timeout true w) TIMEOUT_MESSAGE
 
 pub prompt_short : (g : GameLists) (w : World) → length (prompt_text g w) ≤ most_prompt g
 prompt_short g w =
-    let s : ℕ = if flag w 42 == 0 then 2 else flag w 42 in
-    omega (arith, length-append (say_text g w s) (put_text g w 33), say_most g w s, at_most g g.system s, put_most g w 33)
+    let s : ℕ = if flag w PROMPT_FLAG == 0 then PROMPT_MESSAGE else flag w PROMPT_FLAG in
+    omega (
+      arith,
+      length-append (say_text g w s) (put_text g w LINE_MESSAGE),
+      say_most g w s,
+      at_most g g.system s,
+      put_most g w LINE_MESSAGE,
+    )

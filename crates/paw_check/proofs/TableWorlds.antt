@@ -5,6 +5,9 @@ use Rattle.std.specs.Prelude.{slice_get}
 use Rattle.std.proofs.lemmas.List.{get_or-set_other}
 use Rattle.paw_base.specs.declared.parts.Condact.{Condact}
 use Rattle.paw_base.specs.declared.parts.ObjectFacts.{ObjectFacts}
+use Rattle.paw_base.specs.declared.flags.TheConstants.{NOUN_FLAG, ADJECTIVE_FLAG, LOOP_FLAG, VERB_FLAG}
+use Rattle.paw_base.specs.declared.flags.TheConstants.{TIMED_OUT_FLAG, REFERRED_WEIGHT_FLAG, REFERRED_CONTAINER_FLAG}
+use Rattle.paw_base.specs.declared.flags.TheConstants.{REFERRED_WEARABLE_FLAG, REFERRED_PLACE_FLAG, REFERRED_FLAG}
 use Rattle.paw_game.specs.Game.{GameLists}
 use Rattle.paw_game.specs.Tables.{facts_at}
 use Rattle.paw_game.specs.Valid.{Valid, is_condact}
@@ -36,13 +39,15 @@ module _ (g : GameLists) (v : Valid g) where
   named_of w k o None e = k
   named_of w k o (Some f) e =
       let small = facts_small g v o f e in
-      set (with_flag w 34 f.noun) (set w k 34 f.noun small.noun) 35 f.adjective small.adjective
+      set (with_flag w NOUN_FLAG f.noun) (set w k NOUN_FLAG f.noun small.noun) ADJECTIVE_FLAG f.adjective
+      small.adjective
 
   -- A loop takes its next object.
   pub taken_of : (l : OpenLoop) (o : ℕ) (r : Run) → o < 256 → IsWorldOf g r.world → IsWorldOf g (object_taken g l o r).world
   taken_of l o r small k =
-      let w : World = with_flag (object_named r.world (facts_at g o)) 50 o in
-      let h : IsWorldOf g w = set (object_named r.world (facts_at g o)) (named_of r.world k o (facts_at g o) refl) 50 o small in
+      let w : World = with_flag (object_named r.world (facts_at g o)) LOOP_FLAG o in
+      let h : IsWorldOf g w = set (object_named r.world (facts_at g o)) (named_of r.world k o (facts_at g o) refl)
+      LOOP_FLAG o small in
       world_is g w.seed w.draws (object_referred w o) (referred_so g v w.seed w.draws w (now w h) o small)
 
   pub anew_of : (w : World) → IsWorldOf g w → IsWorldOf g (world_restarted w)
@@ -61,31 +66,37 @@ module _ (g : GameLists) (v : Valid g) where
 -- ---- the verb stays ----
 
 -- Another flag is set.
-other : (w : World) (f x : ℕ) → 33 ≢ f → flag (with_flag w f x) 33 ≡ flag w 33
-other w f x ne = get_or-set_other w.flags f 33 x 0 ne
+other : (w : World) (f x : ℕ) → VERB_FLAG ≢ f → flag (with_flag w f x) VERB_FLAG ≡ flag w VERB_FLAG
+other w f x ne = get_or-set_other w.flags f VERB_FLAG x 0 ne
 
-pub timeout_verb : (b : Bool) (w : World) → flag (with_timeout b w) 33 ≡ flag w 33
-timeout_verb true w = other w 49 (128 + flag w 49 % 128) (omega arith)
-timeout_verb false w = other w 49 (flag w 49 % 128) (omega arith)
+pub timeout_verb : (b : Bool) (w : World) → flag (with_timeout b w) VERB_FLAG ≡ flag w VERB_FLAG
+timeout_verb true w = other w TIMED_OUT_FLAG (128 + flag w TIMED_OUT_FLAG % 128) (omega arith)
+timeout_verb false w = other w TIMED_OUT_FLAG (flag w TIMED_OUT_FLAG % 128) (omega arith)
 
-named_verb : (w : World) (f : Option ObjectFacts) → flag (object_named w f) 33 ≡ flag w 33
+named_verb : (w : World) (f : Option ObjectFacts) → flag (object_named w f) VERB_FLAG ≡ flag w VERB_FLAG
 named_verb w None = refl
-named_verb w (Some f) = other (with_flag w 34 f.noun) 35 f.adjective (omega arith) ∙ other w 34 f.noun (omega arith)
+named_verb w (Some f) = other (with_flag w NOUN_FLAG f.noun) ADJECTIVE_FLAG f.adjective (omega arith)
+    ∙ other w NOUN_FLAG f.noun (omega arith)
 
-facts_verb : (w : World) (o : ℕ) (f : Option ObjectFacts) → flag (with_referred_facts w o f) 33 ≡ flag w 33
+facts_verb : (w : World) (o : ℕ) (f : Option ObjectFacts)
+    → flag (with_referred_facts w o f) VERB_FLAG ≡ flag w VERB_FLAG
 facts_verb w o None = refl
 facts_verb w o (Some f) =
-    let weighed : World = with_flag w 55 (weight w o) in
-    let held : World = with_flag weighed 56 (flag_of_fact f.container) in
-    other held 57 (flag_of_fact f.wearable) (omega arith) ∙ other weighed 56 (flag_of_fact f.container) (omega arith)
-    ∙ other w 55 (weight w o) (omega arith)
+    let weighed : World = with_flag w REFERRED_WEIGHT_FLAG (weight w o) in
+    let held : World = with_flag weighed REFERRED_CONTAINER_FLAG (flag_of_fact f.container) in
+    other held REFERRED_WEARABLE_FLAG (flag_of_fact f.wearable) (omega arith)
+    ∙ other weighed REFERRED_CONTAINER_FLAG (flag_of_fact f.container) (omega arith)
+    ∙ other w REFERRED_WEIGHT_FLAG (weight w o) (omega arith)
 
-referred_verb : (w : World) (o : ℕ) → flag (object_referred w o) 33 ≡ flag w 33
+referred_verb : (w : World) (o : ℕ) → flag (object_referred w o) VERB_FLAG ≡ flag w VERB_FLAG
 referred_verb w o =
-    let s : World = with_flag (with_flag w 51 o) 54 (place w o) in
-    facts_verb s o (slice_get w.facts o) ∙ other (with_flag w 51 o) 54 (place w o) (omega arith) ∙ other w 51 o (omega arith)
+    let s : World = with_flag (with_flag w REFERRED_FLAG o) REFERRED_PLACE_FLAG (place w o) in
+    facts_verb s o (slice_get w.facts o)
+    ∙ other (with_flag w REFERRED_FLAG o) REFERRED_PLACE_FLAG (place w o) (omega arith)
+    ∙ other w REFERRED_FLAG o (omega arith)
 
-pub taken_verb : (g : GameLists) (l : OpenLoop) (o : ℕ) (r : Run) → flag (object_taken g l o r).world 33 ≡ flag r.world 33
+pub taken_verb : (g : GameLists) (l : OpenLoop) (o : ℕ) (r : Run)
+    → flag (object_taken g l o r).world VERB_FLAG ≡ flag r.world VERB_FLAG
 taken_verb g l o r =
     let w : World = object_named r.world (facts_at g o) in
-    referred_verb (with_flag w 50 o) o ∙ other w 50 o (omega arith) ∙ named_verb r.world (facts_at g o)
+    referred_verb (with_flag w LOOP_FLAG o) o ∙ other w LOOP_FLAG o (omega arith) ∙ named_verb r.world (facts_at g o)

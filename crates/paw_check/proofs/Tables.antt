@@ -13,6 +13,9 @@ use Rattle.paw_base.specs.declared.codes.TheConstants.{PROCESS, DOALL, PARSE}
 use Rattle.paw_base.specs.declared.parts.Condact.{Condact}
 use Rattle.paw_base.specs.Condacts.{plain_code}
 use Rattle.paw_base.specs.declared.fault.SpentKind.{SpentKind}
+use Rattle.paw_base.specs.declared.flags.TheConstants.{VERB_FLAG, PRONOUN_NOUN_FLAG, PRONOUN_ADJECTIVE_FLAG}
+use Rattle.paw_base.specs.declared.flags.TheConstants.{NOUN_FLAG}
+use Rattle.paw_base.specs.declared.messages.TheConstants.{GOODBYE_MESSAGE}
 use Rattle.paw_game.specs.declared.parts.Entry.{Entry}
 use Rattle.paw_game.specs.Game.{GameLists}
 use Rattle.paw_game.specs.Tables.{table_at, is_for}
@@ -68,7 +71,7 @@ pub record Steady (g : GameLists) (kind : SpentKind) (limit pending : ℕ) (chan
   pub world : IsWorldOf g w
   pub small : earlier < 256
   pub short : length line ≤ pending
-  pub speaks : changing ≡ false → flag w 33 ≡ verb
+  pub speaks : changing ≡ false → flag w VERB_FLAG ≡ verb
   pub loop : IfSome turning (λ l. l.level ≤ lv)
   pub lines : All IsLine events
   pub closed : Closed kind limit traces pieces
@@ -109,7 +112,8 @@ shorter_if false line n k = k
 
 module _ (g : Story) (valid : ValidStory g) (kind : SpentKind) (limit pending : ℕ) (changing : Bool) (verb : ℕ)
     (low : limit ≤ of_kind kind READ_LIMIT PIECE_LIMIT)
-    (bye : (w : World) → IsWorldOf g.game w → of_kind kind 0 (length (say_text g.game w 14)) ≤ limit) where
+    (bye : (w : World) → IsWorldOf g.game w
+    → of_kind kind 0 (length (say_text g.game w GOODBYE_MESSAGE)) ≤ limit) where
   abbrev pub Is : ℕ → Run → Type 0
   Is lv r = Steady g.game kind limit pending changing verb lv r.world r.earlier r.pending r.turning r.events r.traces r.pieces
 
@@ -176,7 +180,8 @@ module _ (g : Story) (valid : ValidStory g) (kind : SpentKind) (limit pending : 
   -- ---- changes of a run ----
 
   -- Another world of the game, with the same verb.
-  in_world : (lv : ℕ) (r : Run) → Is lv r → (w : World) → IsWorldOf g.game w → (changing ≡ false → flag w 33 ≡ flag r.world 33) → Is lv (with_world w r)
+  in_world : (lv : ℕ) (r : Run) → Is lv r → (w : World) → IsWorldOf g.game w
+      → (changing ≡ false → flag w VERB_FLAG ≡ flag r.world VERB_FLAG) → Is lv (with_world w r)
   in_world lv r k w world same = record {
     world = world;
     small = k.small;
@@ -236,7 +241,7 @@ module _ (g : Story) (valid : ValidStory g) (kind : SpentKind) (limit pending : 
       in_world lv r k (with_timeout (is_timeout line) r.world) (timeout_of g.game valid.game (is_timeout line) r.world k.world)
       (λ e. timeout_verb (is_timeout line) r.world)
 
-  loose : (lv : ℕ) (r : Run) → IsLoose lv r → (changing ≡ false → flag r.world 33 ≡ verb) → Is lv r
+  loose : (lv : ℕ) (r : Run) → IsLoose lv r → (changing ≡ false → flag r.world VERB_FLAG ≡ verb) → Is lv r
   loose lv r k speaks = record {
     world = k.world;
     small = k.small;
@@ -431,7 +436,8 @@ module _ (g : Story) (valid : ValidStory g) (kind : SpentKind) (limit pending : 
             (omega arith) x k
 
         after_action_ends : (e : Effect) (w : World) → Leads w c e → (e ≡ effect.Spent → ⊥) → (e ≡ effect.Parse → changing ≡ true) →
-            (r : Run) → IsLoose lv r → ((e ≡ effect.Redescribe → ⊥) → changing ≡ false → flag r.world 33 ≡ verb) →
+            (r : Run) → IsLoose lv r → ((e ≡ effect.Redescribe → ⊥) → changing ≡ false
+            → flag r.world VERB_FLAG ≡ verb) →
             used kind r ≤ m + own_of kind g.game c → Comes (after_action g sub lv f next go e r)
         after_action_ends effect.Go w leads kept parses r k speaks u =
             behind (go true r)
@@ -480,7 +486,8 @@ module _ (g : Story) (valid : ValidStory g) (kind : SpentKind) (limit pending : 
             behind (after_parse f next go r (coming_phrase g r))
             (after_parse_ends once more f next go goes_next goes_go (parses refl) (m + takes c) r (loose lv r k (speaks (λ e. cc)))
             (omega (arith, u, own_takes c)) (omega (arith, fits)) (coming_phrase g r) refl
-            (parsed-shorter g.game r.pending r.earlier (flag r.world 46) (flag r.world 47)))
+            (parsed-shorter g.game r.pending r.earlier (flag r.world PRONOUN_NOUN_FLAG)
+            (flag r.world PRONOUN_ADJECTIVE_FLAG)))
         after_action_ends effect.Spent w leads kept parses r k speaks u = absurd (kept refl)
 
         tested_ends : (r : Run) → Is lv r → used kind r ≤ m →
@@ -570,7 +577,8 @@ module _ (g : Story) (valid : ValidStory g) (kind : SpentKind) (limit pending : 
         where
           go : (b : Bool) → changing ≡ b → (b || is_for e.verb verb) ≡ true
           go true q = refl
-          go false q = subst (λ v. is_for e.verb v ≡ true) (k.speaks q) (and_parts (is_for e.verb (flag r.world 33)) (is_for e.noun (flag r.world 34)) now).0
+          go false q = subst (λ v. is_for e.verb v ≡ true) (k.speaks q)
+              (and_parts (is_for e.verb (flag r.world VERB_FLAG)) (is_for e.noun (flag r.world NOUN_FLAG)) now).0
 
       counted : (h : Condact → ℕ) (b : Bool) (e : Entry) (es : List Entry) → b ≡ true →
           sum_by h (their (cond b (e ∷ es) es)) ≡ sum_by h e.condacts + sum_by h (their es)

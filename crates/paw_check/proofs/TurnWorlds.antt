@@ -2,6 +2,10 @@
 use Rattle.std.proofs.Common.{◌≡◌, ℕ, ◌+◌, ◌-◌, ◌<◌, ◌≤◌, ◌/◌, ◌%◌, Bool, true, false, List, Some, refl, map, length}
 use Rattle.std.proofs.Common.{min, arith}
 use Rattle.std.proofs.Math.Nat.{min-le_left}
+use Rattle.paw_base.specs.declared.flags.TheConstants.{LOCATION_FLAG, VERB_FLAG, LOW_TURNS_FLAG, HIGH_TURNS_FLAG}
+use Rattle.paw_base.specs.declared.flags.TheConstants.{TIMED_OUT_FLAG, NOUN_FLAG, ADJECTIVE_FLAG, ADVERB_FLAG}
+use Rattle.paw_base.specs.declared.flags.TheConstants.{PREPOSITION_FLAG, SECOND_NOUN_FLAG, SECOND_ADJECTIVE_FLAG}
+use Rattle.paw_base.specs.declared.flags.TheConstants.{PRONOUN_NOUN_FLAG, PRONOUN_ADJECTIVE_FLAG}
 use Rattle.paw_game.specs.Game.{GameLists}
 use Rattle.paw_game.specs.Tables.{exit_at}
 use Rattle.paw_game.specs.Valid.{Valid}
@@ -46,14 +50,17 @@ module _ (g : GameLists) (v : Valid g) where
 
   -- ---- the exit, the number of turns, timeouts ----
 
-  pub exit_of : (w : World) → IsWorldOf g w → (to : ℕ) → exit_at g (flag w 38) (flag w 33) ≡ Some to → IsWorldOf g (with_flag w 38 to)
+  pub exit_of : (w : World) → IsWorldOf g w → (to : ℕ) → exit_at g (flag w LOCATION_FLAG) (flag w VERB_FLAG) ≡ Some to
+      → IsWorldOf g (with_flag w LOCATION_FLAG to)
   exit_of w k to e =
-      flag_set w k 38 to (omega (arith, exit-leads g v (flag w 38) (flag w 33) to e, (few_locations g v).1))
+      flag_set w k LOCATION_FLAG to (omega
+      (arith, exit-leads g v (flag w LOCATION_FLAG) (flag w VERB_FLAG) to e, (few_locations g v).1))
 
   pub counted_of : (w : World) → IsWorldOf g w → IsWorldOf g (turn_counted w)
   counted_of w k =
       let n : ℕ = min 65535 (turns_taken w + 1) in
-      flag_set (with_flag w 31 (n % 256)) (flag_set w k 31 (n % 256) (low n)) 32 (n / 256) (high n (min-le_left 65535 (turns_taken w + 1)))
+      flag_set (with_flag w LOW_TURNS_FLAG (n % 256)) (flag_set w k LOW_TURNS_FLAG (n % 256) (low n)) HIGH_TURNS_FLAG
+      (n / 256) (high n (min-le_left 65535 (turns_taken w + 1)))
     where
       low : (x : ℕ) → x % 256 < 256
       low x = omega arith
@@ -62,11 +69,11 @@ module _ (g : GameLists) (v : Valid g) where
       high x most = omega arith
 
   pub timeout_of : (b : Bool) (w : World) → IsWorldOf g w → IsWorldOf g (with_timeout b w)
-  timeout_of true w k = flag_set w k 49 (128 + flag w 49 % 128) (low (flag w 49))
+  timeout_of true w k = flag_set w k TIMED_OUT_FLAG (128 + flag w TIMED_OUT_FLAG % 128) (low (flag w TIMED_OUT_FLAG))
     where
       low : (x : ℕ) → 128 + x % 128 < 256
       low x = omega arith
-  timeout_of false w k = flag_set w k 49 (flag w 49 % 128) (low (flag w 49))
+  timeout_of false w k = flag_set w k TIMED_OUT_FLAG (flag w TIMED_OUT_FLAG % 128) (low (flag w TIMED_OUT_FLAG))
     where
       low : (x : ℕ) → x % 128 < 256
       low x = omega arith
@@ -75,16 +82,19 @@ module _ (g : GameLists) (v : Valid g) where
 
   spoken_of : (s : Sentence) (w : World) → AreWords s → IsWorldOf g w → IsWorldOf g (with_sentence s w)
   spoken_of s w b k =
-      flag_set _ (flag_set _ (flag_set _ (flag_set _ (flag_set _ (flag_set _ (flag_set _ (flag_set _ (flag_set w k 33 s.verb b.verb) 34 s.noun b.noun)
-      35 s.adjective b.adjective) 36 s.adverb b.adverb) 43 s.preposition b.preposition) 44 s.second_noun b.second_noun)
-      45 s.second_adjective b.second_adjective) 46 s.pronoun_noun b.pronoun_noun) 47 s.pronoun_adjective b.pronoun_adjective
+      flag_set _ (flag_set _ (flag_set _ (flag_set _ (flag_set _ (flag_set _ (flag_set _ (flag_set _
+      (flag_set w k VERB_FLAG s.verb b.verb) NOUN_FLAG s.noun b.noun) ADJECTIVE_FLAG s.adjective b.adjective)
+      ADVERB_FLAG s.adverb b.adverb) PREPOSITION_FLAG s.preposition b.preposition)
+      SECOND_NOUN_FLAG s.second_noun b.second_noun) SECOND_ADJECTIVE_FLAG s.second_adjective b.second_adjective)
+      PRONOUN_NOUN_FLAG s.pronoun_noun b.pronoun_noun) PRONOUN_ADJECTIVE_FLAG s.pronoun_adjective b.pronoun_adjective
 
   -- The world in which the sentence of the line's next phrase stands, and its verb is a byte.
   pub phrase_of : (answers : List (List ℕ)) (r : Run) → IsWorldOf g r.world → r.earlier < 256 → (s : Sentence) (left : List ℕ) →
       coming_phrase (record { game = g; answers = answers }) r ≡ IsSentence s left → IsWorldOf g (with_sentence s r.world) × (s.verb < 256)
   phrase_of answers r k early s left e =
       let words =
-      parsed-bytes g r.pending r.earlier (flag r.world 46) (flag r.world 47) s left v early (byte_of r.world k 46) (byte_of r.world k 47) e in
+      parsed-bytes g r.pending r.earlier (flag r.world PRONOUN_NOUN_FLAG) (flag r.world PRONOUN_ADJECTIVE_FLAG) s left
+      v early (byte_of r.world k PRONOUN_NOUN_FLAG) (byte_of r.world k PRONOUN_ADJECTIVE_FLAG) e in
       (spoken_of s r.world words k, words.verb)
 
   -- ---- the start ----

@@ -125,9 +125,10 @@ module _ (n : ℕ) where
       → HasVerb w → HasVerb (option_map_or (at_position w m) saved w)
   ramloaded_has g w m None at low k = k
   ramloaded_has g w m (Some q) at low k =
-      let below : m < 33 = leb-false 33 m low in
+      let below : m < VERB_FLAG = leb-false VERB_FLAG m low in
       let all : length q.flags ≡ 256 = at.flags in
       let many : length (take (suc m) q.flags) ≡ suc m = length-take-le (suc m) q.flags (omega arith) in
-      let there : suc m + (33 - suc m) ≡ 33 = omega arith in
-      get_or-append_right (take (suc m) q.flags) (drop (suc m) w.flags) (suc m) 33 0 many (omega arith)
-      ∙ (get_or-drop (suc m) w.flags (33 - suc m) 0 ∙ (subst (λ i. slice_index w.flags i ≡ flag w 33) (sym there) refl ∙ k))
+      let there : suc m + (VERB_FLAG - suc m) ≡ VERB_FLAG = omega arith in
+      get_or-append_right (take (suc m) q.flags) (drop (suc m) w.flags) (suc m) VERB_FLAG 0 many (omega arith)
+      ∙ (get_or-drop (suc m) w.flags (VERB_FLAG - suc m) 0
+      ∙ (subst (λ i. slice_index w.flags i ≡ flag w VERB_FLAG) (sym there) refl ∙ k))

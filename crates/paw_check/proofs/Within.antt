@@ -10,6 +10,8 @@ use Rattle.paw_base.specs.declared.codes.TheConstants.{PROCESS, DOALL}
 use Rattle.paw_base.specs.declared.parts.Condact.{Condact}
 use Rattle.paw_base.specs.declared.fault.SpentKind.{SpentKind}
 use Rattle.paw_base.specs.declared.fault.SpentKind.TheVariants as spent
+use Rattle.paw_base.specs.declared.messages.TheConstants.{GOODBYE_MESSAGE}
+use Rattle.paw_base.specs.declared.flags.TheConstants.{VERB_FLAG}
 use Rattle.paw_game.specs.declared.parts.Entry.{Entry}
 use Rattle.paw_game.specs.Tables.{table_at}
 use Rattle.paw_game.specs.Valid.{is_condact}
@@ -73,7 +75,8 @@ none_such p cs h c member = go (p c) refl
 
 module _ (g : Story) (valid : ValidStory g) (flat : call_too_deep g.game ≡ None) (kind : SpentKind) (limit pending verb : ℕ)
     (low : limit ≤ of_kind kind READ_LIMIT PIECE_LIMIT)
-    (bye : (w : World) → IsWorldOf g.game w → of_kind kind 0 (length (say_text g.game w 14)) ≤ limit) where
+    (bye : (w : World) → IsWorldOf g.game w
+    → of_kind kind 0 (length (say_text g.game w GOODBYE_MESSAGE)) ≤ limit) where
   abbrev changing : Bool
   changing = verb_may_change g.game
 
@@ -185,7 +188,7 @@ module _ (g : Story) (valid : ValidStory g) (flat : call_too_deep g.game ≡ Non
 
   -- The same for a run outside tables, where the table costs at most this.
   pub ready_table_end : (t m most condacts text : ℕ) (r : Run) → In t turn_tables → IsReadyWithin condacts text pending g.game r →
-      (changing ≡ false → flag r.world 33 ≡ verb) → Closed kind limit r.traces r.pieces → used kind r ≤ m →
+      (changing ≡ false → flag r.world VERB_FLAG ≡ verb) → Closed kind limit r.traces r.pieces → used kind r ≤ m →
       cost g.game own count 10 t ≤ most → m + most ≤ limit → EndsSo (Shut 0 (m + most)) (m + most) (table_read g t r)
   ready_table_end t m most condacts text r at ready speaks closed u least fits =
       ends_up g valid kind limit pending changing verb low bye _ (Shut 0 (m + most)) _ (m + most) (omega (arith, least))
@@ -204,7 +207,8 @@ module _ (g : Story) (valid : ValidStory g) (flat : call_too_deep g.game ≡ Non
 -- ---- both ways ----
 
 module _ (g : Story) (valid : ValidStory g) (condacts text pending verb reads bytes : ℕ) (few : condacts ≤ READ_LIMIT) (short : text ≤ PIECE_LIMIT)
-    (no_bye : (w : World) → IsWorldOf g.game w → 0 ≤ condacts) (bye : (w : World) → IsWorldOf g.game w → length (say_text g.game w 14) ≤ text) where
+    (no_bye : (w : World) → IsWorldOf g.game w → 0 ≤ condacts)
+    (bye : (w : World) → IsWorldOf g.game w → length (say_text g.game w GOODBYE_MESSAGE) ≤ text) where
   abbrev changes : Bool
   changes = verb_may_change g.game
 
@@ -245,11 +249,12 @@ module _ (g : Story) (valid : ValidStory g) (condacts text pending verb reads by
 -- Each table of a turn is read within what it takes.
 pub tables_within : TablesWithin
 tables_within g condacts text pending reads bytes t r valid flat bound low ready uses fit_reads fit_bytes =
-    let verb : ℕ = flag r.world 33 in
-    let small : verb < 256 = byte_at r.world.flags 33 ready.world.flags in
+    let verb : ℕ = flag r.world VERB_FLAG in
+    let small : verb < 256 = byte_at r.world.flags VERB_FLAG ready.world.flags in
     let at : In t turn_tables = in_three t low in
     let no_bye : (w : World) → IsWorldOf g.game w → 0 ≤ condacts = λ w k. omega arith in
-    let bye : (w : World) → IsWorldOf g.game w → length (say_text g.game w 14) ≤ text = λ w k. omega (arith, say_most g.game w 14, bound.goodbye) in
+    let bye : (w : World) → IsWorldOf g.game w → length (say_text g.game w GOODBYE_MESSAGE) ≤ text =
+    λ w k. omega (arith, say_most g.game w GOODBYE_MESSAGE, bound.goodbye) in
     let reads_most : cost g.game (λ c. 1) (counting (verb_may_change g.game) verb) 10 t ≤ reads_of g.game t = verb_most g.game (λ c. 1) t verb small in
     let text_most : cost g.game (most_text g.game) (counting (verb_may_change g.game) verb) 10 t ≤ table_text g.game t =
     verb_most g.game (most_text g.game) t verb small in

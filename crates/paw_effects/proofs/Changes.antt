@@ -13,7 +13,8 @@ use Rattle.std.proofs.lemmas.List.Elements.{All-take, All-drop, All-append, All-
 use Rattle.paw_base.specs.declared.words.TheConstants.{NO_WORD}
 use Rattle.paw_base.specs.declared.places.TheConstants.{WORN_PLACE, CARRIED_PLACE, NOT_CREATED_PLACE, HERE_PLACE}
 use Rattle.paw_base.specs.declared.flags.TheConstants.{REFERRED_FLAG, REFERRED_PLACE_FLAG, REFERRED_WEIGHT_FLAG}
-use Rattle.paw_base.specs.declared.flags.TheConstants.{REFERRED_CONTAINER_FLAG, REFERRED_WEARABLE_FLAG}
+use Rattle.paw_base.specs.declared.flags.TheConstants.{REFERRED_CONTAINER_FLAG, REFERRED_WEARABLE_FLAG, LOCATION_FLAG}
+use Rattle.paw_base.specs.declared.flags.TheConstants.{VERB_FLAG}
 use Rattle.paw_base.specs.declared.codes.TheConstants.{PLACE, PUTO, AUTOP, PUTIN}
 use Rattle.paw_base.specs.declared.parts.Condact.{Condact}
 use Rattle.paw_base.specs.declared.parts.ObjectFacts.{ObjectFacts}
@@ -231,16 +232,18 @@ module _ (g : GameLists) (v : Valid g) (seed n : ℕ) where
   facts_so : (w : World) → Is w → (o : ℕ) (f : Option ObjectFacts) → Is (with_referred_facts w o f)
   facts_so w k o None = k
   facts_so w k o (Some f) =
-      let heavy : World = with_flag w 55 (weight w o) in
-      let heavy_so : Is heavy = flagged g v seed n w k 55 (weight w o) (weight_small g v seed n w k o) in
-      flagged g v seed n (with_flag heavy 56 (flag_of_fact f.container))
-      (flagged g v seed n heavy heavy_so 56 (flag_of_fact f.container) (class_small f.container))
-      57 (flag_of_fact f.wearable) (class_small f.wearable)
+      let heavy : World = with_flag w REFERRED_WEIGHT_FLAG (weight w o) in
+      let heavy_so : Is heavy = flagged g v seed n w k REFERRED_WEIGHT_FLAG (weight w o)
+      (weight_small g v seed n w k o) in
+      flagged g v seed n (with_flag heavy REFERRED_CONTAINER_FLAG (flag_of_fact f.container))
+      (flagged g v seed n heavy heavy_so REFERRED_CONTAINER_FLAG (flag_of_fact f.container) (class_small f.container))
+      REFERRED_WEARABLE_FLAG (flag_of_fact f.wearable) (class_small f.wearable)
 
   pub referred_so : (w : World) → Is w → (o : ℕ) → o < 256 → Is (object_referred w o)
   referred_so w k o small =
-      facts_so (with_flag (with_flag w 51 o) 54 (place w o))
-      (flagged g v seed n (with_flag w 51 o) (flagged g v seed n w k 51 o small) 54 (place w o) (place_is_small g v seed n w k o)) o (slice_get w.facts o)
+      facts_so (with_flag (with_flag w REFERRED_FLAG o) REFERRED_PLACE_FLAG (place w o))
+      (flagged g v seed n (with_flag w REFERRED_FLAG o) (flagged g v seed n w k REFERRED_FLAG o small)
+      REFERRED_PLACE_FLAG (place w o) (place_is_small g v seed n w k o)) o (slice_get w.facts o)
 
   -- ---- actions on objects ----
 
@@ -312,8 +315,9 @@ module _ (g : GameLists) (v : Valid g) (seed n : ℕ) where
   spot_small : (w : World) → Is w → (s : Spot) (o : ℕ) → fitting_at w s ≡ Some o → o < 256
   spot_small w k spot.Here o e = go (is_somewhere w) e
     where
-      go : (b : Bool) → ◌≡◌ {A = Option ℕ} (if b then least_fitting w (flag w 38) else None) (Some o) → o < 256
-      go true h = fits_small w k o (found_fits (fits_sentence w) (objects_at w (flag w 38)) o h)
+      go : (b : Bool) → ◌≡◌ {A = Option ℕ} (if b then least_fitting w (flag w LOCATION_FLAG) else None)
+          (Some o) → o < 256
+      go true h = fits_small w k o (found_fits (fits_sentence w) (objects_at w (flag w LOCATION_FLAG)) o h)
       go false h = cc
   spot_small w k (spot.At p) o e = fits_small w k o (found_fits (fits_sentence w) (objects_at w p) o e)
 
@@ -351,10 +355,11 @@ module _ (g : GameLists) (v : Valid g) (seed n : ℕ) where
   pub less_small : (w : World) → Is w → (f x : ℕ) → flag w f - x < 256
   less_small w k f x = let small = flag_small g v seed n w k f in omega (arith, small)
 
-  pub moves_so : (w : World) → Is w → (f : ℕ) (to : Option ℕ) → exit_at g (flag w f) (flag w 33) ≡ to
+  pub moves_so : (w : World) → Is w → (f : ℕ) (to : Option ℕ) → exit_at g (flag w f) (flag w VERB_FLAG) ≡ to
       → Is (option_map_or (λ x. answers (with_flag w f x) true) to (answers w false)).world
   moves_so w k f None e = k
-  moves_so w k f (Some to) e = flagged g v seed n w k f to (omega (arith, exit-leads g v (flag w f) (flag w 33) to e, (few_locations g v).1))
+  moves_so w k f (Some to) e = flagged g v seed n w k f to
+      (omega (arith, exit-leads g v (flag w f) (flag w VERB_FLAG) to e, (few_locations g v).1))
 
   -- ---- each row ----
 

@@ -7,6 +7,7 @@ use Rattle.std.proofs.lemmas.List.{length-set}
 use Rattle.std.proofs.lemmas.List.Elements.{filter-append}
 use Rattle.std.proofs.lemmas.List.Sums.{fold-append}
 use Rattle.paw_base.specs.declared.places.TheConstants.{CARRIED_PLACE, WORN_PLACE}
+use Rattle.paw_base.specs.declared.flags.TheConstants.{CARRIED_FLAG}
 use Rattle.paw_world.proofs.WorldLemmas.{place-moved_other, length-moved}
 use Rattle.paw_game.specs.Game.{GameLists}
 use Rattle.paw_world.specs.World.{World, with_flag, place, with_place, let_go, taken_up, object_moved, here}
@@ -45,10 +46,10 @@ Alike-with_place : (w : World) (o p : ℕ) → Alike w (with_place w o p)
 Alike-with_place w o p = record { facts = refl; locations = refl; flags = refl; places = length-set w.places o p; draws = refl }
 
 Alike-let_go : (w : World) (p : ℕ) → Alike w (let_go w p)
-Alike-let_go w p = Alike-either (p == CARRIED_PLACE) w _ w (Alike-with_flag w 1 _) (Alike-same w)
+Alike-let_go w p = Alike-either (p == CARRIED_PLACE) w _ w (Alike-with_flag w CARRIED_FLAG _) (Alike-same w)
 
 Alike-taken_up : (w : World) (p : ℕ) → Alike w (taken_up w p)
-Alike-taken_up w p = Alike-either (p == CARRIED_PLACE) w _ w (Alike-with_flag w 1 _) (Alike-same w)
+Alike-taken_up w p = Alike-either (p == CARRIED_PLACE) w _ w (Alike-with_flag w CARRIED_FLAG _) (Alike-same w)
 
 pub Alike-moved : (w : World) (o p : ℕ) → Alike w (object_moved w o p)
 Alike-moved w o p =

@@ -17,6 +17,7 @@ use Rattle.paw_base.specs.declared.parts.ObjectFacts.{ObjectFacts}
 use Rattle.paw_base.specs.declared.rows.ParamKind.{ParamKind}
 use Rattle.paw_base.specs.declared.rows.ParamKind.TheVariants as kind
 use Rattle.paw_base.specs.Condacts.{condact_lines, line_of, plain_line, is_indirect, first_kind, second_kind}
+use Rattle.paw_base.specs.declared.flags.TheConstants.{LOCATION_FLAG, REFERRED_FLAG, REFERRED_PLACE_FLAG}
 use Rattle.paw_game.specs.Game.{GameLists}
 use Rattle.paw_game.specs.declared.parts.ObjectRow.{ObjectRow}
 use Rattle.paw_game.specs.Valid.{Valid, is_argument, is_within, is_place, is_text, rows_are_valid}
@@ -79,11 +80,12 @@ here_at locations f = grind (arith, nat_tests)
 
 pub here_place : (g : GameLists) (w : World) → w.locations ≡ length g.locations → is_place (length g.locations) (here w) ≡ true
 here_place g w of =
-    subst (λ n. is_place (length g.locations) (if nat_lt (flag w 38) n then flag w 38 else NOT_CREATED_PLACE) ≡ true) (sym of)
-    (here_at (length g.locations) (flag w 38))
+    subst (λ n. is_place (length g.locations)
+    (if nat_lt (flag w LOCATION_FLAG) n then flag w LOCATION_FLAG else NOT_CREATED_PLACE) ≡ true) (sym of)
+    (here_at (length g.locations) (flag w LOCATION_FLAG))
 
 place_of : (locations here p : ℕ) → is_place locations here ≡ true → (nat_lt p locations || is_within NOT_CREATED_PLACE HERE_PLACE p) ≡ true →
-    is_place locations (if p == 255 then here else p) ≡ true
+    is_place locations (if p == HERE_PLACE then here else p) ≡ true
 place_of locations here p h k = grind (arith, nat_tests)
 
 -- A place that a parameter names.
@@ -188,8 +190,9 @@ swapped_placed g v w o k h =
     moved_placed g (object_moved w o (place w k)) k (place w o) (at o) (moved_placed g w o (place w k) (at k) h)
 
 pub to_placed : (g : GameLists) (w : World) (p : ℕ) → is_place (length g.locations) p ≡ true → IsPlaced g w →
-    IsPlaced g (if nat_lt (flag w 51) (length w.places) then object_moved w (flag w 51) p else w)
-to_placed g w p at k = one_placed g (nat_lt (flag w 51) (length w.places)) (object_moved w (flag w 51) p) w (moved_placed g w (flag w 51) p at k) k
+    IsPlaced g (if nat_lt (flag w REFERRED_FLAG) (length w.places) then object_moved w (flag w REFERRED_FLAG) p else w)
+to_placed g w p at k = one_placed g (nat_lt (flag w REFERRED_FLAG) (length w.places))
+    (object_moved w (flag w REFERRED_FLAG) p) w (moved_placed g w (flag w REFERRED_FLAG) p at k) k
 
 -- ---- actions on objects ----
 
@@ -198,7 +201,8 @@ facts_placed g w o None k = k
 facts_placed g w o (Some f) k = k
 
 pub referred_placed : (g : GameLists) (w : World) (o : ℕ) → IsPlaced g w → IsPlaced g (object_referred w o)
-referred_placed g w o k = facts_placed g (with_flag (with_flag w 51 o) 54 (place w o)) o (slice_get w.facts o) k
+referred_placed g w o k = facts_placed g (with_flag (with_flag w REFERRED_FLAG o) REFERRED_PLACE_FLAG (place w o)) o
+    (slice_get w.facts o) k
 
 -- An action puts objects only in at places.
 abbrev pub GoesToPlace : GameLists → Action → Type 0

@@ -1,10 +1,12 @@
 -- What stands in a piece while a text is printed part by part.
 use Rattle.std.proofs.Common.{◌≡◌, ℕ, ◌+◌, ◌<◌, Bool, true, false, List, ◌++◌, length, ap, arith, length-append, ◌∙◌}
 use Rattle.paw_base.specs.inner.Piece.{Puts}
+use Rattle.paw_base.specs.declared.limits.TheConstants.{PIECE_LIMIT}
 
 -- The part that doesn't fit is part of a whole that doesn't.
-pub too_long : (held part rest start whole : List ℕ) → held ++ (part ++ rest) ≡ start ++ whole → 65535 < length held + length part →
-    65535 < length start + length whole
+pub too_long : (held part rest start whole : List ℕ) → held ++ (part ++ rest) ≡ start ++ whole
+    → PIECE_LIMIT < length held + length part →
+    PIECE_LIMIT < length start + length whole
 too_long held part rest start whole e long =
     let lengths : length (held ++ (part ++ rest)) ≡ length (start ++ whole) = ap length e in
     let left : length (held ++ (part ++ rest)) ≡ length held + (length part + length rest) =

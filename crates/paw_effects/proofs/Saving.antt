@@ -6,6 +6,7 @@ use Rattle.paw_base.specs.declared.places.TheConstants.{CARRIED_PLACE}
 use Rattle.paw_base.specs.declared.codes.TheConstants.{SAVE}
 use Rattle.paw_base.specs.declared.parts.Condact.{Condact}
 use Rattle.paw_base.specs.declared.parts.ObjectFacts.{ObjectFacts}
+use Rattle.paw_base.specs.declared.flags.TheConstants.{REFERRED_PLACE_FLAG, REFERRED_FLAG}
 use Rattle.paw_game.specs.Game.{GameLists}
 use Rattle.paw_routines.specs.Answers.{value_at}
 use Rattle.paw_world.specs.World.{World, Position, flag, with_flag, place, with_place, here, let_go, taken_up, object_moved}
@@ -59,7 +60,8 @@ module _ (ks : List (Option Position)) where
   facts_kept w o (Some f) k = k
 
   pub referred_kept : (w : World) (o : ℕ) → AreKept w → AreKept (object_referred w o)
-  referred_kept w o k = facts_kept (with_flag (with_flag w 51 o) 54 (place w o)) o (slice_get w.facts o) k
+  referred_kept w o k = facts_kept (with_flag (with_flag w REFERRED_FLAG o) REFERRED_PLACE_FLAG (place w o)) o
+      (slice_get w.facts o) k
 
   tried_kept : (g : GameLists) (w : World) (o : ℕ) (a : Action) (said : Option ObjectReply) → AreKept w → AreKept (action_tried g w o a said).world
   tried_kept g w o a (Some said) k = k

@@ -12,12 +12,17 @@ use Rattle.std.proofs.lemmas.List.{length-set, length-map, get_or_past}
 use Rattle.std.proofs.lemmas.List.Elements.{All-set, All-replicate}
 use Rattle.std.proofs.lemmas.List.Sums.{count_by-le-length}
 use Rattle.std.proofs.lemmas.Option.{slice_get-map}
-use Rattle.paw_base.specs.declared.words.TheConstants.{LEAST_WORD, GREATEST_WORD}
-use Rattle.paw_base.specs.declared.places.TheConstants.{NOT_CREATED_PLACE, CARRIED_PLACE}
-use Rattle.paw_base.specs.declared.limits.TheConstants.{LOCATION_LIMIT, WORD_LIMIT}
+use Rattle.paw_base.specs.declared.words.TheConstants.{LEAST_WORD, GREATEST_WORD, NO_WORD}
+use Rattle.paw_base.specs.declared.places.TheConstants.{NOT_CREATED_PLACE, CARRIED_PLACE, HERE_PLACE}
+use Rattle.paw_base.specs.declared.limits.TheConstants.{LOCATION_LIMIT, WORD_LIMIT, STARTING_CARRIED, STARTING_WEIGHT}
+use Rattle.paw_base.specs.declared.limits.TheConstants.{OBJECT_LIMIT}
 use Rattle.paw_base.specs.declared.parts.ObjectFacts.{ObjectFacts}
 use Rattle.paw_base.specs.declared.rows.ParamKind.{ParamKind}
 use Rattle.paw_base.specs.declared.rows.ParamKind.TheVariants as kind
+use Rattle.paw_base.specs.declared.flags.TheConstants.{LOCATION_FLAG, CARRIED_FLAG, MOST_CARRIED_FLAG, VERB_FLAG}
+use Rattle.paw_base.specs.declared.flags.TheConstants.{NOUN_FLAG, ADJECTIVE_FLAG, ADVERB_FLAG, PREPOSITION_FLAG}
+use Rattle.paw_base.specs.declared.flags.TheConstants.{SECOND_NOUN_FLAG, SECOND_ADJECTIVE_FLAG, PRONOUN_NOUN_FLAG}
+use Rattle.paw_base.specs.declared.flags.TheConstants.{PRONOUN_ADJECTIVE_FLAG, REFERRED_FLAG, MOST_WEIGHT_FLAG}
 use Rattle.paw_game.specs.declared.parts.Word.{Word}
 use Rattle.paw_game.specs.declared.parts.ObjectRow.{ObjectRow}
 use Rattle.paw_game.specs.Game.{GameLists, counts_of}
@@ -73,8 +78,9 @@ few_locations g v = (
       (first_of_and (nat_le (length g.locations) LOCATION_LIMIT) _ (second_of_and (nat_le 1 (length g.locations)) _ v.locations)),
 )
 
-pub few_objects : (g : GameLists) → Valid g → length g.objects ≤ 255
-few_objects g v = leb-true (length g.objects) 255 (first_of_and (nat_le (length g.objects) 255) _ v.objects)
+pub few_objects : (g : GameLists) → Valid g → length g.objects ≤ OBJECT_LIMIT
+few_objects g v = leb-true (length g.objects) OBJECT_LIMIT
+    (first_of_and (nat_le (length g.objects) OBJECT_LIMIT) _ v.objects)
 
 few_messages : (g : GameLists) → Valid g → length g.messages ≤ 256
 few_messages g v = leb-true (length g.messages) 256 (first_of_and (nat_le (length g.messages) 256) _ v.messages)
@@ -105,10 +111,10 @@ words_are_valid : (g : GameLists) → Valid g → IsTrue (list_all is_word g.wor
 words_are_valid g v = first_of_and _ (words_rise g.words) (second_of_and (nat_le (length g.words) WORD_LIMIT) _ v.words)
 
 pub word_or_none_small : (g : GameLists) → Valid g → (class value : ℕ) → IsTrue (is_word_or_none g.words class value) → value < 256
-word_or_none_small g v class value h = go (value == 255) refl h
+word_or_none_small g v class value h = go (value == NO_WORD) refl h
   where
-    go : (b : Bool) → (value == 255) ≡ b → IsTrue (b || has_word g.words class value) → value < 256
-    go true e k = omega (arith, eqb-true value 255 e)
+    go : (b : Bool) → (value == NO_WORD) ≡ b → IsTrue (b || has_word g.words class value) → value < 256
+    go true e k = omega (arith, eqb-true value NO_WORD e)
     go false e k = word_small g.words class value (words_are_valid g v) k
 
 pub place_small : (g : GameLists) → Valid g → (p : ℕ) → IsTrue (is_place (length g.locations) p) → p < 256
@@ -212,30 +218,34 @@ module _ (g : GameLists) (v : Valid g) (seed : ℕ) where
     place_is_small w k o = place_small g v (place w o) (place_of w k o)
 
     pub here_place : (w : World) → IsWorldAt g seed n w → IsPlace (here w)
-    here_place w k = go (nat_lt (flag w 38) w.locations) refl
+    here_place w k = go (nat_lt (flag w LOCATION_FLAG) w.locations) refl
       where
-        go : (b : Bool) → nat_lt (flag w 38) w.locations ≡ b → IsPlace (if b then flag w 38 else NOT_CREATED_PLACE)
+        go : (b : Bool) → nat_lt (flag w LOCATION_FLAG) w.locations ≡ b
+            → IsPlace (if b then flag w LOCATION_FLAG else NOT_CREATED_PLACE)
         go true e =
-            let low : flag w 38 < length g.locations = subst (λ l. flag w 38 < l) k.of.locations (ltb-true (flag w 38) w.locations e) in
+            let low : flag w LOCATION_FLAG < length g.locations =
+            subst (λ l. flag w LOCATION_FLAG < l) k.of.locations (ltb-true (flag w LOCATION_FLAG) w.locations e) in
             grind (arith, nat_tests)
         go false e = let few = (few_locations g v).1 in grind (arith, nat_tests)
 
     pub named : (w : World) → IsWorldAt g seed n w → (p : ℕ) → IsTrue (is_parameter (counts_of g) g.words kind.Place p) → IsPlace (named_place w p)
-    named w k p h = go (p == 255) refl
+    named w k p h = go (p == HERE_PLACE) refl
       where
-        go : (b : Bool) → (p == 255) ≡ b → IsPlace (if b then here w else p)
+        go : (b : Bool) → (p == HERE_PLACE) ≡ b → IsPlace (if b then here w else p)
         go true e = here_place w k
         go false e = grind (arith, nat_tests)
 
     let_go_so : (w : World) → IsWorldAt g seed n w → (p : ℕ) → IsWorldAt g seed n (let_go w p)
     let_go_so w k p =
-        let small = flag_small w k 1 in
-        world_of (p == CARRIED_PLACE) (with_flag w 1 (flag w 1 - 1)) w (flagged w k 1 (flag w 1 - 1) (omega arith)) k
+        let small = flag_small w k CARRIED_FLAG in
+        world_of (p == CARRIED_PLACE) (with_flag w CARRIED_FLAG (flag w CARRIED_FLAG - 1)) w
+        (flagged w k CARRIED_FLAG (flag w CARRIED_FLAG - 1) (omega arith)) k
 
     taken_up_so : (w : World) → IsWorldAt g seed n w → (p : ℕ) → IsWorldAt g seed n (taken_up w p)
     taken_up_so w k p =
-        let most = min-le_left 255 (flag w 1 + 1) in
-        world_of (p == CARRIED_PLACE) (with_flag w 1 (min 255 (flag w 1 + 1))) w (flagged w k 1 (min 255 (flag w 1 + 1)) (omega arith)) k
+        let most = min-le_left 255 (flag w CARRIED_FLAG + 1) in
+        world_of (p == CARRIED_PLACE) (with_flag w CARRIED_FLAG (min 255 (flag w CARRIED_FLAG + 1))) w
+        (flagged w k CARRIED_FLAG (min 255 (flag w CARRIED_FLAG + 1)) (omega arith)) k
 
     pub moved_so : (w : World) → IsWorldAt g seed n w → (o p : ℕ) → IsPlace p → IsWorldAt g seed n (object_moved w o p)
     moved_so w k o p at =
@@ -290,7 +300,7 @@ module _ (g : GameLists) (v : Valid g) (seed : ℕ) where
   starts_are_places (o ∷ os) all (suc k) d low = starts_are_places os (second_of_and (is_object g.words (length g.locations) o) _ all) k d (omega arith)
 
   start_places : ArePlacesOf g (opening_places (map (λ o. o.facts) g.objects))
-  start_places = starts_are_places g.objects (second_of_and (nat_le (length g.objects) 255) _ v.objects)
+  start_places = starts_are_places g.objects (second_of_and (nat_le (length g.objects) OBJECT_LIMIT) _ v.objects)
 
   start_count : length (opening_places (map (λ o. o.facts) g.objects)) ≡ length g.objects
   start_count = length-map (map (λ (o : ObjectRow). o.facts) g.objects) (λ (f : ObjectFacts). f.start) ∙ length-map g.objects (λ (o : ObjectRow). o.facts)
@@ -303,16 +313,18 @@ module _ (g : GameLists) (v : Valid g) (seed : ℕ) where
   one_set : (flags : List ℕ) → AreFlags flags → (f x : ℕ) → x < 256 → AreFlags (slice_set flags f x)
   one_set flags k f x small = record { all = length-set flags f x ∙ k.all; bytes = byte_set flags f x small k.bytes }
 
-  none_set : (flags : List ℕ) → AreFlags flags → (f : ℕ) → AreFlags (slice_set flags f 255)
-  none_set flags k f = one_set flags k f 255 (omega arith)
+  none_set : (flags : List ℕ) → AreFlags flags → (f : ℕ) → AreFlags (slice_set flags f NO_WORD)
+  none_set flags k f = one_set flags k f NO_WORD (omega arith)
 
   flags_at_start : (carried : ℕ) → carried < 256 → AreFlags (flags_with carried)
   unfolding flags_with
   flags_at_start carried small =
       let blank : AreFlags (replicate 256 0) = record { all = refl; bytes = All-replicate (λ b. b < 256) 256 0 (omega arith) } in
       one_set _ (one_set _ (none_set _ (none_set _ (none_set _ (none_set _ (none_set _ (none_set _
-      (none_set _ (none_set _ (none_set _ (none_set _ (one_set (replicate 256 0) blank 1 carried small) 33) 34) 35) 36) 43) 44) 45) 46) 47) 51) 37 4
-      (omega arith)) 52 10 (omega arith)
+      (none_set _ (none_set _ (none_set _ (none_set _ (one_set (replicate 256 0) blank CARRIED_FLAG carried small)
+      VERB_FLAG) NOUN_FLAG) ADJECTIVE_FLAG) ADVERB_FLAG) PREPOSITION_FLAG) SECOND_NOUN_FLAG) SECOND_ADJECTIVE_FLAG)
+      PRONOUN_NOUN_FLAG) PRONOUN_ADJECTIVE_FLAG) REFERRED_FLAG) MOST_CARRIED_FLAG STARTING_CARRIED (omega arith))
+      MOST_WEIGHT_FLAG STARTING_WEIGHT (omega arith)
 
   pub start_so : IsWorldAt g seed 0 (starting_world (map (λ o. o.facts) g.objects) (length g.locations) seed)
   start_so =

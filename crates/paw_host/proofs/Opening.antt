@@ -6,6 +6,7 @@ use Rattle.std.proofs.Common.{true, take, length, arith}
 use Rattle.std.proofs.Common.{Some, codes}
 use Rattle.std.proofs.lemmas.List.{append-nil, take_all}
 use Rattle.std.specs.Prelude.{reverse}
+use Rattle.paw_base.specs.declared.limits.TheConstants.{PIECE_LIMIT}
 use Rattle.sha2.specs.Sha256.{sha256}
 use Rattle.paw_game.specs.Game.{GameLists}
 use Rattle.paw_game.specs.Image.{image}
@@ -195,7 +196,8 @@ pub taken_up : {F : Type 0} (g : Story) (digests : Digests) (bytes state buffer 
     recover bytes ≡ session_shown digests state piece → buffer ≡ state → IsOfStory g digests → IsRead g.game buffer r →
     piece_length buffer ≡ r.piece → seat ≡ seat_at g.game routines r.world (only_counting r.machine) r.pending r.prompt →
     ShowsSome g bytes × ((seed : ℕ) (es : List (List ℕ)) → IsPlayedWith g seed es → Stands g seed es bytes →
-    SitsAt g seed es seat × (r.events ≡ length es) × (take 65535 piece ≡ last_piece (pieces_of (reading g seed es))))
+    SitsAt g seed es seat × (r.events ≡ length es)
+    × (take PIECE_LIMIT piece ≡ last_piece (pieces_of (reading g seed es))))
 taken_up {F} g digests bytes state buffer piece r routines seat shown same belongs read told is =
     let there : recover bytes ≡ session_shown digests buffer piece = subst (λ x. recover bytes ≡ session_shown digests x piece) (sym same) shown in
     let shows = read_shows g.game digests bytes buffer piece r there read in
@@ -204,7 +206,8 @@ taken_up {F} g digests bytes state buffer piece r routines seat shown same belon
       λ seed es played stands. (
         sits_again g seed es digests bytes piece r routines seat played stands shows is,
         counts g seed es digests bytes piece r routines seat played stands shows is,
-        take_all 65535 piece (omega (arith, long, read.fits.piece)) ∙ last_shown g seed es digests bytes piece r routines seat played stands shows is,
+        take_all PIECE_LIMIT piece (omega (arith, long, read.fits.piece))
+            ∙ last_shown g seed es digests bytes piece r routines seat played stands shows is,
       ),
     )
 

@@ -2,6 +2,7 @@
 use Rattle.std.proofs.Common.{◌≡◌, ℕ, ◌+◌, ◌-◌, ◌*◌, ◌≤◌, ◌<◌, List, [], ◌∷◌, length, take, refl, sym, ap, ◌∙◌, subst}
 use Rattle.std.proofs.Common.{arith}
 use Rattle.std.specs.Prelude.{Option, Some, IsSome}
+use Rattle.paw_base.specs.declared.limits.TheConstants.{PIECE_LIMIT}
 use Rattle.paw_stage.specs.Disk.{put_at, stable, IsStable}
 use Rattle.paw_stage.specs.Stage.{Standing}
 use Rattle.paw_journal.specs.declared.journal.Journal.{Journal}
@@ -40,7 +41,8 @@ drafts_as kept state bytes held draft e d = subst (λ b. Drafts kept state b dra
 
 module _ (k : ℕ) (draft : CommitDraft) (kept : Option SlotState) (state bytes piece : List ℕ) (s t : Standing)
     (f : IsFilling k s t) (d : Drafts kept state bytes draft) (e : kept ≡ kept_slot (slot k s.disk.bytes))
-    (w : slot k t.disk.bytes ≡ written_slot draft bytes piece (slot k s.disk.bytes)) (short : length piece ≤ 65535)
+    (w : slot k t.disk.bytes ≡ written_slot draft bytes piece (slot k s.disk.bytes))
+    (short : length piece ≤ PIECE_LIMIT)
   where
     long : length (slot k s.disk.bytes) ≡ slot_length
     long = slot_long k s.disk.bytes f.low f.made.long
@@ -80,7 +82,8 @@ rests_on bytes s t h b e = record {
 }
 
 module _ (w : Slot) (draft : CommitDraft) (kept : Option SlotState) (state bytes piece : List ℕ) (s t : Standing)
-    (spare : IsSpare (slot_number w) s.disk.bytes) (d : Drafts kept state bytes draft) (short : length piece ≤ 65535)
+    (spare : IsSpare (slot_number w) s.disk.bytes) (d : Drafts kept state bytes draft)
+    (short : length piece ≤ PIECE_LIMIT)
     (e : t.disk ≡ stable (written_session (slot_number w) draft bytes piece s.disk.bytes))
   where
     slot_as : length (written_slot draft bytes piece (slot (slot_number w) s.disk.bytes)) ≡ slot_length

@@ -20,6 +20,7 @@ use Rattle.paw_journal.specs.inner.Written.{most_written}
 use Rattle.paw_journal.specs.inner.Writes.{ChangesInto, Drafts}
 use Rattle.paw_journal.specs.declared.layout.TheConstants.{BASE_AT, CHANGES_AT, PIECE_AT}
 use Rattle.paw_base.specs.declared.layout.TheConstants.{VERSION}
+use Rattle.paw_base.specs.declared.limits.TheConstants.{PIECE_LIMIT}
 use Rattle.paw_journal.specs.Session.{base_length, slot_length}
 use Rattle.paw_journal.proofs.Puts.{stretch_long, put_long, stretch_past, stretch_before, stretch_written}
 use Rattle.paw_journal.proofs.Puts.{stretch_behind}
@@ -146,7 +147,7 @@ head_number records bytes low = whole records (records % 256) (records / 256) re
     whole n a b e f = omega arith
 
 module _ (records at : ℕ) (bytes piece old : List ℕ) (long : length old ≡ slot_length) (fits : at + length bytes ≤ slot_length)
-    (short : length piece ≤ 65535) (few : records ≤ most_changes) where
+    (short : length piece ≤ PIECE_LIMIT) (few : records ≤ most_changes) where
   one : length (put_at at bytes old) ≡ slot_length
   one = put_long at bytes old (omega arith) ∙ long
 
@@ -179,7 +180,7 @@ module _ (records at : ℕ) (bytes piece old : List ℕ) (long : length old ≡ 
 
 -- The base whole.
 whole_gives : (state piece old : List ℕ) → length state ≡ base_length → length old ≡ slot_length →
-    length piece ≤ 65535 →
+    length piece ≤ PIECE_LIMIT →
     IsKept (put_at 0 (slot_head 0) (put_at PIECE_AT piece (put_at BASE_AT state old))) 0 state
 whole_gives state piece old n long short = record {
   current = refl;
@@ -192,7 +193,7 @@ whole_gives state piece old n long short = record {
 
 -- Change records are added after those that are there.
 behind_gives : (n c : ℕ) (was state records piece old : List ℕ) → IsKept old n was → ChangesInto was state records →
-    length records ≡ 4 * c → n + c ≤ most_changes → length old ≡ slot_length → length piece ≤ 65535 →
+    length records ≡ 4 * c → n + c ≤ most_changes → length old ≡ slot_length → length piece ≤ PIECE_LIMIT →
     IsKept (put_at 0 (slot_head (n + c)) (put_at PIECE_AT piece (put_at (CHANGES_AT + 4 * n) records old))) (n + c) state
 behind_gives n c was state records piece old h t l few long short =
     let at = CHANGES_AT + 4 * n in

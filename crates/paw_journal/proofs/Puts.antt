@@ -3,6 +3,7 @@ use Rattle.std.proofs.Common.{◌≡◌, ℕ, ◌+◌, ◌-◌, ◌≤◌, ◌<�
 use Rattle.std.proofs.Common.{inl, inr, ◌⊎◌}
 use Rattle.std.proofs.lemmas.List.{get_or-drop, get_or_append_left, ext_get_or, take_at, drop-drop}
 use Rattle.std.proofs.Math.Seq.{take-add}
+use Rattle.paw_base.specs.declared.limits.TheConstants.{PIECE_LIMIT}
 use Rattle.paw_stage.specs.Disk.{put_at}
 use Rattle.paw_journal.specs.Session.{stretch, slot_head, slot_rewritten}
 use Rattle.paw_journal.specs.declared.layout.TheConstants.{PIECE_AT}
@@ -89,7 +90,7 @@ put_nothing at new old none low = ext_get_or 0 old (put_at at new old) (sym (put
 
 -- A slot that was written is as long as it was.
 pub rewritten_long : (at records : ℕ) (new piece bytes : List ℕ) → at + length new ≤ slot_length →
-    length piece ≤ 65535 →
+    length piece ≤ PIECE_LIMIT →
     length bytes ≡ slot_length → length (slot_rewritten at new records piece bytes) ≡ slot_length
 rewritten_long at records new piece bytes fits short long =
     let one : length (put_at at new bytes) ≡ slot_length = put_long at new bytes (omega arith) ∙ long in

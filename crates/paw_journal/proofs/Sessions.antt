@@ -22,6 +22,7 @@ use Rattle.paw_journal.specs.inner.Store.{ChangesStoreOnly, InStore, CrashLeaves
 use Rattle.paw_journal.specs.inner.Writes.{Introduces, MakesSession}
 use Rattle.paw_journal.specs.declared.layout.TheConstants.{BASE_AT, PIECE_AT}
 use Rattle.paw_base.specs.declared.layout.TheConstants.{VERSION}
+use Rattle.paw_base.specs.declared.limits.TheConstants.{PIECE_LIMIT}
 use Rattle.paw_journal.specs.Session.{base_length}
 use Rattle.paw_journal.proofs.Recovers.{recover_is, recover_made, both_digests}
 use Rattle.paw_journal.proofs.Makes.{AreLong, length_zeros, length_header}
@@ -32,12 +33,13 @@ use Rattle.paw_journal.proofs.Moved.{in_later}
 length_head : length (0 ∷ 0 ∷ VERSION ∷ zeros 61) ≡ 64
 length_head = omega (arith, length_zeros 61)
 
-pub length_slot : (state piece : List ℕ) → length state ≡ base_length → length piece ≤ 65535 →
+pub length_slot : (state piece : List ℕ) → length state ≡ base_length → length piece ≤ PIECE_LIMIT →
     length (made_slot state piece) ≡ slot_length
 length_slot state piece n few =
     slots (0 ∷ 0 ∷ VERSION ∷ zeros 61) state piece (zeros (81920 - length piece)) length_head n few (length_zeros (81920 - length piece))
   where
-    slots : (head state piece behind : List ℕ) → length head ≡ 64 → length state ≡ base_length → length piece ≤ 65535 →
+    slots : (head state piece behind : List ℕ) → length head ≡ 64 → length state ≡ base_length
+        → length piece ≤ PIECE_LIMIT →
         length behind ≡ 81920 - length piece → length (head ++ state ++ piece ++ behind) ≡ slot_length
     slots head state piece behind h n few b =
         omega (
@@ -144,7 +146,7 @@ pub session_digests : (digests : Digests) (state piece : List ℕ) → AreLong d
 session_digests digests state piece n = made_digests digests (made_slot state piece) (made_slot state piece) n
 
 pub session_shows : (digests : Digests) (state piece : List ℕ) → AreLong digests → length state ≡ base_length →
-    length piece ≤ 65535 →
+    length piece ≤ PIECE_LIMIT →
     piece_length state ≡ length piece → recover (made_session digests state piece)
     ≡ Shown digests (take state_length state) piece
 session_shows digests state piece n m few names =
@@ -256,7 +258,7 @@ marked_session digests slots state piece d e f = ap (λ x. made_mark ∷ drop 1 
 
 made_slots : (digests : Digests) (state piece : List ℕ) (room : Room) → room.first ≡ Some (record { records = 0; state = state }) →
     room.second ≡ Some (record { records = 0; state = state }) → AreLong digests → length state ≡ base_length →
-    length piece ≤ 65535 → KeepsSlots room (made_session digests state piece)
+    length piece ≤ PIECE_LIMIT → KeepsSlots room (made_session digests state piece)
 made_slots digests state piece room f g n m few =
     let l : length (made_slot state piece) ≡ slot_length = length_slot state piece m few in
     let k : kept_slot (made_slot state piece) ≡ Some (record { records = 0; state = state }) =
@@ -270,7 +272,7 @@ made_slots digests state piece room f g n m few =
 pub made_keeps : (digests : Digests) (state piece : List ℕ) (room : Room) (s t : Standing) → IsAtRest t → MakesSession digests state piece s t →
     room.state ≡ state → room.piece ≡ piece → room.first ≡ Some (record { records = 0; state = state }) →
     room.second ≡ Some (record { records = 0; state = state }) → AreLong digests → length state ≡ base_length →
-    length piece ≤ 65535 → KeptIn (record { slot = which.First }) room t
+    length piece ≤ PIECE_LIMIT → KeptIn (record { slot = which.First }) room t
 made_keeps digests state piece room s t rests made e f one two n m few = record {
   rests = rests;
   chosen = ap slot_in_use made.exact;

@@ -25,6 +25,7 @@ use Rattle.paw_journal.specs.Session.{slot_length, header_length, session_length
 use Rattle.paw_journal.specs.inner.Room.{Room, kept_slot, with_slot_kept}
 use Rattle.paw_journal.specs.declared.layout.TheConstants.{BASE_AT, CHANGES_AT, PIECE_AT}
 use Rattle.paw_base.specs.declared.layout.TheConstants.{VERSION}
+use Rattle.paw_base.specs.declared.limits.TheConstants.{PIECE_LIMIT}
 use Rattle.paw_journal.specs.Session.{base_length}
 use Rattle.paw_journal.proofs.Kept.{has_state_is, state_has, kept_shows, sound_shows, kept_of_both, kept_of_older}
 use Rattle.paw_journal.proofs.Kept.{kept_of_broken}
@@ -127,7 +128,7 @@ records_are count held bytes e = let n : CHANGES_AT + 4 * count - CHANGES_AT ≡
 
 -- There is room for state and piece after the head of a slot, and for as many zeros after these.
 pub room_for_body : (r s : Room) (piece : List ℕ) → s.slot ≡ 0 ∷ 0 ∷ VERSION ∷ [] → s.piece ≡ piece →
-    r ≡ record s { slot = s.slot ++ zeros 61 } → length piece ≤ 65535 →
+    r ≡ record s { slot = s.slot ++ zeros 61 } → length piece ≤ PIECE_LIMIT →
     length r.slot + base_length + length r.piece ≤ slot_length
 room_for_body r s piece f g e few = omega (
   arith,
@@ -141,7 +142,8 @@ room_for_body r s piece f g e few = omega (
 )
 
 pub room_behind : (q r s : Room) (state piece : List ℕ) (n : ℕ) → s.slot ≡ 0 ∷ 0 ∷ VERSION ∷ [] → s.state ≡ state →
-    s.piece ≡ piece → r ≡ record s { slot = s.slot ++ zeros 61 } → length state ≡ base_length → length piece ≤ 65535 →
+    s.piece ≡ piece → r ≡ record s { slot = s.slot ++ zeros 61 } → length state ≡ base_length
+    → length piece ≤ PIECE_LIMIT →
     q ≡ record r { slot = r.slot ++ r.state ++ r.piece } → n ≡ length piece → length q.slot + (81920 - n) ≤ slot_length
 room_behind q r s state piece n a b d e long few f k =
     omega (

@@ -12,12 +12,14 @@ use Rattle.paw_base.specs.Condacts.{indirect_line, line_of, name_of}
 use Rattle.paw_base.specs.inner.Condacts.{IsCode}
 use Rattle.paw_base.specs.inner.Piece.{Puts}
 use Rattle.paw_base.proofs.Table.{plain_is}
+use Rattle.paw_base.specs.declared.limits.TheConstants.{PIECE_LIMIT}
 use Rattle.paw_game.proofs.Kept.{first_of_and, second_of_and}
 use Rattle.paw_reading.specs.Run.{Step}
 use Rattle.paw_play.specs.Traces.{step_address, answer_text, step_line, more_line}
 
 -- What fits is put.
-pub put_whole : (ok : Bool) (old new text : List ℕ) → Puts old new ok text → length old + length text ≤ 65535 → new ≡ old ++ text
+pub put_whole : (ok : Bool) (old new text : List ℕ) → Puts old new ok text → length old + length text ≤ PIECE_LIMIT
+    → new ≡ old ++ text
 put_whole true old new text puts fits = puts.0
 put_whole false old new text puts fits = absurd (omega (arith, puts, fits))
 

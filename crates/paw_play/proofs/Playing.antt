@@ -5,7 +5,7 @@ use Rattle.std.proofs.Common.{length, take, drop, arith, append_assoc, inl, inr}
 use Rattle.std.proofs.lemmas.List.{append-nil, take-append-drop}
 use Rattle.std.specs.Prelude.{reverse}
 use Rattle.std.specs.List.{concat}
-use Rattle.paw_base.specs.declared.limits.TheConstants.{EVENT_LIMIT}
+use Rattle.paw_base.specs.declared.limits.TheConstants.{EVENT_LIMIT, LINE_LIMIT}
 use Rattle.paw_stage.specs.Disk.{MayLeave, IsStable}
 use Rattle.paw_stage.specs.Stage.{Standing, AsksTo}
 use Rattle.paw_stage.specs.Stage.{InAsk, InShow}
@@ -149,7 +149,7 @@ pub record Taken {F : Type 0} (g : Story) (s : PlayedSession) (most n events : �
   pub then_seated : IsSeated next
   pub last : next.last ≡ found
   pub lines : now.lines ≡ line ∷ mid.lines
-  pub cut : given ≡ take 255 line
+  pub cut : given ≡ take LINE_LIMIT line
   pub took : mid ≡ record now { lines = mid.lines; asked = now.asked + 1 }
   pub plays : StepsTo g (λ more. going_on_from g w.walking.prompt (reverse seat.machine.frames) (run_at seat w.walking.pieces w.walking.traces (given ∷ more)))
       found next w.walking.pieces w.walking.traces
@@ -159,7 +159,8 @@ pub record Taken {F : Type 0} (g : Story) (s : PlayedSession) (most n events : �
 
 pub taken : {F : Type 0} (g : Story) (s : PlayedSession) (most n events : ℕ) (first now mid : Standing) (seat next : PlayerView F) (given line : List ℕ)
     (found : Step) (w : IsPlaying g s first now seat n) → n < most → IsSeated seat → IsSeated next → next.last ≡ found →
-    now.lines ≡ line ∷ mid.lines → given ≡ take 255 line → mid ≡ record now { lines = mid.lines; asked = now.asked + 1 } →
+    now.lines ≡ line ∷ mid.lines → given ≡ take LINE_LIMIT line
+    → mid ≡ record now { lines = mid.lines; asked = now.asked + 1 } →
     StepsTo g (λ more. going_on_from g w.walking.prompt (reverse seat.machine.frames) (run_at seat w.walking.pieces w.walking.traces (given ∷ more)))
     found next w.walking.pieces w.walking.traces → None ≡ end_if_no_piece found → events ≡ s.before + suc n → events ≤ EVENT_LIMIT →
     Taken g s most n events first now mid seat next given line found w
@@ -399,7 +400,8 @@ module _ {F : Type 0} (g : Story) (s : PlayedSession) (most n : ℕ) (first now 
   })
 
   module _ (mid : Standing) (next : PlayerView F) (given line : List ℕ) (found : Step) (then_seated : IsSeated next) (last : next.last ≡ found)
-      (lines : now.lines ≡ line ∷ mid.lines) (cut : given ≡ take 255 line) (took : mid ≡ record now { lines = mid.lines; asked = now.asked + 1 })
+      (lines : now.lines ≡ line ∷ mid.lines) (cut : given ≡ take LINE_LIMIT line)
+      (took : mid ≡ record now { lines = mid.lines; asked = now.asked + 1 })
       (plays : StepsTo g (λ more. going_on_from g w.walking.prompt (reverse seat.machine.frames)
       (run_at seat w.walking.pieces w.walking.traces (given ∷ more))) found next w.walking.pieces w.walking.traces)
     where

@@ -5,7 +5,7 @@ use Rattle.std.proofs.Common.{length, take, append_assoc, append-nil, arith}
 use Rattle.std.specs.Prelude.{◌-◌, All}
 use Rattle.std.proofs.lemmas.List.{length-take}
 use Rattle.std.proofs.lemmas.List.Elements.{All-append, All-map, All-take}
-use Rattle.paw_base.specs.declared.limits.TheConstants.{EVENT_LIMIT}
+use Rattle.paw_base.specs.declared.limits.TheConstants.{EVENT_LIMIT, LINE_LIMIT}
 use Rattle.paw_stage.specs.Disk.{MayLeave}
 use Rattle.paw_stage.specs.Stage.{Standing, Files, Unattached, bytes_or_none}
 use Rattle.paw_stage.specs.declared.StageCall.{StageCall}
@@ -191,11 +191,15 @@ module _ (g : Story) (seed : ℕ) (es : List (List ℕ)) (bytes : List ℕ) (r :
 
 -- ---- all rounds ----
 
-cut_is_line : (line : List ℕ) → AreBytes line → IsLine (take 255 line)
-cut_is_line line are = record { short = omega (arith, length-take 255 line); bytes = All-take (λ b. b < 256) 255 line are }
+cut_is_line : (line : List ℕ) → AreBytes line → IsLine (take LINE_LIMIT line)
+cut_is_line line are = record {
+  short = omega (arith, length-take LINE_LIMIT line);
+  bytes = All-take (λ b. b < 256) LINE_LIMIT line are;
+}
 
 first_are_lines : (n : ℕ) (lines : List (List ℕ)) → All AreBytes lines → All IsLine (first_lines n lines)
-first_are_lines n lines are = All-map IsLine (take 255) (take n lines) (λ k d low. cut_is_line _ (All-take AreBytes n lines are k d low))
+first_are_lines n lines are = All-map IsLine (take LINE_LIMIT) (take n lines)
+    (λ k d low. cut_is_line _ (All-take AreBytes n lines are k d low))
 
 -- Rounds over bytes that stand.
 later_rounds : (g : Story) (seed : ℕ) (es : List (List ℕ)) (bytes : List ℕ) (rounds : List Round) →

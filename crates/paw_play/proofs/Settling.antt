@@ -3,7 +3,7 @@ use Rattle.std.proofs.Common.{◌≡◌, ℕ, suc, ◌+◌, ◌*◌, ◌^◌, �
 use Rattle.std.proofs.Common.{subst, length, arith}
 use Rattle.std.specs.Prelude.{IfNone, All}
 use Rattle.std.proofs.lemmas.List.{length-map}
-use Rattle.paw_base.specs.declared.limits.TheConstants.{EVENT_LIMIT, READ_LIMIT}
+use Rattle.paw_base.specs.declared.limits.TheConstants.{EVENT_LIMIT, READ_LIMIT, PIECE_LIMIT}
 use Rattle.paw_game.specs.Game.{GameLists}
 use Rattle.paw_game.specs.declared.parts.ObjectRow.{ObjectRow}
 use Rattle.paw_game.specs.Valid.{Valid}
@@ -41,7 +41,8 @@ closed_line g p path r k = at (waiting_code p) k.places
     at (Some n) places = tt
 
 -- The last piece is as short as each.
-last_short : (pieces : List (List ℕ)) → All (λ piece. length piece ≤ 65535) pieces → length (last_piece pieces) ≤ 65535
+last_short : (pieces : List (List ℕ)) → All (λ piece. length piece ≤ PIECE_LIMIT) pieces
+    → length (last_piece pieces) ≤ PIECE_LIMIT
 last_short [] all = omega arith
 last_short (p ∷ []) all = all 0 [] (omega arith)
 last_short (p ∷ q ∷ pieces) all = last_short (q ∷ pieces) (λ k d low. all (suc k) d (omega arith))

@@ -4,7 +4,7 @@ use Rattle.std.proofs.Common.{length, take, drop, arith}
 use Rattle.std.specs.Prelude.{◌-◌}
 use Rattle.std.proofs.Math.Path.{fun_ext}
 use Rattle.std.proofs.lemmas.List.{length-append, length-map, length-take-le}
-use Rattle.paw_base.specs.declared.limits.TheConstants.{EVENT_LIMIT}
+use Rattle.paw_base.specs.declared.limits.TheConstants.{EVENT_LIMIT, LINE_LIMIT}
 use Rattle.paw_game.specs.Game.{GameLists}
 use Rattle.paw_game.specs.Valid.{Valid}
 use Rattle.paw_stage.specs.Stage.{Standing}
@@ -96,7 +96,7 @@ going_on_is_the_reading g seed es fs p path r played few is =
 -- ---- what a session keeps stands for its lines ----
 
 count_lines : (n : ℕ) (lines : List (List ℕ)) → n ≤ length lines → length (first_lines n lines) ≡ n
-count_lines n lines there = length-map (take n lines) (take 255) ∙ length-take-le n lines there
+count_lines n lines there = length-map (take n lines) (take LINE_LIMIT) ∙ length-take-le n lines there
 
 -- Those that it took.
 pub begun_stands : (g : Story) (seed : ℕ) (lines : List (List ℕ)) (name : List ℕ) (n : ℕ) (bytes : List ℕ) → n ≤ length lines → n ≤ EVENT_LIMIT →

@@ -5,7 +5,7 @@ use Rattle.std.proofs.Common.{arith, append_assoc, length-append}
 use Rattle.std.proofs.lemmas.List.{append-nil, length-reverse, take-append-drop}
 use Rattle.std.specs.Prelude.{reverse}
 use Rattle.std.specs.List.{concat}
-use Rattle.paw_base.specs.declared.limits.TheConstants.{EVENT_LIMIT}
+use Rattle.paw_base.specs.declared.limits.TheConstants.{EVENT_LIMIT, LINE_LIMIT}
 use Rattle.paw_stage.specs.Stage.{Standing}
 use Rattle.paw_effects.specs.declared.act.Prompt.{Prompt}
 use Rattle.paw_effects.specs.declared.act.Prompt.TheVariants as prompt
@@ -56,16 +56,18 @@ drop_all [] (suc n) h k = absurd (omega arith)
 drop_all (l ∷ lines) zero h k = cc
 drop_all (l ∷ lines) (suc n) h k = ap suc (drop_all lines n h (omega arith))
 
-map_append : (xs : List (List ℕ)) (line : List ℕ) → map (take 255) (xs ++ line ∷ []) ≡ map (take 255) xs ++ take 255 line ∷ []
+map_append : (xs : List (List ℕ)) (line : List ℕ)
+    → map (take LINE_LIMIT) (xs ++ line ∷ []) ≡ map (take LINE_LIMIT) xs ++ take LINE_LIMIT line ∷ []
 map_append [] line = refl
-map_append (x ∷ xs) line = ap (λ ys. take 255 x ∷ ys) (map_append xs line)
+map_append (x ∷ xs) line = ap (λ ys. take LINE_LIMIT x ∷ ys) (map_append xs line)
 
 -- The lines that come after one more.
 pub lines_more : (lines : List (List ℕ)) (n : ℕ) (line : List ℕ) (rest more : List (List ℕ)) → drop n lines ≡ line ∷ rest →
-    first_lines (suc n) lines ++ more ≡ first_lines n lines ++ take 255 line ∷ more
+    first_lines (suc n) lines ++ more ≡ first_lines n lines ++ take LINE_LIMIT line ∷ more
 lines_more lines n line rest more h =
-    ap (λ xs. map (take 255) xs ++ more) (take_more lines n line rest h) ∙ ap (λ xs. xs ++ more) (map_append (take n lines) line)
-    ∙ append_assoc (first_lines n lines) (take 255 line ∷ []) more
+    ap (λ xs. map (take LINE_LIMIT) xs ++ more) (take_more lines n line rest h)
+    ∙ ap (λ xs. xs ++ more) (map_append (take n lines) line)
+    ∙ append_assoc (first_lines n lines) (take LINE_LIMIT line ∷ []) more
 
 -- ---- what stands ----
 
@@ -253,7 +255,8 @@ module _ {F : Type 0} (showing : ShowSteps) (g : Story) (whole after : EndingOf)
 -- ---- one line more ----
 
 module _ {F : Type 0} (showing : ShowSteps) (g : Story) (whole : EndingOf) (n : ℕ) (first now mid : Standing) (seat : PlayerView F) (given line : List ℕ)
-    (w : IsWalking showing g whole first now seat n) (lines : now.lines ≡ line ∷ mid.lines) (cut : given ≡ take 255 line) where
+    (w : IsWalking showing g whole first now seat n) (lines : now.lines ≡ line ∷ mid.lines)
+    (cut : given ≡ take LINE_LIMIT line) where
   line_stands : drop n first.lines ≡ line ∷ mid.lines
   line_stands = ap (λ (q : Standing). q.lines) (sym w.stands) ∙ lines
 
@@ -265,7 +268,7 @@ module _ {F : Type 0} (showing : ShowSteps) (g : Story) (whole : EndingOf) (n : 
       ≡ going_on_from g w.prompt (reverse seat.machine.frames) (run_at seat w.pieces w.traces (given ∷ more))
   whole_after more =
       ap whole (lines_more first.lines n line mid.lines more line_stands)
-      ∙ w.goes_on (take 255 line ∷ more)
+      ∙ w.goes_on (take LINE_LIMIT line ∷ more)
       ∙ ap (λ l. going_on_from g w.prompt (reverse seat.machine.frames) (run_at seat w.pieces w.traces (l ∷ more))) (sym cut)
 
   pub read_after : whole (first_lines (suc n) first.lines) ≡ going_on_from g w.prompt (reverse seat.machine.frames) (run_at seat w.pieces w.traces (given ∷ []))
@@ -274,7 +277,8 @@ module _ {F : Type 0} (showing : ShowSteps) (g : Story) (whole : EndingOf) (n : 
 pub walks_on : {F : Type 0} (showing : ShowSteps) (g : Story) (whole : EndingOf) (most n : ℕ) (first now mid new : Standing)
     (seat next : PlayerView F) (given line : List ℕ) (s : Step) (o : Option PlayEnd)
     (w : IsWalking showing g whole first now seat n) → n < most → KeepsShown showing next.machine.steps.most → IsSeated seat → IsSeated next → next.last ≡ s →
-    now.lines ≡ line ∷ mid.lines → given ≡ take 255 line → mid ≡ record now { lines = mid.lines; asked = now.asked + 1 } →
+    now.lines ≡ line ∷ mid.lines → given ≡ take LINE_LIMIT line
+    → mid ≡ record now { lines = mid.lines; asked = now.asked + 1 } →
     PlaysTo g (λ more. going_on_from g w.prompt (reverse seat.machine.frames) (run_at seat w.pieces w.traces (given ∷ more))) s next w.pieces w.traces →
     ShowsStep mid new (seat_text showing next) s o → WalksTo showing g whole most first new next (suc n) o
 walks_on showing g whole most n first now mid new seat next given line s o w few keeps seated then_seated last lines cut took plays told =

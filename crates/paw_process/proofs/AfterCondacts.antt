@@ -4,6 +4,7 @@ use Rattle.std.specs.Prelude.{IfSome, IfNone}
 use Rattle.std.specs.Option.{option_map}
 use Rattle.std.specs.Fn.{Shared}
 use Rattle.paw_base.specs.declared.limits.TheConstants.{ENTRY_LIMIT}
+use Rattle.paw_base.specs.declared.flags.TheConstants.{VERB_FLAG, NOUN_FLAG}
 use Rattle.paw_game.specs.declared.cursor.CondactCursor.{CondactCursor}
 use Rattle.paw_game.specs.Game.{GameLists}
 use Rattle.paw_game.specs.inner.Tables.{match_at}
@@ -77,7 +78,8 @@ stepped_on g first now t new h k = record {
 
 -- The entry that matches next.
 pub enters_match : (g : GameLists) (w : World) (f : Frame) (o : Option CondactCursor) → f.at ≡ 0
-    → option_map (λ c. c.entry) o ≡ match_at g f.table f.entry (flag w 33) (flag w 34) → IfSome o (λ c. c.table ≡ f.table)
+    → option_map (λ c. c.entry) o ≡ match_at g f.table f.entry (flag w VERB_FLAG) (flag w NOUN_FLAG)
+    → IfSome o (λ c. c.table ≡ f.table)
     → IfSome o (λ c. c.at ≡ 0) → IfSome o (λ c. f.entry ≤ c.entry) → IfSome o (λ c. c.entry < ENTRY_LIMIT)
     → IfSome o (λ c. Enters g w f (frame_of c f.acted)) × IfNone o (EntersNone g w f)
 enters_match g w f None zero found table start reached small = (

@@ -8,6 +8,8 @@ use Rattle.paw_base.specs.inner.Steps.{KeptSteps}
 use Rattle.paw_base.specs.inner.Steps.{with_step_noted as noted_step}
 use Rattle.paw_base.proofs.Noted.{kept_noted, kept_as_said}
 use Rattle.paw_base.specs.declared.fault.SpentKind.TheVariants as spent
+use Rattle.paw_base.specs.declared.messages.TheConstants.{QUIT_MESSAGE}
+use Rattle.paw_base.specs.declared.limits.TheConstants.{PIECE_LIMIT}
 use Rattle.paw_effects.specs.Story.{Story}
 use Rattle.paw_game.specs.Tables.{condact_at}
 use Rattle.paw_world.specs.World.{World}
@@ -67,7 +69,8 @@ module _ (g : Story) (fs : List Frame) (f : Frame) (c : Condact) (r : Run) where
 
   pub test_asks : (w : World) → is_condition c ≡ true → truth.Ask ≡ (holds g.game r.world c).answer → w ≡ (holds g.game r.world c).world
       → one_at g fs f c r
-      ≡ loop_resolved g fs (printing (put_text g.game w 12) (waits g prompt.Quit f (past_of g fs f)) (step_noted f c true (with_world w r)))
+      ≡ loop_resolved g fs (printing (put_text g.game w QUIT_MESSAGE) (waits g prompt.Quit f (past_of g fs f))
+      (step_noted f c true (with_world w r)))
   test_asks w kind h e = one_tests kind ∙ rw (← h, e) refl
 
 -- ---- actions ----
@@ -99,7 +102,7 @@ parse_at g fs f found.Empty s m w p r (e, ew, ep) = rw (e, ew, ep, add-one) refl
 
 -- What an action did where it isn't spent.
 did_as : (d : Done) (old new : List ℕ) (w : World) (a : Act) (e : Effect) → DoesAs d old new w a e → (e ≡ effect.Spent → ⊥)
-    → (length old + length d.text ≤ 65535) × (new ≡ old ++ d.text) × (w ≡ d.world) × (a ≡ d.act)
+    → (length old + length d.text ≤ PIECE_LIMIT) × (new ≡ old ++ d.text) × (w ≡ d.world) × (a ≡ d.act)
 did_as d old new w a effect.Go h n = h
 did_as d old new w a (effect.Exit b) h n = h
 did_as d old new w a effect.Redescribe h n = h
@@ -110,11 +113,11 @@ did_as d old new w a effect.Parse h n = h
 did_as d old new w a effect.Spent h n = absurd (n refl)
 
 pub did : (d : Done) (old new : List ℕ) (w : World) (a : Act) → Does d old new w a → (a.effect ≡ effect.Spent → ⊥)
-    → (length old + length d.text ≤ 65535) × (new ≡ old ++ d.text) × (w ≡ d.world) × (a ≡ d.act)
+    → (length old + length d.text ≤ PIECE_LIMIT) × (new ≡ old ++ d.text) × (w ≡ d.world) × (a ≡ d.act)
 did d old new w a h n = did_as d old new w a a.effect h n
 
 pub did_spent : (d : Done) (old new : List ℕ) (w : World) (a : Act)
-    → Does d old new w a → effect.Spent ≡ a.effect → 65535 < length old + length d.text
+    → Does d old new w a → effect.Spent ≡ a.effect → PIECE_LIMIT < length old + length d.text
 did_spent d old new w a h e = subst (DoesAs d old new w a) (sym e) h
 
 -- Reading goes on once an action is carried out.
@@ -124,7 +127,7 @@ carrying_on g fs f d r =
 
 -- An action is carried out.
 pub act_at : (g : Story) (fs : List Frame) (f : Frame) (d : Done) (s s' : Surroundings) (m m' : OpenTables) (a : Act) (r : Run)
-    → length s.piece + length d.text ≤ 65535 → s'.piece ≡ s.piece ++ d.text → s'.world ≡ d.world → a ≡ d.act
+    → length s.piece + length d.text ≤ PIECE_LIMIT → s'.piece ≡ s.piece ++ d.text → s'.world ≡ d.world → a ≡ d.act
     → s'.pending ≡ record s.pending { bytes = if a.drop_line then [] else s.pending.bytes }
     → m'.turning ≡ (if a.cancel_loop then None else m.turning)
     → loop_resolved g fs (acts g (deeper g (length fs)) (length fs) f (next_of g fs f) (past_of g fs f) d (run_held (having s m) r))
@@ -196,7 +199,8 @@ module _ (g : Story) (old mid : OpenTables) (f : Frame) (c : Condact) (s : Surro
       → truth.Ask ≡ (holds g.game s.world c).answer → w ≡ (holds g.game s.world c).world
       → ReadsStep (step_at f c true) old mid → mid ≡ record old { left = left; steps = steps } → ReadsNone mid new
       → ((r : Run) → Continues g (loop_resolved g (below mid.frames)
-      (printing (put_text g.game w 12) (waits g prompt.Quit f (past_of g (below mid.frames) f)) (run_held (having (record s { world = w }) mid) r)))
+      (printing (put_text g.game w QUIT_MESSAGE) (waits g prompt.Quit f (past_of g (below mid.frames) f))
+      (run_held (having (record s { world = w }) mid) r)))
       t new.frames (run_held (having s' new) r))
       → ReadsOne g (below old.frames) f c (having s old) t (having s' new)
   test_ask w new s' t kind answer is one em none asks = (

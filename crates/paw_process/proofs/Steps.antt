@@ -5,6 +5,7 @@ use Rattle.std.specs.Prelude.{if◌then◌else◌, reverse}
 use Rattle.paw_base.specs.declared.limits.TheConstants.{READ_LIMIT}
 use Rattle.paw_base.specs.declared.parts.Condact.{Condact}
 use Rattle.paw_base.specs.declared.fault.SpentKind.TheVariants as spent
+use Rattle.paw_base.specs.declared.flags.TheConstants.{VERB_FLAG, NOUN_FLAG}
 use Rattle.paw_effects.specs.Story.{Story}
 use Rattle.paw_game.specs.Tables.{condact_at}
 use Rattle.paw_game.specs.inner.Tables.{match_at}
@@ -138,13 +139,14 @@ going_before : (g : Story) (fs : List Frame) (f : Frame) (r : Run) → f.at ≡ 
 going_before g fs f r h = rw h refl
 
 pub going_left : (g : Story) (fs : List Frame) (f : Frame) (r : Run) → f.at ≡ 0
-    → match_at g.game f.table f.entry (flag r.world 33) (flag r.world 34) ≡ None → going_in g (f ∷ fs) r ≡ loop_resolved g fs (Left f.acted r)
+    → match_at g.game f.table f.entry (flag r.world VERB_FLAG) (flag r.world NOUN_FLAG) ≡ None
+    → going_in g (f ∷ fs) r ≡ loop_resolved g fs (Left f.acted r)
 going_left g fs f r zero_at h =
     going_before g fs f r zero_at
     ∙ ap (loop_resolved g fs) (plain_left g (deeper g (length fs)) (length fs) f.table f.entry f.acted r h)
 
 pub going_match : (g : Story) (fs : List Frame) (f : Frame) (r : Run) (found : ℕ) → f.at ≡ 0
-    → match_at g.game f.table f.entry (flag r.world 33) (flag r.world 34) ≡ Some found
+    → match_at g.game f.table f.entry (flag r.world VERB_FLAG) (flag r.world NOUN_FLAG) ≡ Some found
     → going_in g (f ∷ fs) r ≡ reading_at g fs (record { table = f.table; entry = found; at = 0; acted = f.acted }) r
 going_match g fs f r found zero_at h =
     going_before g fs f r zero_at

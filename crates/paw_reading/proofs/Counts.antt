@@ -3,6 +3,7 @@ use Rattle.std.proofs.Common.{◌≡◌, ℕ, zero, suc, ◌+◌, ◌-◌, Bool,
 use Rattle.std.proofs.Common.{refl, length, arith, length-append}
 use Rattle.paw_base.specs.declared.parts.Condact.{Condact}
 use Rattle.paw_base.specs.declared.fault.SpentKind.TheVariants as spent
+use Rattle.paw_base.specs.declared.flags.TheConstants.{LOCATION_FLAG, VERB_FLAG}
 use Rattle.paw_effects.specs.Story.{Story}
 use Rattle.paw_game.specs.Tables.{exit_at}
 use Rattle.paw_world.specs.World.{flag, with_flag}
@@ -183,11 +184,12 @@ saying_counts text go h v r k =
 module _ (g : Story) (go : TurnPhase → Run → Ending) (counts : (s : TurnPhase) → TurnsCounting (go s)) where
   connected_counts : (to : Option ℕ) → TurnsCounting (λ r. exit_taken g go r to)
   connected_counts None v r k = saying_counts (refusal_text g.game r.world) (go AtTimeFrame) (counts AtTimeFrame) v (line_dropped r) k
-  connected_counts (Some to) v r k = counts AtDescribe v (with_world (with_flag r.world 38 to) r) k
+  connected_counts (Some to) v r k = counts AtDescribe v (with_world (with_flag r.world LOCATION_FLAG to) r) k
 
   after_left_counts : (t : ℕ) (a : Bool) → TurnsCounting (after_left g go t a)
   after_left_counts zero true v r k = counts AtTimeFrame v r k
-  after_left_counts zero false v r k = connected_counts (exit_at g.game (flag r.world 38) (flag r.world 33)) v r k
+  after_left_counts zero false v r k =
+      connected_counts (exit_at g.game (flag r.world LOCATION_FLAG) (flag r.world VERB_FLAG)) v r k
   after_left_counts (suc zero) a v r k = counts AtTimeFrame v r k
   after_left_counts (suc (suc t)) a v r k = counts AtPhrase v (with_world (time_frame_passed r.world) r) k
 

@@ -4,6 +4,9 @@ use Rattle.std.proofs.Common.{inl, inr, Option}
 use Rattle.std.proofs.Common.{Some, None, refl, sym, ◌∙◌, length, arith}
 use Rattle.std.specs.Prelude.{if◌then◌else◌}
 use Rattle.paw_base.specs.declared.fault.SpentKind.TheVariants as spent
+use Rattle.paw_base.specs.declared.flags.TheConstants.{LOCATION_FLAG, VERB_FLAG, PRONOUN_NOUN_FLAG}
+use Rattle.paw_base.specs.declared.flags.TheConstants.{PRONOUN_ADJECTIVE_FLAG}
+use Rattle.paw_base.specs.declared.messages.TheConstants.{TIMEOUT_MESSAGE}
 use Rattle.paw_effects.specs.Story.{Story}
 use Rattle.paw_game.specs.Tables.{exit_at}
 use Rattle.paw_world.specs.World.{flag, with_flag}
@@ -57,7 +60,7 @@ connected_ends : (g : Story) (n : ℕ) (go : TurnPhase → Run → Ending) → E
 connected_ends g n go h r k None =
     saying_ends (refusal_text g.game r.world) (go AtTimeFrame) (line_dropped r)
     (h AtTimeFrame (text_printed (refusal_text g.game r.world) (line_dropped r)) (omega arith))
-connected_ends g n go h r k (Some to) = h AtDescribe (with_world (with_flag r.world 38 to) r) (omega arith)
+connected_ends g n go h r k (Some to) = h AtDescribe (with_world (with_flag r.world LOCATION_FLAG to) r) (omega arith)
 
 -- How many phases a table needs after it.
 abbrev pub rank_after : ℕ → ℕ
@@ -69,7 +72,8 @@ after_left_ends : (g : Story) (n : ℕ) (go : TurnPhase → Run → Ending) → 
     4 * left_to_read r + rank_after t ≤ n →
     after_left g go t acted r ≢ Unended
 after_left_ends g n go h zero true r k = h AtTimeFrame r (omega arith)
-after_left_ends g n go h zero false r k = connected_ends g n go h r k (exit_at g.game (flag r.world 38) (flag r.world 33))
+after_left_ends g n go h zero false r k =
+    connected_ends g n go h r k (exit_at g.game (flag r.world LOCATION_FLAG) (flag r.world VERB_FLAG))
 after_left_ends g n go h (suc zero) acted r k = h AtTimeFrame r k
 after_left_ends g n go h (suc (suc t)) acted r k = h AtPhrase (with_world (time_frame_passed r.world) r) k
 
@@ -94,7 +98,7 @@ at_main_ends g n go h r [] k = λ e. cc
 at_main_ends g n go h r (line ∷ lines) k =
     let m : brought (line ∷ lines) ≡ length line + 200001 + brought lines = brought_more line lines in
     let s : Run = record r { events = lines } in
-    let said : List ℕ = say_text g.game (with_timeout true r.world) 35 in
+    let said : List ℕ = say_text g.game (with_timeout true r.world) TIMEOUT_MESSAGE in
     by_test (is_ignored r.world line) (is_timeout line)
     (at_main_ends g n go h (piece_closed s) lines (omega (arith, m, k)))
     (saying_ends said (go AtTimeFrame) (with_line_heard line s) (h AtTimeFrame (text_printed said (with_line_heard line s)) (omega (arith, m, k))))
@@ -133,7 +137,9 @@ turn_ends g (suc n) AtDescribe r h =
 turn_ends g (suc n) AtTimeFrame r h =
     table_done_ends g n (turn g n) (turn_ends g n) 2 (left_to_read r) (omega arith) _ (table_spends g 2 r)
 turn_ends g (suc n) AtPhrase r h =
-    after_phrase_ends g n (turn g n) (turn_ends g n) r (omega arith) _ (parsed-shorter g.game r.pending r.earlier (flag r.world 46) (flag r.world 47))
+    after_phrase_ends g n (turn g n) (turn_ends g n) r (omega arith) _
+    (parsed-shorter g.game r.pending r.earlier (flag r.world PRONOUN_NOUN_FLAG)
+    (flag r.world PRONOUN_ADJECTIVE_FLAG))
 turn_ends g (suc n) AtResponse r h =
     table_done_ends g n (turn g n) (turn_ends g n) 0 (left_to_read r) (omega arith) _ (table_spends g 0 r)
 

@@ -3,6 +3,7 @@ use Rattle.std.proofs.Common.{◌≡◌, ◌≢◌, ℕ, zero, suc, ◌+◌, Boo
 use Rattle.std.proofs.Common.{Some, None, refl, sym, ◌∙◌, subst, arith}
 use Rattle.std.specs.Prelude.{if◌then◌else◌}
 use Rattle.paw_base.specs.declared.fault.SpentKind.TheVariants as spent
+use Rattle.paw_base.specs.declared.flags.TheConstants.{LOCATION_FLAG, VERB_FLAG}
 use Rattle.paw_effects.specs.Story.{Story}
 use Rattle.paw_game.specs.Tables.{exit_at}
 use Rattle.paw_world.specs.World.{flag, with_flag}
@@ -69,11 +70,13 @@ module _ (g : Story) (lines : List (List ℕ)) where
     connected_follows r none None k =
         saying_follows m (refusal_text g.game r.world) (go AtTimeFrame) (more AtTimeFrame) (line_dropped r)
         (follows AtTimeFrame (text_printed (refusal_text g.game r.world) (line_dropped r)) none) k
-    connected_follows r none (Some to) k = follows AtDescribe (with_world (with_flag r.world 38 to) r) none k
+    connected_follows r none (Some to) k =
+        follows AtDescribe (with_world (with_flag r.world LOCATION_FLAG to) r) none k
 
     after_left_follows : (t : ℕ) (a : Bool) (r : Run) → r.turning ≡ None → Follows m (after_left g go t a r) (after_left g more t a (with_lines lines r))
     after_left_follows zero true r none k = follows AtTimeFrame r none k
-    after_left_follows zero false r none k = connected_follows r none (exit_at g.game (flag r.world 38) (flag r.world 33)) k
+    after_left_follows zero false r none k =
+        connected_follows r none (exit_at g.game (flag r.world LOCATION_FLAG) (flag r.world VERB_FLAG)) k
     after_left_follows (suc zero) a r none k = follows AtTimeFrame r none k
     after_left_follows (suc (suc t)) a r none k = follows AtPhrase (with_world (time_frame_passed r.world) r) none k
 

@@ -10,6 +10,7 @@ use Rattle.paw_base.specs.declared.codes.TheConstants.{QUIT, PROCESS, DOALL}
 use Rattle.paw_base.specs.declared.parts.Condact.{Condact}
 use Rattle.paw_base.specs.declared.parts.ObjectFacts.{ObjectFacts}
 use Rattle.paw_base.specs.declared.fault.SpentKind.TheVariants as spent
+use Rattle.paw_base.specs.declared.flags.TheConstants.{LOOP_FLAG}
 use Rattle.paw_game.specs.declared.parts.Entry.{Entry}
 use Rattle.paw_game.specs.Game.{GameLists}
 use Rattle.paw_game.specs.Tables.{table_at, entry_at, condacts_of, condact_at, facts_at}
@@ -131,7 +132,8 @@ named_placed g w None k = k
 named_placed g w (Some f) k = k
 
 taken_placed : (g : GameLists) (l : OpenLoop) (o : ℕ) (r : Run) → IsPlaced g r.world → IsPlaced g (object_taken g l o r).world
-taken_placed g l o r k = referred_placed g (with_flag (object_named r.world (facts_at g o)) 50 o) o (named_placed g r.world (facts_at g o) k)
+taken_placed g l o r k = referred_placed g (with_flag (object_named r.world (facts_at g o)) LOOP_FLAG o) o
+    (named_placed g r.world (facts_at g o) k)
 
 -- What an action of a condact leads to in a game.
 abbrev LeadsIn : GameLists → Condact → Effect → Type 0

@@ -5,6 +5,7 @@ use Rattle.std.specs.Prelude.{if◌then◌else◌}
 use Rattle.std.specs.List.{concat}
 use Rattle.std.proofs.lemmas.List.Folds.{concat-append}
 use Rattle.paw_base.specs.declared.fault.SpentKind.TheVariants as spent
+use Rattle.paw_base.specs.declared.flags.TheConstants.{LOCATION_FLAG, VERB_FLAG}
 use Rattle.paw_effects.specs.Story.{Story}
 use Rattle.paw_game.specs.Tables.{exit_at}
 use Rattle.paw_world.specs.World.{flag, with_flag}
@@ -86,11 +87,12 @@ module _ (g : Story) (ps : List (List ℕ)) (ts : List (List Step)) where
     connected_past r None =
         saying_past (refusal_text g.game r.world) (go AtTimeFrame) (line_dropped r)
         (pasts AtTimeFrame (text_printed (refusal_text g.game r.world) (line_dropped r)))
-    connected_past r (Some to) = pasts AtDescribe (with_world (with_flag r.world 38 to) r)
+    connected_past r (Some to) = pasts AtDescribe (with_world (with_flag r.world LOCATION_FLAG to) r)
 
     after_left_past : (t : ℕ) (a : Bool) (r : Run) → after_left g go t a (with_past ps ts r) ≡ ending_with_past ps ts (after_left g go t a r)
     after_left_past zero true r = pasts AtTimeFrame r
-    after_left_past zero false r = connected_past r (exit_at g.game (flag r.world 38) (flag r.world 33))
+    after_left_past zero false r = connected_past r
+        (exit_at g.game (flag r.world LOCATION_FLAG) (flag r.world VERB_FLAG))
     after_left_past (suc zero) a r = pasts AtTimeFrame r
     after_left_past (suc (suc t)) a r = pasts AtPhrase (with_world (time_frame_passed r.world) r)
 

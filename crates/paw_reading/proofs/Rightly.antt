@@ -6,6 +6,7 @@ use Rattle.std.specs.Prelude.{All}
 use Rattle.std.proofs.Math.ListN.{get_or}
 use Rattle.paw_base.specs.declared.limits.TheConstants.{READ_LIMIT}
 use Rattle.paw_base.specs.declared.fault.SpentKind.TheVariants as spent
+use Rattle.paw_base.specs.declared.flags.TheConstants.{LOCATION_FLAG, VERB_FLAG}
 use Rattle.paw_game.specs.Game.{GameLists}
 use Rattle.paw_game.specs.Tables.{exit_at}
 use Rattle.paw_game.specs.Valid.{Valid}
@@ -115,11 +116,13 @@ module _ (g : Story) (v : Valid g.game) where
     connected_rightly : (to : Option ℕ) → GoRightly (λ r. exit_taken g go r to)
     connected_rightly None r k =
         saying_rightly (refusal_text g.game r.world) (go AtTimeFrame) (goes AtTimeFrame) (line_dropped r) (record { of = k.of; none = k.none })
-    connected_rightly (Some to) r k = goes AtDescribe (with_world (with_flag r.world 38 to) r) (record { of = k.of; none = k.none })
+    connected_rightly (Some to) r k =
+        goes AtDescribe (with_world (with_flag r.world LOCATION_FLAG to) r) (record { of = k.of; none = k.none })
 
     after_left_rightly : (t : ℕ) (a : Bool) → GoRightly (after_left g go t a)
     after_left_rightly zero true r k = goes AtTimeFrame r k
-    after_left_rightly zero false r k = connected_rightly (exit_at g.game (flag r.world 38) (flag r.world 33)) r k
+    after_left_rightly zero false r k =
+        connected_rightly (exit_at g.game (flag r.world LOCATION_FLAG) (flag r.world VERB_FLAG)) r k
     after_left_rightly (suc zero) a r k = goes AtTimeFrame r k
     after_left_rightly (suc (suc t)) a r k =
         goes AtPhrase (with_world (time_frame_passed r.world) r) (record { of = time_frame_placed g.game r.world k.of; none = k.none })

@@ -9,6 +9,7 @@ use Rattle.std.proofs.lemmas.Option.{slice_get_past}
 use Rattle.paw_base.specs.declared.limits.TheConstants.{READ_LIMIT}
 use Rattle.paw_base.specs.declared.parts.Condact.{Condact}
 use Rattle.paw_base.specs.declared.fault.SpentKind.TheVariants as spent
+use Rattle.paw_base.specs.declared.flags.TheConstants.{VERB_FLAG, NOUN_FLAG}
 use Rattle.paw_game.specs.declared.parts.Entry.{Entry}
 use Rattle.paw_game.specs.Game.{GameLists}
 use Rattle.paw_effects.specs.Story.{Story}
@@ -47,21 +48,25 @@ module _ (g : Story) (sub : ℕ → Run → Out) (lv : ℕ) where
   inside_condact t e k a r c h = rw (drop_some (condacts_of (entry_at g.game t e)) k c h) refl
 
   -- No entry of these matches.
-  entries_none : (t e : ℕ) (es : List Entry) (a : Bool) (r : Run) → first_match (flag r.world 33) (flag r.world 34) e es ≡ None →
+  entries_none : (t e : ℕ) (es : List Entry) (a : Bool) (r : Run)
+      → first_match (flag r.world VERB_FLAG) (flag r.world NOUN_FLAG) e es ≡ None →
       entries g sub lv t e es a r ≡ Left a r
   unfolding entries
   entries_none t e [] a r h = refl
   entries_none t e (en ∷ es) a r h = go (entries_none t (suc e) es a r) (is_for_now r en) h
     where
-      go : (first_match (flag r.world 33) (flag r.world 34) (suc e) es ≡ None → entries g sub lv t (suc e) es a r ≡ Left a r) → (b : Bool) →
-          ◌≡◌ {A = Option ℕ} (if b then Some e else first_match (flag r.world 33) (flag r.world 34) (suc e) es) None →
+      go : (first_match (flag r.world VERB_FLAG) (flag r.world NOUN_FLAG) (suc e) es ≡ None
+          → entries g sub lv t (suc e) es a r ≡ Left a r) → (b : Bool) →
+          ◌≡◌ {A = Option ℕ} (if b then Some e else first_match (flag r.world VERB_FLAG) (flag r.world NOUN_FLAG)
+          (suc e) es) None →
           (if b then condacts g sub lv t e (entries g sub lv t (suc e) es) 0 en.condacts a r else entries g sub lv t (suc e) es a r) ≡ Left a r
       go later true q = cc
       go later false q = later q
 
   -- The first of these entries that matches.
   entries_some : (t e : ℕ) (es : List Entry) (a : Bool) (r : Run) (found : ℕ) → drop e (table_at g.game t) ≡ es →
-      first_match (flag r.world 33) (flag r.world 34) e es ≡ Some found → entries g sub lv t e es a r ≡ rest_of_entry g sub lv t found 0 a r
+      first_match (flag r.world VERB_FLAG) (flag r.world NOUN_FLAG) e es ≡ Some found
+      → entries g sub lv t e es a r ≡ rest_of_entry g sub lv t found 0 a r
   unfolding entries
   entries_some t e [] a r found d h = cc
   entries_some t e (en ∷ es) a r found d h =
@@ -70,20 +75,26 @@ module _ (g : Story) (sub : ℕ → Run → Out) (lv : ℕ) where
       here : (j : ℕ) → e ≡ j → condacts g sub lv t e (entries g sub lv t (suc e) es) 0 en.condacts a r ≡ rest_of_entry g sub lv t j 0 a r
       here j q = let m = drop_more (table_at g.game t) es e en d in rw (← q, m.0, m.1) refl
 
-      go : (first_match (flag r.world 33) (flag r.world 34) (suc e) es ≡ Some found → entries g sub lv t (suc e) es a r
+      go : (first_match (flag r.world VERB_FLAG) (flag r.world NOUN_FLAG) (suc e) es ≡ Some found
+          → entries g sub lv t (suc e) es a r
           ≡ rest_of_entry g sub lv t found 0 a r) →
-          (b : Bool) → ◌≡◌ {A = Option ℕ} (if b then Some e else first_match (flag r.world 33) (flag r.world 34) (suc e) es) (Some found) →
+          (b : Bool) → ◌≡◌ {A = Option ℕ}
+          (if b then Some e else first_match (flag r.world VERB_FLAG) (flag r.world NOUN_FLAG) (suc e) es)
+          (Some found) →
           (if b then condacts g sub lv t e (entries g sub lv t (suc e) es) 0 en.condacts a r else entries g sub lv t (suc e) es a r)
           ≡ rest_of_entry g sub lv t found 0 a r
       go later true q = let j : e ≡ found = cc in here found j
       go later false q = later q
 
   -- Before an entry, where none matches any more.
-  pub plain_left : (t e : ℕ) (a : Bool) (r : Run) → match_at g.game t e (flag r.world 33) (flag r.world 34) ≡ None → from_condact g sub lv t e 0 a r ≡ Left a r
+  pub plain_left : (t e : ℕ) (a : Bool) (r : Run)
+      → match_at g.game t e (flag r.world VERB_FLAG) (flag r.world NOUN_FLAG) ≡ None
+      → from_condact g sub lv t e 0 a r ≡ Left a r
   plain_left t e a r h = entries_none t e (drop e (table_at g.game t)) a r h
 
   -- Before an entry, where this one matches next.
-  pub plain_match : (t e found : ℕ) (a : Bool) (r : Run) → match_at g.game t e (flag r.world 33) (flag r.world 34) ≡ Some found →
+  pub plain_match : (t e found : ℕ) (a : Bool) (r : Run)
+      → match_at g.game t e (flag r.world VERB_FLAG) (flag r.world NOUN_FLAG) ≡ Some found →
       from_condact g sub lv t e 0 a r ≡ rest_of_entry g sub lv t found 0 a r
   plain_match t e found a r h = entries_some t e (drop e (table_at g.game t)) a r found refl h
 

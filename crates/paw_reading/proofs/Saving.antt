@@ -6,6 +6,7 @@ use Rattle.paw_base.specs.declared.limits.TheConstants.{READ_LIMIT}
 use Rattle.paw_base.specs.declared.parts.Condact.{Condact}
 use Rattle.paw_base.specs.declared.parts.ObjectFacts.{ObjectFacts}
 use Rattle.paw_base.specs.declared.fault.SpentKind.TheVariants as spent
+use Rattle.paw_base.specs.declared.flags.TheConstants.{LOOP_FLAG, LOCATION_FLAG, VERB_FLAG}
 use Rattle.paw_game.specs.declared.parts.Entry.{Entry}
 use Rattle.paw_game.specs.Tables.{table_at, entry_at, condacts_of, condact_at, facts_at, exit_at}
 use Rattle.paw_world.specs.World.{World, Position, flag, with_flag, is_dark, is_unlit, flag_lowered, flag_lowered_if}
@@ -73,7 +74,8 @@ module _ (g : Story) (never : NeverSaves g.game) (ks : List (Option Position)) w
   named_kept w (Some f) k = k
 
   taken_kept : (l : OpenLoop) (o : ℕ) (r : Run) → Is r → Is (object_taken g.game l o r)
-  taken_kept l o r k = referred_kept ks (with_flag (object_named r.world (facts_at g.game o)) 50 o) o (named_kept r.world (facts_at g.game o) k)
+  taken_kept l o r k = referred_kept ks (with_flag (object_named r.world (facts_at g.game o)) LOOP_FLAG o) o
+      (named_kept r.world (facts_at g.game o) k)
 
   again_keeps : (lv : ℕ) (next : OpenLoop → Run → Out) → ((l : OpenLoop) (r : Run) → Is r → Keeps (next l r)) → (x : Out) → Keeps x →
       Keeps (next_object_or lv next x)
@@ -242,11 +244,12 @@ module _ (g : Story) (never : NeverSaves g.game) (ks : List (Option Position)) w
   module _ (go : TurnPhase → Run → Ending) (goes : (s : TurnPhase) → GoEnding (go s)) where
     connected_ends : (to : Option ℕ) → GoEnding (λ r. exit_taken g go r to)
     connected_ends None r k = saying_ends (refusal_text g.game r.world) (go AtTimeFrame) (goes AtTimeFrame) (line_dropped r) k
-    connected_ends (Some to) r k = goes AtDescribe (with_world (with_flag r.world 38 to) r) k
+    connected_ends (Some to) r k = goes AtDescribe (with_world (with_flag r.world LOCATION_FLAG to) r) k
 
     after_left_ends : (t : ℕ) (a : Bool) → GoEnding (after_left g go t a)
     after_left_ends zero true r k = goes AtTimeFrame r k
-    after_left_ends zero false r k = connected_ends (exit_at g.game (flag r.world 38) (flag r.world 33)) r k
+    after_left_ends zero false r k =
+        connected_ends (exit_at g.game (flag r.world LOCATION_FLAG) (flag r.world VERB_FLAG)) r k
     after_left_ends (suc zero) a r k = goes AtTimeFrame r k
     after_left_ends (suc (suc t)) a r k = goes AtPhrase (with_world (time_frame_passed r.world) r) (time_frame_kept r.world k)
 

@@ -7,10 +7,14 @@ use Rattle.std.specs.List.{list_all}
 use Rattle.std.proofs.Math.Nat.{min-le_left}
 use Rattle.std.proofs.lemmas.Bool.{ltb-true, leb-true}
 use Rattle.std.proofs.lemmas.List.Elements.{All-append}
-use Rattle.paw_base.specs.declared.limits.TheConstants.{READ_LIMIT, ENTRY_LIMIT}
+use Rattle.paw_base.specs.declared.limits.TheConstants.{READ_LIMIT, ENTRY_LIMIT, PIECE_LIMIT, CONDACT_LIMIT}
 use Rattle.paw_base.specs.declared.parts.Condact.{Condact}
 use Rattle.paw_base.specs.declared.parts.ObjectFacts.{ObjectFacts}
 use Rattle.paw_base.specs.declared.fault.SpentKind.TheVariants as spent
+use Rattle.paw_base.specs.declared.flags.TheConstants.{TIMED_OUT_FLAG, PRONOUN_NOUN_FLAG, PRONOUN_ADJECTIVE_FLAG}
+use Rattle.paw_base.specs.declared.flags.TheConstants.{NOUN_FLAG, ADJECTIVE_FLAG, LOOP_FLAG, LOW_TURNS_FLAG}
+use Rattle.paw_base.specs.declared.flags.TheConstants.{HIGH_TURNS_FLAG, LOCATION_FLAG, VERB_FLAG, PREPOSITION_FLAG}
+use Rattle.paw_base.specs.declared.flags.TheConstants.{ADVERB_FLAG, SECOND_NOUN_FLAG, SECOND_ADJECTIVE_FLAG}
 use Rattle.paw_game.specs.declared.parts.Entry.{Entry}
 use Rattle.paw_game.specs.Game.{GameLists}
 use Rattle.paw_game.specs.Tables.{table_at, entry_at, condacts_of, facts_at, exit_at}
@@ -78,8 +82,8 @@ pub record IsSound (g : GameLists) (seed base : ℕ) (r : Run) : Type 0 where
   pub few : length r.read ≤ READ_LIMIT
   pub line : IsLine r.pending
   pub earlier : r.earlier < 256
-  pub text : length r.current ≤ 65535
-  pub pieces : All (λ piece. length piece ≤ 65535) r.pieces
+  pub text : length r.current ≤ PIECE_LIMIT
+  pub pieces : All (λ piece. length piece ≤ PIECE_LIMIT) r.pieces
   pub lines : AreLines r.events
   pub traced : length r.traces ≡ length r.pieces
 
@@ -89,7 +93,7 @@ pub record IsResting (g : GameLists) (seed base : ℕ) (r : Run) : Type 0 where
   pub current : r.current ≡ []
   pub read : r.read ≡ []
 
-one_short : (piece : List ℕ) → length piece ≤ 65535 → All (λ q. length q ≤ 65535) (piece ∷ [])
+one_short : (piece : List ℕ) → length piece ≤ PIECE_LIMIT → All (λ q. length q ≤ PIECE_LIMIT) (piece ∷ [])
 one_short piece short zero d low = short
 one_short piece short (suc k) d low = absurd (omega arith)
 
@@ -157,7 +161,7 @@ module _ (g : Story) (valid : ValidStory g) (seed base : ℕ) where
     few = k.few;
     line = k.line;
     earlier = k.earlier;
-    text = omega (arith, length-append r.current text, leb-true (length r.current + length text) 65535 fit);
+    text = omega (arith, length-append r.current text, leb-true (length r.current + length text) PIECE_LIMIT fit);
     pieces = k.pieces;
     lines = k.lines;
     traced = k.traced;
@@ -188,7 +192,8 @@ module _ (g : Story) (valid : ValidStory g) (seed base : ℕ) where
           line = k.line;
           earlier = k.earlier;
           text = omega arith;
-          pieces = All-append (λ piece. length piece ≤ 65535) r.pieces (r.current ∷ []) k.pieces (one_short r.current k.text);
+          pieces = All-append (λ piece. length piece ≤ PIECE_LIMIT) r.pieces (r.current ∷ []) k.pieces
+              (one_short r.current k.text);
           lines = k.lines;
           traced = omega (arith, size, length-append r.traces (r.read ∷ []), k.traced);
         };
@@ -197,11 +202,13 @@ module _ (g : Story) (valid : ValidStory g) (seed base : ℕ) where
       }
 
   timeout_so : (n : ℕ) (b : Bool) (w : World) → IsWorldAt g.game seed n w → IsWorldAt g.game seed n (with_timeout b w)
-  timeout_so n true w k = flagged g.game v seed n w k 49 (128 + flag w 49 % 128) (low (flag w 49))
+  timeout_so n true w k = flagged g.game v seed n w k TIMED_OUT_FLAG (128 + flag w TIMED_OUT_FLAG % 128)
+      (low (flag w TIMED_OUT_FLAG))
     where
       low : (x : ℕ) → 128 + x % 128 < 256
       low x = omega arith
-  timeout_so n false w k = flagged g.game v seed n w k 49 (flag w 49 % 128) (low (flag w 49))
+  timeout_so n false w k = flagged g.game v seed n w k TIMED_OUT_FLAG (flag w TIMED_OUT_FLAG % 128)
+      (low (flag w TIMED_OUT_FLAG))
     where
       low : (x : ℕ) → x % 128 < 256
       low x = omega arith
@@ -215,9 +222,11 @@ module _ (g : Story) (valid : ValidStory g) (seed base : ℕ) where
   spoken_so : (n : ℕ) (s : Sentence) (w : World) → AreWords s → IsWorldAt g.game seed n w → IsWorldAt g.game seed n (with_sentence s w)
   spoken_so n s w b k =
       let set : (u : World) → IsWorldAt g.game seed n u → (f x : ℕ) → x < 256 → IsWorldAt g.game seed n (with_flag u f x) = λ u. flagged g.game v seed n u in
-      set _ (set _ (set _ (set _ (set _ (set _ (set _ (set _ (set w k 33 s.verb b.verb) 34 s.noun b.noun) 35 s.adjective b.adjective) 36 s.adverb b.adverb)
-      43 s.preposition b.preposition) 44 s.second_noun b.second_noun) 45 s.second_adjective b.second_adjective)
-      46 s.pronoun_noun b.pronoun_noun) 47 s.pronoun_adjective b.pronoun_adjective
+      set _ (set _ (set _ (set _ (set _ (set _ (set _ (set _ (set w k VERB_FLAG s.verb b.verb) NOUN_FLAG s.noun b.noun)
+      ADJECTIVE_FLAG s.adjective b.adjective) ADVERB_FLAG s.adverb b.adverb)
+      PREPOSITION_FLAG s.preposition b.preposition) SECOND_NOUN_FLAG s.second_noun b.second_noun)
+      SECOND_ADJECTIVE_FLAG s.second_adjective b.second_adjective)
+      PRONOUN_NOUN_FLAG s.pronoun_noun b.pronoun_noun) PRONOUN_ADJECTIVE_FLAG s.pronoun_adjective b.pronoun_adjective
 
   left_line : (pending left : List ℕ) → IsRestOf pending left → IsLine pending → IsLine left
   left_line pending left at k = record {
@@ -230,28 +239,35 @@ module _ (g : Story) (valid : ValidStory g) (seed base : ℕ) where
       Is (taken_phrase s left r)
   phrase_so r k s left e =
       let words =
-      parsed-bytes g.game r.pending r.earlier (flag r.world 46) (flag r.world 47) s left v k.earlier
-      (flag_small g.game v seed (bound r) r.world k.world 46) (flag_small g.game v seed (bound r) r.world k.world 47) e in
+      parsed-bytes g.game r.pending r.earlier (flag r.world PRONOUN_NOUN_FLAG) (flag r.world PRONOUN_ADJECTIVE_FLAG) s
+      left v k.earlier
+      (flag_small g.game v seed (bound r) r.world k.world PRONOUN_NOUN_FLAG)
+      (flag_small g.game v seed (bound r) r.world k.world PRONOUN_ADJECTIVE_FLAG) e in
       changed r k (with_sentence s r.world) (spoken_so (bound r) s r.world words k.world) left
-      (left_line r.pending left (sentence-rest g.game r.pending r.earlier (flag r.world 46) (flag r.world 47) s left e) k.line) s.verb words.verb r.turning
+      (left_line r.pending left (sentence-rest g.game r.pending r.earlier (flag r.world PRONOUN_NOUN_FLAG)
+      (flag r.world PRONOUN_ADJECTIVE_FLAG) s left e) k.line) s.verb words.verb r.turning
 
   unknown_so : (r : Run) → Is r → (left : List ℕ) → coming_phrase g r ≡ IsUnknown left →
       Is (record r { pending = left })
   unknown_so r k left e =
-      with_pending r k left (left_line r.pending left (unknown-rest g.game r.pending r.earlier (flag r.world 46) (flag r.world 47) left e) k.line)
+      with_pending r k left (left_line r.pending left
+      (unknown-rest g.game r.pending r.earlier (flag r.world PRONOUN_NOUN_FLAG) (flag r.world PRONOUN_ADJECTIVE_FLAG)
+      left e) k.line)
 
   named_so : (n : ℕ) (w : World) → IsWorldAt g.game seed n w → (o : ℕ) (f : Option ObjectFacts) → facts_at g.game o ≡ f →
       IsWorldAt g.game seed n (object_named w f)
   named_so n w k o None e = k
   named_so n w k o (Some f) e =
       let small = facts_small g.game v o f e in
-      flagged g.game v seed n (with_flag w 34 f.noun) (flagged g.game v seed n w k 34 f.noun small.noun) 35 f.adjective small.adjective
+      flagged g.game v seed n (with_flag w NOUN_FLAG f.noun) (flagged g.game v seed n w k NOUN_FLAG f.noun small.noun)
+      ADJECTIVE_FLAG f.adjective small.adjective
 
   taken_so : (l : OpenLoop) (o : ℕ) (r : Run) → o < 256 → Is r → Is (object_taken g.game l o r)
   taken_so l o r small k =
       let w : World = object_named r.world (facts_at g.game o) in
       let w_so : IsWorldAt g.game seed (bound r) w = named_so (bound r) r.world k.world o (facts_at g.game o) refl in
-      changed r k _ (referred_so g.game v seed (bound r) (with_flag w 50 o) (flagged g.game v seed (bound r) w w_so 50 o small) o small)
+      changed r k _ (referred_so g.game v seed (bound r) (with_flag w LOOP_FLAG o)
+      (flagged g.game v seed (bound r) w w_so LOOP_FLAG o small) o small)
       r.pending k.line r.earlier k.earlier (Some (record l { last = o }))
 
   -- ---- loops and calls ----
@@ -383,7 +399,7 @@ module _ (g : Story) (valid : ValidStory g) (seed base : ℕ) where
 
     entry_condacts : (en : Entry) → IsTrue (is_entry g.game en) → IsTrue (list_all (is_condact g.game) en.condacts)
     entry_condacts en h =
-        second_of_and (nat_le (length en.condacts) 255) _
+        second_of_and (nat_le (length en.condacts) CONDACT_LIMIT) _
         (second_of_and (is_wildcard en.noun || has_word g.game.words 2 en.noun) _
         (second_of_and (is_wildcard en.verb || is_verb_value g.game.words en.verb) _ h))
 
@@ -474,7 +490,9 @@ module _ (g : Story) (valid : ValidStory g) (seed base : ℕ) where
   counted_so : (n : ℕ) (w : World) → IsWorldAt g.game seed n w → IsWorldAt g.game seed n (turn_counted w)
   counted_so n w k =
       let turns_now : ℕ = min 65535 (turns_taken w + 1) in
-      flagged g.game v seed n (with_flag w 31 (turns_now % 256)) (flagged g.game v seed n w k 31 (turns_now % 256) (low turns_now)) 32 (turns_now / 256)
+      flagged g.game v seed n (with_flag w LOW_TURNS_FLAG (turns_now % 256))
+      (flagged g.game v seed n w k LOW_TURNS_FLAG (turns_now % 256) (low turns_now)) HIGH_TURNS_FLAG
+      (turns_now / 256)
       (high turns_now (min-le_left 65535 (turns_taken w + 1)))
     where
       low : (x : ℕ) → x % 256 < 256
@@ -484,18 +502,24 @@ module _ (g : Story) (valid : ValidStory g) (seed base : ℕ) where
       high x most = omega arith
 
   module _ (go : TurnPhase → Run → Ending) (goes : (s : TurnPhase) → TurnsSound (go s)) where
-    connected_sounds : (r : Run) → Is r → (to : Option ℕ) → exit_at g.game (flag r.world 38) (flag r.world 33) ≡ to →
+    connected_sounds : (r : Run) → Is r → (to : Option ℕ)
+        → exit_at g.game (flag r.world LOCATION_FLAG) (flag r.world VERB_FLAG) ≡ to →
         EndsSound (exit_taken g go r to)
     connected_sounds r k None e = saying_sounds (refusal_text g.game r.world) (go AtTimeFrame) (goes AtTimeFrame) (line_dropped r) (dropped r k)
     connected_sounds r k (Some to) e =
-        goes AtDescribe (with_world (with_flag r.world 38 to) r)
-        (in_world r k (with_flag r.world 38 to)
-        (flagged g.game v seed (bound r) r.world k.world 38 to
-        (omega (arith, exit-leads g.game v (flag r.world 38) (flag r.world 33) to e, (few_locations g.game v).1))))
+        goes AtDescribe (with_world (with_flag r.world LOCATION_FLAG to) r)
+        (in_world r k (with_flag r.world LOCATION_FLAG to)
+        (flagged g.game v seed (bound r) r.world k.world LOCATION_FLAG to
+        (omega (
+          arith,
+          exit-leads g.game v (flag r.world LOCATION_FLAG) (flag r.world VERB_FLAG) to e,
+          (few_locations g.game v).1,
+        ))))
 
     after_left_sounds : (t : ℕ) (a : Bool) → TurnsSound (after_left g go t a)
     after_left_sounds zero true r k = goes AtTimeFrame r k
-    after_left_sounds zero false r k = connected_sounds r k (exit_at g.game (flag r.world 38) (flag r.world 33)) refl
+    after_left_sounds zero false r k =
+        connected_sounds r k (exit_at g.game (flag r.world LOCATION_FLAG) (flag r.world VERB_FLAG)) refl
     after_left_sounds (suc zero) a r k = goes AtTimeFrame r k
     after_left_sounds (suc (suc t)) a r k =
         goes AtPhrase (with_world (time_frame_passed r.world) r) (in_world r k (time_frame_passed r.world) (time_frame_so (bound r) r.world k.world))

@@ -6,6 +6,7 @@ use Rattle.std.proofs.lemmas.List.Sums.{sum_by-cons}
 use Rattle.paw_base.specs.declared.limits.TheConstants.{READ_LIMIT}
 use Rattle.paw_base.specs.declared.parts.Condact.{Condact}
 use Rattle.paw_base.specs.declared.fault.SpentKind.TheVariants as spent
+use Rattle.paw_base.specs.declared.flags.TheConstants.{PRONOUN_NOUN_FLAG, PRONOUN_ADJECTIVE_FLAG}
 use Rattle.paw_effects.specs.Story.{Story}
 use Rattle.paw_world.specs.World.{flag}
 use Rattle.paw_phrase.specs.Sentence.{Parsed, IsSentence, IsUnknown, IsNoPhrase}
@@ -151,7 +152,8 @@ module _ (g : Story) (sub : ℕ → Run → Out) (lv : ℕ) (calls : CallsSpendi
   after_action_spends f next go hn hg effect.Parse r =
       Spends_up (left_to_read r) _ (omega arith) _
       (after_parse_spends f next go hn hg r (coming_phrase g r)
-      (parsed-shorter g.game r.pending r.earlier (flag r.world 46) (flag r.world 47)))
+      (parsed-shorter g.game r.pending r.earlier (flag r.world PRONOUN_NOUN_FLAG)
+      (flag r.world PRONOUN_ADJECTIVE_FLAG)))
   after_action_spends f next go hn hg effect.Spent r = tt
 
   dropped_less : (b : Bool) (bytes : List ℕ) → length (if b then [] else bytes) ≤ length bytes

@@ -9,7 +9,7 @@ use Rattle.std.proofs.lemmas.List.Elements.{All-map, All-take}
 use Rattle.std.specs.Option.{unwrap_or, option_or}
 use Rattle.std.specs.Prelude.{nat_le, is_some, if◌then◌else◌, IfNone, slice_index, slice_range}
 use Rattle.paw_base.specs.declared.layout.TheConstants.{STATE_LENGTH}
-use Rattle.paw_base.specs.declared.limits.TheConstants.{EVENT_LIMIT, READ_LIMIT}
+use Rattle.paw_base.specs.declared.limits.TheConstants.{EVENT_LIMIT, READ_LIMIT, LINE_LIMIT}
 use Rattle.paw_effects.specs.Worlds.{IsOf}
 use Rattle.paw_effects.specs.declared.act.Prompt.{Prompt}
 use Rattle.paw_game.proofs.Counts.{few_objects}
@@ -301,7 +301,8 @@ sound_fields g s k =
       kept = kept_sound g KEPT s.world.kept (kept_held g s k);
     }
 
-lengths_of : (g : GameLists) (s : State) → IsOf g s.world → IsWorld s.world → length s.frames.rows ≡ 11 → length s.pending.bytes ≤ 255
+lengths_of : (g : GameLists) (s : State) → IsOf g s.world → IsWorld s.world → length s.frames.rows ≡ 11
+    → length s.pending.bytes ≤ LINE_LIMIT
     → HasLengths (fields_of s)
 lengths_of g s of world rows line = record {
   flags = of.flags;

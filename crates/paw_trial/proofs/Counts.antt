@@ -2,6 +2,7 @@
 use Rattle.std.proofs.Common.{◌≡◌, ℕ, ◌<◌, List, ◌++◌, length, get_or, take, sym, ap, ◌∙◌, arith}
 use Rattle.std.specs.Prelude.{slice_index, codes, decimal}
 use Rattle.std.proofs.lemmas.List.{get_or_append_left, get_or-take}
+use Rattle.paw_base.specs.declared.flags.TheConstants.{LOW_TURNS_FLAG, HIGH_TURNS_FLAG, LOCATION_FLAG, CARRIED_FLAG}
 use Rattle.paw_game.specs.Game.{GameLists}
 use Rattle.paw_reading.specs.Turn.{Ending, WaitsAt}
 use Rattle.paw_journal.specs.Session.{Digests, Recovered, Shown, recover, state_length}
@@ -35,10 +36,10 @@ module _ (g : GameLists) (n : ℕ) (buffer piece : List ℕ) (r : Recovered) (di
       let flag_at : (i : ℕ) → i < 256 → slice_index buffer i ≡ slice_index s.world.flags i = λ i low.
       sym (get_or-take state_length buffer i 0 (omega (arith, low)))
       ∙ (ap (λ xs. get_or xs i 0) same ∙ flags_first (state_at n p path s) i (omega (arith, low, size))) in
-      let a = flag_at 31 (omega arith) in
-      let b = flag_at 32 (omega arith) in
-      let c = flag_at 38 (omega arith) in
-      let d = flag_at 1 (omega arith) in
+      let a = flag_at LOW_TURNS_FLAG (omega arith) in
+      let b = flag_at HIGH_TURNS_FLAG (omega arith) in
+      let c = flag_at LOCATION_FLAG (omega arith) in
+      let d = flag_at CARRIED_FLAG (omega arith) in
       cc
   counts _ own settled w kept = absurd w
 

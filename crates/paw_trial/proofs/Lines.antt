@@ -9,6 +9,7 @@ use Rattle.std.proofs.lemmas.List.{take_all, take-append-drop}
 use Rattle.std.proofs.lemmas.List.Elements.{All-tail, All-head, All-take, All-drop}
 use Rattle.std.proofs.lemmas.List.Folds.{list_all_at}
 use Rattle.std.proofs.lemmas.List.FromFn.{get_or-map-range_with_len}
+use Rattle.paw_base.specs.declared.limits.TheConstants.{LINE_LIMIT}
 use Rattle.paw_play.specs.Walk.{first_lines}
 use Rattle.paw_reading.specs.Bounds.{IsLine, ValidStory}
 use Rattle.paw_play.specs.Stands.{IsPlayedWith}
@@ -29,7 +30,8 @@ each_byte bytes h k d low = by_test (nat_lt (get_or bytes k d) 256) refl
         let broken : list_all (λ b. nat_lt b 256) bytes ≡ false = list_all_at (λ b. nat_lt b 256) bytes k d low e in
         absurd cc
 
-is_line : (line : List ℕ) → nat_le (length line) 255 ≡ true → list_all (λ b. nat_lt b 256) line ≡ true → IsLine line
+is_line : (line : List ℕ) → nat_le (length line) LINE_LIMIT ≡ true → list_all (λ b. nat_lt b 256) line ≡ true
+    → IsLine line
 is_line line short bytes = record { short = grind (arith, nat_tests); bytes = each_byte line bytes }
 
 by_tests : (P : List ℕ → Type 0) (a b c d e : Bool) (u v w x y z : List ℕ) → P u → P v → P w → P x → P y → P z →
@@ -87,11 +89,11 @@ plays_all n low = record { valid = trial_story_valid n; fits = omega (arith, low
 -- ---- taking lines ----
 
 -- No line is cut.
-uncut : (lines : List (List ℕ)) → All IsLine lines → map (take 255) lines ≡ lines
+uncut : (lines : List (List ℕ)) → All IsLine lines → map (take LINE_LIMIT) lines ≡ lines
 uncut [] are = refl
 uncut (line ∷ lines) are =
-    let rest : map (take 255) lines ≡ lines = uncut lines (All-tail IsLine line lines are) in
-    let this : take 255 line ≡ line = take_all 255 line (All-head IsLine line lines are).short in
+    let rest : map (take LINE_LIMIT) lines ≡ lines = uncut lines (All-tail IsLine line lines are) in
+    let this : take LINE_LIMIT line ≡ line = take_all LINE_LIMIT line (All-head IsLine line lines are).short in
     cc
 
 pub first_taken : (k : ℕ) (lines : List (List ℕ)) → All IsLine lines → first_lines k lines ≡ take k lines

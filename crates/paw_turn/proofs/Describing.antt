@@ -1,6 +1,7 @@
 -- The description of a location.
 use Rattle.std.proofs.Common.{◌≡◌, suc, ◌+◌, ◌<◌, ◌≤◌, ◌++◌, length, refl, sym, ap, ◌∙◌, subst}
 use Rattle.paw_base.specs.declared.fault.SpentKind.TheVariants as spent
+use Rattle.paw_base.specs.declared.limits.TheConstants.{PIECE_LIMIT}
 use Rattle.paw_effects.specs.Story.{Story}
 use Rattle.paw_world.specs.World.{World}
 use Rattle.paw_reading.specs.Run.{with_world}
@@ -15,14 +16,14 @@ use Rattle.paw_turn.proofs.Says.{said, unsaid}
 
 -- Once the location is described table 1 is read.
 pub described_reads : (g : Story) (old mid new : PlayState) (nx : Next) (w : World) → w ≡ location_described old.surroundings.world
-    → length old.surroundings.piece + length (view_text g.game w) ≤ 65535
+    → length old.surroundings.piece + length (view_text g.game w) ≤ PIECE_LIMIT
     → mid ≡ with_piece (old.surroundings.piece ++ view_text g.game w) (in_world w old)
     → ReadsTurn g (λ n r. table_done g (turn g n) 1 (table_read g 1 r)) mid nx new
     → ReadsTurn g (λ n r. turn g (suc n) AtDescribe r) old nx new
 unfolding turn
 described_reads g old mid new nx w world fits is reads past has =
     let full : World → PlayState = λ v. with_piece (old.surroundings.piece ++ view_text g.game v) (in_world v old) in
-    let fits' = subst (λ v. length old.surroundings.piece + length (view_text g.game v) ≤ 65535) world fits in
+    let fits' = subst (λ v. length old.surroundings.piece + length (view_text g.game v) ≤ PIECE_LIMIT) world fits in
     let from = subst (λ (m : PlayState). ReadsTurn g (λ n r. table_done g (turn g n) 1 (table_read g 1 r)) m nx new) (is ∙ ap full world) reads in
     let t = from past has in (
       t.0,
@@ -38,11 +39,12 @@ described_reads g old mid new nx w world fits is reads past has =
 
 -- A description that doesn't fit.
 pub described_not : (g : Story) (old new : PlayState) (w : World) → w ≡ location_described old.surroundings.world
-    → 65535 < length old.surroundings.piece + length (view_text g.game w) → new.machine ≡ old.machine
+    → PIECE_LIMIT < length old.surroundings.piece + length (view_text g.game w) → new.machine ≡ old.machine
     → ReadsTurn g (λ n r. turn g (suc n) AtDescribe r) old (halting (halt.Spent spent.Text)) new
 unfolding turn
 described_not g old new w world past_fits same past has =
-    let past_fits' = subst (λ v. 65535 < length old.surroundings.piece + length (view_text g.game v)) world past_fits in (
+    let past_fits' = subst (λ v. PIECE_LIMIT < length old.surroundings.piece + length (view_text g.game v)) world
+    past_fits in (
       past.read,
       (
         subst (HasRead past.read) (sym same) has,

@@ -1,5 +1,7 @@
 -- A line at the main prompt.
 use Rattle.std.proofs.Common.{◌≡◌, ℕ, true, false, List, [], refl, sym, ap, subst}
+use Rattle.paw_base.specs.declared.messages.TheConstants.{TIMEOUT_MESSAGE}
+use Rattle.paw_base.specs.declared.words.TheConstants.{NO_WORD}
 use Rattle.paw_effects.specs.Story.{Story}
 use Rattle.paw_world.specs.World.{World}
 use Rattle.paw_effects.specs.declared.act.Prompt.TheVariants as prompt
@@ -30,25 +32,28 @@ moves_play g whole x old mid new nx same moves none past has = (
   ),
 )
 
--- A timeout says message 35, and the time frame comes.
+-- A timeout says its message, and the time frame comes.
 pub timeout_heard : (g : Story) (old new : PlayState) (line : List ℕ) (w : World) (nx : Next) → is_ignored old.surroundings.world line ≡ false →
     is_timeout line ≡ true
     → w ≡ with_timeout true old.surroundings.world
-    → Moves g (λ n r. saying (say_text g.game w 35) (turn g n (at_phase phase.TimeFrame)) r) (in_world w old) nx new
+    → Moves g (λ n r. saying (say_text g.game w TIMEOUT_MESSAGE) (turn g n (at_phase phase.TimeFrame)) r)
+    (in_world w old) nx new
     → new.machine ≡ old.machine → PlaysAs g (from_prompt g prompt.Main old line) old nx new
 unfolding at_main
 timeout_heard g old new line w nx heard timeout world moves machine =
-    moves_play g (from_prompt g prompt.Main old line) (λ n r. saying (say_text g.game w 35) (turn g n AtTimeFrame) r) old
+    moves_play g (from_prompt g prompt.Main old line)
+    (λ n r. saying (say_text g.game w TIMEOUT_MESSAGE) (turn g n AtTimeFrame) r) old
     (in_world w old) new nx
     (λ m past lines. is m past lines) moves (equal_none old.machine new.machine machine)
   where
     is : (m : ℕ) (past : Past) (lines : List (List ℕ)) → from_prompt g prompt.Main old line m past lines
-        ≡ saying (say_text g.game w 35) (turn g m AtTimeFrame) (run_now (in_world w old) past lines)
+        ≡ saying (say_text g.game w TIMEOUT_MESSAGE) (turn g m AtTimeFrame) (run_now (in_world w old) past lines)
     is m past lines = rw (heard, timeout, world) refl
 
 -- A line that is pending now.
 abbrev taking_line : List ℕ → PlayState → PlayState
-taking_line line h = with_world_and_line (with_timeout false h.surroundings.world) (record { bytes = line; earlier = 255 }) h
+taking_line line h = with_world_and_line (with_timeout false h.surroundings.world)
+    (record { bytes = line; earlier = NO_WORD }) h
 
 -- Any other line is pending now.
 pub line_heard : (g : Story) (old new : PlayState) (line : List ℕ) → is_ignored old.surroundings.world line ≡ false → is_timeout line ≡ false

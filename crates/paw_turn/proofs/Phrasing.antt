@@ -1,5 +1,7 @@
 -- The next phrase.
 use Rattle.std.proofs.Common.{◌≡◌, ℕ, suc, ◌<◌, List, [], length, sym, ap, ◌∙◌, subst}
+use Rattle.paw_base.specs.declared.messages.TheConstants.{UNKNOWN_MESSAGE}
+use Rattle.paw_base.specs.declared.flags.TheConstants.{PRONOUN_NOUN_FLAG, PRONOUN_ADJECTIVE_FLAG}
 use Rattle.paw_game.specs.Game.{GameLists}
 use Rattle.paw_effects.specs.Story.{Story}
 use Rattle.paw_world.specs.World.{World, flag}
@@ -34,11 +36,13 @@ sentence_moves g old new w speaks world machine piece past n lines =
 pub unknown_moves : (g : Story) (old new : PlayState) (nx : Next) (rest : List ℕ) (w : World) (p : PendingLine)
     → next_phrase g.game old.surroundings.world old.surroundings.pending ≡ IsUnknown rest → w ≡ old.surroundings.world
     → p ≡ record { bytes = []; earlier = old.surroundings.pending.earlier }
-    → Moves g (λ n r. saying (say_text g.game w 6) (turn g n (at_phase phase.TimeFrame)) r) (with_world_and_line w p old) nx new
+    → Moves g (λ n r. saying (say_text g.game w UNKNOWN_MESSAGE) (turn g n (at_phase phase.TimeFrame)) r)
+    (with_world_and_line w p old) nx new
     → Moves g (λ n r. turn g (suc n) AtPhrase r) old nx new
 unfolding turn
 unknown_moves g old new nx rest w p is world pending moves past n lines =
-    let M : World → PendingLine → Type 0 = λ w' p'. Moves g (λ n' r. saying (say_text g.game w' 6) (turn g n' (at_phase phase.TimeFrame)) r)
+    let M : World → PendingLine → Type 0 =
+    λ w' p'. Moves g (λ n' r. saying (say_text g.game w' UNKNOWN_MESSAGE) (turn g n' (at_phase phase.TimeFrame)) r)
     (with_world_and_line w' p' old) nx new in
     let from = subst (λ w'. M w' (record { bytes = []; earlier = old.surroundings.pending.earlier })) world (subst (M w) pending moves) in
     subst (GoesOnAs g n nx new.machine.frames (run_now new past lines))
@@ -61,8 +65,10 @@ none_moves g old new nx w p is world pending moves past n lines =
 -- A phrase that is taken makes what is pending shorter.
 pub sentence_shorter : (g : GameLists) (w : World) (p q : PendingLine) (w' : World) → Speaks g found.Sentence w w' p q → length q.bytes < length p.bytes
 sentence_shorter g w p q w' speaks =
-    subst (LeavesBytes (λ (rest : List ℕ). length rest < length p.bytes)) speaks.1 (parsed-shorter g p.bytes p.earlier (flag w 46) (flag w 47))
+    subst (LeavesBytes (λ (rest : List ℕ). length rest < length p.bytes)) speaks.1
+    (parsed-shorter g p.bytes p.earlier (flag w PRONOUN_NOUN_FLAG) (flag w PRONOUN_ADJECTIVE_FLAG))
 
 pub unknown_shorter : (g : GameLists) (w : World) (p q : PendingLine) (w' : World) → Speaks g found.Nothing w w' p q → length q.bytes < length p.bytes
 unknown_shorter g w p q w' speaks =
-    subst (LeavesBytes (λ (rest : List ℕ). length rest < length p.bytes)) speaks.0 (parsed-shorter g p.bytes p.earlier (flag w 46) (flag w 47))
+    subst (LeavesBytes (λ (rest : List ℕ). length rest < length p.bytes)) speaks.0
+    (parsed-shorter g p.bytes p.earlier (flag w PRONOUN_NOUN_FLAG) (flag w PRONOUN_ADJECTIVE_FLAG))

@@ -1,6 +1,7 @@
 -- The prompt.
 use Rattle.std.proofs.Common.{◌+◌, ◌<◌, length, refl}
 use Rattle.paw_base.specs.declared.fault.SpentKind.TheVariants as spent
+use Rattle.paw_base.specs.declared.limits.TheConstants.{PIECE_LIMIT}
 use Rattle.paw_phrase.specs.Sentence.{IsNoPhrase}
 use Rattle.paw_effects.specs.Story.{Story}
 use Rattle.paw_reading.specs.Run.{line_dropped, piece_closed}
@@ -11,7 +12,8 @@ use Rattle.paw_turn.specs.inner.Phases.{run_now, Moves, halting}
 use Rattle.paw_turn.proofs.Says.{unsaid}
 
 -- A prompt that doesn't fit.
-pub prompt_unsaid : (g : Story) (old new : PlayState) → 65535 < length old.surroundings.piece + length (prompt_text g.game old.surroundings.world)
+pub prompt_unsaid : (g : Story) (old new : PlayState)
+    → PIECE_LIMIT < length old.surroundings.piece + length (prompt_text g.game old.surroundings.world)
     → Moves g (λ n r. after_phrase g (turn g n) r IsNoPhrase) old (halting (halt.Spent spent.Text)) new
 prompt_unsaid g old new h past n lines = (
   line_dropped (run_now old past lines),

@@ -7,6 +7,9 @@ use Rattle.std.proofs.lemmas.Bool.Decides.{nat_tests}
 use Rattle.paw_base.specs.declared.fault.SpentKind.TheVariants as spent
 use Rattle.paw_base.specs.declared.parts.ObjectFacts.{ObjectFacts}
 use Rattle.paw_base.specs.inner.Piece.{Puts}
+use Rattle.paw_base.specs.declared.messages.TheConstants.{GOODBYE_MESSAGE}
+use Rattle.paw_base.specs.declared.words.TheConstants.{NO_WORD}
+use Rattle.paw_base.specs.declared.limits.TheConstants.{PIECE_LIMIT}
 use Rattle.paw_game.specs.Game.{GameLists}
 use Rattle.paw_effects.specs.Story.{Story}
 use Rattle.paw_world.specs.World.{World, flags_with, world_restarted}
@@ -38,8 +41,8 @@ final declines fit e s d =
 -- The answer, once it is heard.
 abbrev answer_of : Story → List ℕ → Run → Out
 answer_of g line r =
-    final (is_no (reply line)) (fits r (say_text g.game r.world 14))
-    (piece_closed (without_loop (line_dropped (text_printed (say_text g.game r.world 14) r)))) r (anew r)
+    final (is_no (reply line)) (fits r (say_text g.game r.world GOODBYE_MESSAGE))
+    (piece_closed (without_loop (line_dropped (text_printed (say_text g.game r.world GOODBYE_MESSAGE) r)))) r (anew r)
 
 final_again : (lv : ℕ) (next : OpenLoop → Run → Out) (declines fit : Bool) (e s d : Run) → next_object_or lv next (final declines fit e s d)
     ≡ final declines fit e s d
@@ -92,7 +95,7 @@ final_spends g go t declines fit e s d is fitting = rw (is, fitting) refl
 pub again_restarts : (g : Story) (old new : PlayState) (line : List ℕ) → 0 < length old.machine.frames → is_ignored old.surroundings.world line ≡ false
     → is_no (reply line) ≡ false
     → new.surroundings.world ≡ world_restarted (with_timeout (is_timeout line) old.surroundings.world) → new.surroundings.pending.bytes ≡ []
-    → new.surroundings.pending.earlier ≡ 255
+    → new.surroundings.pending.earlier ≡ NO_WORD
     → new.machine.turning ≡ None → ReadsNone old.machine new.machine → new.surroundings.piece ≡ old.surroundings.piece
     → PlaysAs g (from_prompt g prompt.Again old line) old (next.Go phase.Describe) new
 again_restarts g old new line some hears declines world bytes earlier turning none piece past has = (
@@ -110,18 +113,22 @@ again_restarts g old new line some hears declines world bytes earlier turning no
 -- At no the game is over, and the run is what is held.
 again_ends : (g : Story) (old new : PlayState) (line : List ℕ) (w : World) → 0 < length old.machine.frames
     → is_ignored old.surroundings.world line ≡ false → is_no (reply line) ≡ true
-    → w ≡ with_timeout (is_timeout line) old.surroundings.world → length old.surroundings.piece + length (say_text g.game w 14) ≤ 65535
-    → new.surroundings.piece ≡ old.surroundings.piece ++ say_text g.game w 14
+    → w ≡ with_timeout (is_timeout line) old.surroundings.world
+    → length old.surroundings.piece + length (say_text g.game w GOODBYE_MESSAGE) ≤ PIECE_LIMIT
+    → new.surroundings.piece ≡ old.surroundings.piece ++ say_text g.game w GOODBYE_MESSAGE
     → new.surroundings.world ≡ w → new.surroundings.pending.bytes ≡ [] → new.surroundings.pending.earlier ≡ old.surroundings.pending.earlier →
     new.machine.turning ≡ None
     → ReadsNone old.machine new.machine
     → PlaysAs g (from_prompt g prompt.Again old line) old (halting halt.Over) new
 again_ends g old new line w some hears declines world fit piece stays bytes earlier turning none past has =
-    let fit' = subst (λ v. length old.surroundings.piece + length (say_text g.game v 14) ≤ 65535) world fit in
-    let piece' = subst (λ v. new.surroundings.piece ≡ old.surroundings.piece ++ say_text g.game v 14) world piece in
+    let fit' = subst (λ v. length old.surroundings.piece + length (say_text g.game v GOODBYE_MESSAGE) ≤ PIECE_LIMIT)
+    world fit in
+    let piece' = subst (λ v. new.surroundings.piece ≡ old.surroundings.piece ++ say_text g.game v GOODBYE_MESSAGE)
+    world piece in
     let world' = stays ∙ world in
-    let text : List ℕ = say_text g.game (with_timeout (is_timeout line) old.surroundings.world) 14 in
-    let t : nat_le (length old.surroundings.piece + length text) 65535 ≡ true = grind (arith, nat_tests, fit') in (
+    let text : List ℕ = say_text g.game (with_timeout (is_timeout line) old.surroundings.world) GOODBYE_MESSAGE in
+    let t : nat_le (length old.surroundings.piece + length text) PIECE_LIMIT ≡ true =
+    grind (arith, nat_tests, fit') in (
       past.read,
       (
         has_still past.read old.machine new.machine has none,
@@ -144,13 +151,16 @@ again_ends g old new line w some hears declines world fit piece stays bytes earl
 -- Where the farewell doesn't fit the piece is spent.
 again_spends : (g : Story) (old new : PlayState) (line : List ℕ) (w : World) → 0 < length old.machine.frames
     → is_ignored old.surroundings.world line ≡ false → is_no (reply line) ≡ true
-    → w ≡ with_timeout (is_timeout line) old.surroundings.world → 65535 < length old.surroundings.piece + length (say_text g.game w 14)
+    → w ≡ with_timeout (is_timeout line) old.surroundings.world
+    → PIECE_LIMIT < length old.surroundings.piece + length (say_text g.game w GOODBYE_MESSAGE)
     → ReadsNone old.machine new.machine
     → PlaysAs g (from_prompt g prompt.Again old line) old (halting (halt.Spent spent.Text)) new
 again_spends g old new line w some hears declines world full none past has =
-    let full' = subst (λ v. 65535 < length old.surroundings.piece + length (say_text g.game v 14)) world full in
-    let text : List ℕ = say_text g.game (with_timeout (is_timeout line) old.surroundings.world) 14 in
-    let t : nat_le (length old.surroundings.piece + length text) 65535 ≡ false = grind (arith, nat_tests, full') in (
+    let full' = subst (λ v. PIECE_LIMIT < length old.surroundings.piece + length (say_text g.game v GOODBYE_MESSAGE))
+    world full in
+    let text : List ℕ = say_text g.game (with_timeout (is_timeout line) old.surroundings.world) GOODBYE_MESSAGE in
+    let t : nat_le (length old.surroundings.piece + length text) PIECE_LIMIT ≡ false =
+    grind (arith, nat_tests, full') in (
       past.read,
       (
         has_still past.read old.machine new.machine has none,
@@ -168,7 +178,8 @@ again_spends g old new line w some hears declines world full none past has =
 -- At no the game is over where the farewell fits, and else the piece is spent.
 pub again_told : (g : Story) (old new : PlayState) (line : List ℕ) (w : World) (told : Bool) → 0 < length old.machine.frames
     → is_ignored old.surroundings.world line ≡ false → is_no (reply line) ≡ true
-    → w ≡ with_timeout (is_timeout line) old.surroundings.world → Puts old.surroundings.piece new.surroundings.piece told (say_text g.game w 14)
+    → w ≡ with_timeout (is_timeout line) old.surroundings.world
+    → Puts old.surroundings.piece new.surroundings.piece told (say_text g.game w GOODBYE_MESSAGE)
     → new.surroundings.world ≡ w → new.surroundings.pending.bytes ≡ [] → new.surroundings.pending.earlier ≡ old.surroundings.pending.earlier →
     new.machine.turning ≡ None
     → ReadsNone old.machine new.machine

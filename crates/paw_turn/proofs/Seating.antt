@@ -8,6 +8,7 @@ use Rattle.std.proofs.lemmas.List.{reverse-reverse}
 use Rattle.paw_base.specs.declared.limits.TheConstants.{READ_LIMIT, STEP_LIMIT}
 use Rattle.paw_base.specs.inner.Steps.{KeptSteps}
 use Rattle.paw_base.specs.inner.Steps.{no_steps, steps_only_counted}
+use Rattle.paw_base.specs.declared.words.TheConstants.{NO_WORD}
 use Rattle.paw_game.specs.Game.{GameLists}
 use Rattle.paw_routines.specs.declared.routines.Routines.{Routines}
 use Rattle.paw_world.specs.World.{World}
@@ -228,7 +229,8 @@ same_fits p g w m q at seated standing game world machine pending prompt_is =
 
 -- ---- a player that starts anew ----
 
-pub begun : {F : Type 0} (p : PlayerView F) (seed most : ℕ) → Valid p.game → p.world ≡ opening_world p.game seed → p.pending ≡ record { bytes = []; earlier = 255 }
+pub begun : {F : Type 0} (p : PlayerView F) (seed most : ℕ) → Valid p.game → p.world ≡ opening_world p.game seed
+    → p.pending ≡ record { bytes = []; earlier = NO_WORD }
     → p.machine ≡ new_machine most → p.last ≡ step.Waits prompt.Main → IsSeated p
 begun p seed most valid world pending machine last = record {
   valid = valid;
@@ -245,7 +247,8 @@ begun p seed most valid world pending machine last = record {
 }
 
 pub renewed : {F : Type 0} (p q : PlayerView F) (seed most : ℕ) → IsSeated p → q.game ≡ p.game → q.world ≡ opening_world q.game seed
-    → q.pending ≡ record { bytes = []; earlier = 255 } → q.machine ≡ new_machine most → q.last ≡ step.Waits prompt.Main → IsSeated q
+    → q.pending ≡ record { bytes = []; earlier = NO_WORD } → q.machine ≡ new_machine most
+    → q.last ≡ step.Waits prompt.Main → IsSeated q
 renewed p q seed most seated game = begun q seed most (subst Valid (sym game) seated.valid)
 
 -- A new player may play its first piece.

@@ -1,6 +1,7 @@
 -- From some phases to the whole reading.
 use Rattle.std.proofs.Common.{◌≡◌, ◌≢◌, ℕ, List, [], ◌∷◌, Option, None, reverse, refl, sym, ap, ◌∙◌}
 use Rattle.paw_base.proofs.Noted.{kept_none}
+use Rattle.paw_base.specs.declared.words.TheConstants.{NO_WORD}
 use Rattle.paw_effects.specs.Story.{Story}
 use Rattle.paw_world.specs.World.{World}
 use Rattle.paw_phrase.specs.Pending.{PendingLine}
@@ -98,7 +99,8 @@ start_plays g routines old new s last plays fresh =
     s (step_of s) new (having_read t.0 (before [] [])) t.1.0 t.1.1
   where
     opens : (w : World) (bytes : List ℕ) (earlier : ℕ) (turning : Option OpenLoop) (piece : List ℕ) (lines : List (List ℕ))
-        → w ≡ opening_world g.game old.surroundings.world.seed → bytes ≡ [] → earlier ≡ 255 → turning ≡ None → piece ≡ []
+        → w ≡ opening_world g.game old.surroundings.world.seed → bytes ≡ [] → earlier ≡ NO_WORD
+        → turning ≡ None → piece ≡ []
         → run_from w bytes earlier turning piece (before [] []) lines ≡ opening g old.surroundings.world.seed lines
     opens w bytes earlier turning piece lines world b e t p = rw (world, b, e, t, p) refl
 

@@ -10,6 +10,7 @@ use Rattle.std.proofs.lemmas.Bool.{cases_eq}
 use Rattle.std.proofs.lemmas.Bool.Decides.{nat_tests}
 use Rattle.paw_base.specs.declared.parts.ObjectFacts.{ObjectFacts}
 use Rattle.paw_base.specs.declared.places.TheConstants.{CARRIED_PLACE}
+use Rattle.paw_base.specs.declared.flags.TheConstants.{CARRIED_FLAG}
 use Rattle.paw_world.specs.World.{World, Position, flag, with_flag, place, with_place, flags_with, first_carried}
 use Rattle.paw_world.specs.World.{opening_places}
 use Rattle.paw_world.specs.World.{with_objects_returned, starting_world, world_restarted, let_go, taken_up, object_moved, position_saved}
@@ -50,13 +51,14 @@ either P false v w left right = right
 IsWorld-let_go : (w : World) (p : ℕ) → IsWorld w → IsWorld (let_go w p)
 IsWorld-let_go w p sound =
     let P : World → Type 0 = λ v. IsWorld v in
-    either P (p == CARRIED_PLACE) (with_flag w 1 (flag w 1 - 1)) w (IsWorld-with_flag w 1 (flag w 1 - 1) sound) sound
+    either P (p == CARRIED_PLACE) (with_flag w CARRIED_FLAG (flag w CARRIED_FLAG - 1)) w
+    (IsWorld-with_flag w CARRIED_FLAG (flag w CARRIED_FLAG - 1) sound) sound
 
 IsWorld-taken_up : (w : World) (p : ℕ) → IsWorld w → IsWorld (taken_up w p)
 IsWorld-taken_up w p sound =
     let P : World → Type 0 = λ v. IsWorld v in
-    let x = min 255 (flag w 1 + 1) in
-    either P (p == CARRIED_PLACE) (with_flag w 1 x) w (IsWorld-with_flag w 1 x sound) sound
+    let x = min 255 (flag w CARRIED_FLAG + 1) in
+    either P (p == CARRIED_PLACE) (with_flag w CARRIED_FLAG x) w (IsWorld-with_flag w CARRIED_FLAG x sound) sound
 
 pub IsWorld-moved : (w : World) (o p : ℕ) → IsWorld w → IsWorld (object_moved w o p)
 IsWorld-moved w o p sound =
@@ -134,17 +136,20 @@ IsWorld-restarted w sound =
 
 pub IsWorld-with_objects_returned : (w : World) → IsWorld w → IsWorld (with_objects_returned w)
 IsWorld-with_objects_returned w sound =
-    same_count (with_flag w 1 (first_carried w.facts)) (opening_places w.facts) (length-map w.facts (λ (f : ObjectFacts). f.start) ∙ sound.facts)
-    (IsWorld-with_flag w 1 (first_carried w.facts) sound)
+    same_count (with_flag w CARRIED_FLAG (first_carried w.facts)) (opening_places w.facts)
+    (length-map w.facts (λ (f : ObjectFacts). f.start) ∙ sound.facts)
+    (IsWorld-with_flag w CARRIED_FLAG (first_carried w.facts) sound)
 
 -- ---- an object that was moved, and the others
 places-let_go : (w : World) (p : ℕ) → (let_go w p).places ≡ w.places
 places-let_go w p =
-    let P : World → Type 0 = λ v. v.places ≡ w.places in either P (p == CARRIED_PLACE) (with_flag w 1 (flag w 1 - 1)) w refl refl
+    let P : World → Type 0 = λ v. v.places ≡ w.places in
+    either P (p == CARRIED_PLACE) (with_flag w CARRIED_FLAG (flag w CARRIED_FLAG - 1)) w refl refl
 
 places-taken_up : (w : World) (p : ℕ) → (taken_up w p).places ≡ w.places
 places-taken_up w p =
-    let P : World → Type 0 = λ v. v.places ≡ w.places in either P (p == CARRIED_PLACE) (with_flag w 1 (min 255 (flag w 1 + 1))) w refl refl
+    let P : World → Type 0 = λ v. v.places ≡ w.places in
+    either P (p == CARRIED_PLACE) (with_flag w CARRIED_FLAG (min 255 (flag w CARRIED_FLAG + 1))) w refl refl
 
 taken_where_same : (a b : ℕ) (v w : World) → a ≡ b → (if a == b then v else w) ≡ v
 taken_where_same a b v w same = grind (arith, nat_tests)

@@ -1,7 +1,7 @@
 use Rattle.std.proofs.Common.{◌≡◌, ℕ, List, ◌+◌, ◌≤◌, ◌++◌, length, take, arith, ap, ◌∙◌}
 use Rattle.std.specs.Prelude.{◌-◌, flat_map}
 use Rattle.std.proofs.lemmas.List.{take_all}
-use Rattle.paw_base.specs.declared.limits.TheConstants.{STEP_LIMIT}
+use Rattle.paw_base.specs.declared.limits.TheConstants.{STEP_LIMIT, PIECE_LIMIT}
 use Rattle.paw_reading.specs.Run.{Step}
 use Rattle.paw_play.specs.Traces.{step_line, more_line}
 use Rattle.paw_play.proofs.Lines.{put_whole, more_short}
@@ -13,7 +13,7 @@ returns c =
     let items : List Step = c.steps_to_show-step-items.result.now in
     let more : ℕ = c.saturating_sub.result in
     let short : length (more_line more) ≤ 27 = more_short more c.saturating_sub.type_inv in
-    let fits : length c.loop-step.text + length (more_line more) ≤ 65535 =
+    let fits : length c.loop-step.text + length (more_line more) ≤ PIECE_LIMIT =
     omega (arith, loop.short, c.loop-step.auto.step-index-end, c.steps_to_show-step-items.ensures.few, short) in
     let whole = put_whole c.put_more-fits.result c.loop-step.text c.put_more-fits.new.text (more_line more) c.put_more-fits.ensures.puts fits in
     let all : take c.loop-step.step-index items ≡ take STEP_LIMIT c.args.steps.now.rows =

@@ -1,5 +1,6 @@
 use Rattle.std.proofs.Common.{◌≡◌, ◌-◌, ◌≤◌, ◌∙◌, length, ap}
 use Rattle.std.specs.Prelude.{Some, Result}
+use Rattle.paw_base.specs.declared.limits.TheConstants.{PIECE_LIMIT}
 use Rattle.paw_stage.specs.Stage.{Standing}
 use Rattle.paw_stage.specs.declared.StageCall.{StageCall}
 use Rattle.paw_journal.specs.Session.{recover, recover_by, kept_digests, slot_in_use, slot, session_length}
@@ -32,7 +33,7 @@ module _ (g : Over) (c : After-choose g) (tells : g.S.Stage.Tells c.args.stage.n
   drafts : Drafts (kept_of c.other-slot.result c.args.room.now) c.args.state.now c.slot.result.now c.draft-draft.result
   drafts = drafts_as _ _ _ _ _ c.slot.ensures.value c.draft-draft.ensures.drafts
 
-  short : length c.args.piece.now ≤ 65535
+  short : length c.args.piece.now ≤ PIECE_LIMIT
   short = short_piece c.args.state.now c.args.piece.now c.fits-state c.requires.piece_length
 
   spare : IsSpare (slot_number c.other-slot.result) old.disk.bytes

@@ -1,5 +1,6 @@
 use Rattle.std.proofs.Common.{◌≡◌, ◌≤◌, ◌∙◌, ap, length}
 use Rattle.std.specs.Prelude.{Result}
+use Rattle.paw_base.specs.declared.limits.TheConstants.{PIECE_LIMIT}
 use Rattle.paw_stage.specs.Disk.{Disk}
 use Rattle.paw_stage.specs.Stage.{Standing}
 use Rattle.paw_stage.specs.declared.StageCall.{StageCall}
@@ -19,7 +20,7 @@ use Rattle.paw_journal.proofs.journal.Journal.create.Goals as goal
 
 -- The bytes that are laid out in both slots.
 module _ (g : Over) (c : After-slot g) where
-  short : length c.args.piece.now ≤ 65535
+  short : length c.args.piece.now ≤ PIECE_LIMIT
   short = short_piece c.args.state.now c.args.piece.now c.fits-state c.requires.piece_length
 
   slots : c.slot.result.now ≡ made_slot c.args.state.now c.args.piece.now
@@ -30,7 +31,7 @@ module _ (g : Over) (c : After-slot g) where
   long = ap length slots ∙ length_slot c.args.state.now c.args.piece.now c.told-state short
 
 -- The session is laid out and then marked, whether or not that fails.
-marks : (g : Over) (c : After-mark g) → length c.args.piece.now ≤ 65535 →
+marks : (g : Over) (c : After-mark g) → length c.args.piece.now ≤ PIECE_LIMIT →
     c.slot.result.now ≡ made_slot c.args.state.now c.args.piece.now → {A : Type 0} {r : Result A StageCall} →
     WritesStore g.S.Stage r MarksAsMade LeavesMarked c.lay_out.new.stage c.mark.new.stage →
     let digests = digests_of c.args.game.now c.args.rules.now in
