@@ -32,7 +32,8 @@ bad_word n before [] = None
 bad_word n before (w ∷ ws) =
     if is_word w && is_lt (slice_cmp nat_cmp before w.letters) then bad_word (suc n) w.letters ws else Some n
 
--- No letters at all stand below all words, so the first word has only its own rule to follow.
+-- The first row at fault of the words. No letters at all stand below all words, so the first word has only its own rule
+-- to follow.
 unfoldable pub words_fault : List Word → Option ℕ
 words_fault ws = part_row_fault 0 WORD_LIMIT (length ws) (bad_word 0 [] ws)
 

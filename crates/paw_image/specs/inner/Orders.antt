@@ -82,7 +82,7 @@ pub record IsMatch (ranks : List ℕ) (has : ℕ → ℕ → Bool) (from e : ℕ
   pub is : Contains ranks (entry_rank verb noun e)
   pub matching : IsTrue (has verb noun)
 
--- The lower of two numbers, where there are two.
+-- The lower of two numbers, or the one that is there.
 abbrev pub lower : Option ℕ → Option ℕ → Option ℕ
 lower None b = b
 lower (Some a) None = Some a

@@ -128,7 +128,7 @@ from_phase g s h m past lines = turn g m (at_phase s) (run_now h past lines)
 abbrev pub from_prompt : Story → Prompt → PlayState → Line → ℕ → Past → Lines → Ending
 from_prompt g p h line m past lines = goes_on g m p (reverse h.machine.frames) (run_now h past (line ∷ lines))
 
--- Some phases from the first on lead from what stood to what stands now.
+-- From a phase in the state `old`, play gets to `next` in the state `new`, whatever lines come.
 abbrev pub Plays : Story → Phase → PlayState → Next → PlayState → Type 0
 Plays g first old next new = PlaysAs g (from_phase g first old) old next new
 
