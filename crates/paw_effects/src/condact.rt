@@ -240,6 +240,6 @@ fn act_plain<T: Tables, F: Fn(u8, u8) -> u8>(
         codes::MODE => after_printing(print_sign(piece, c.code, c.a, c.b)),
         codes::LINE => after_printing(print_sign(piece, c.code, c.a, c.b)),
         codes::INPUT => after_printing(print_sign(piece, c.code, c.a, c.b)),
-        _ => unreachable!(),
+        _ => unreachable!(), // Each code of an action stands above.
     }
 }

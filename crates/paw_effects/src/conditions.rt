@@ -122,6 +122,6 @@ fn test_plain<T: Tables>(tables: &T, world: &mut World, c: Condact) -> Truth
         TIMEOUT => truth(world.flag(TIMED_OUT_FLAG) >= TIMED_OUT_BIT),
         QUIT => Truth::Ask,
         MOVE => truth(moves(tables, world, c.a)),
-        _ => unreachable!(),
+        _ => unreachable!(), // Each code of a condition stands above.
     }
 }

@@ -26,7 +26,7 @@ pub(crate) fn print_sign(piece: &mut Piece, code: u8, a: u8, b: u8) -> bool
     ensures puts { Puts piece.old piece.new result (sign_text (record { code = code; a = a; b = b })) }
 {
     let Some(row) = condact_row(code) else {
-        unreachable!();
+        unreachable!(); // Each code has a row.
     };
     piece.push(b"[")
         && piece.push(row.trimmed_name())

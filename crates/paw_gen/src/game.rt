@@ -47,6 +47,6 @@ pub fn game_of(alloc: Global, n: u16) -> Result<Game, NoRoom>
     let parts = parts_of(alloc, n)?;
     match Game::new(parts) {
         Ok(game) => Ok(game),
-        Err(_) => unreachable!(),
+        Err(_) => unreachable!(), // The game of a trial is valid.
     }
 }

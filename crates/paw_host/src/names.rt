@@ -139,7 +139,7 @@ impl StoreName {
     {
         match str::from_utf8(self.bytes.as_slice()) {
             Ok(name) => name,
-            Err(_) => unreachable!(),
+            Err(_) => unreachable!(), // The name of a file is ASCII.
         }
     }
 }

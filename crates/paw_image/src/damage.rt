@@ -106,7 +106,7 @@ pub fn damage(alloc: Global, bytes: &[u8]) -> ImageRefusal
     ensures at { AtDamage result (λ at. bad bytes.now ≡ Some at) }
 {
     match pass_whole(alloc, bytes) {
-        Ok(_) => unreachable!(),
+        Ok(_) => unreachable!(), // These bytes are the image of no game.
         Err(refusal) => refusal,
     }
 }

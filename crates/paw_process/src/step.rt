@@ -263,7 +263,7 @@ impl<T: Tables, F: Fn(u8, u8) -> u8> StoryReader<'_, T, F> {
             machine.new surroundings.new.world }
     {
         match effect {
-            Effect::Go => unreachable!(),
+            Effect::Go => unreachable!(), // The caller itself goes on after Go.
             Effect::Exit(acted) => self.leave_level(machine, &mut surroundings.world, acted),
             Effect::Redescribe => machine.stop(Turned::Redescribe),
             Effect::Call(table) => machine.call(table),

@@ -167,7 +167,7 @@ fn machine_in<T: Tables>(tables: &T, fields: &Fields, prompt: Prompt) -> Machine
 {
     match Machine::restore(tables, &frames_in(fields), prompt) {
         Ok(machine) => machine,
-        Err(_) => unreachable!(),
+        Err(_) => unreachable!(), // The frames have no fault.
     }
 }
 

@@ -57,7 +57,7 @@ fn image_of(alloc: Global, game: &Game) -> Result<Vec<u8>, NoRoom>
     match encode(alloc, game) {
         Ok(bytes) => Ok(bytes),
         Err(ImageRefusal::Memory) => Err(NoRoom),
-        Err(ImageRefusal::Damaged { .. }) => unreachable!(),
+        Err(ImageRefusal::Damaged { .. }) => unreachable!(), // The image is within the limit.
     }
 }
 

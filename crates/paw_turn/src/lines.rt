@@ -142,7 +142,7 @@ impl<T: Tables, F: Fn(u8, u8) -> u8> TurnRules<'_, T, F> {
             Prompt::Main => state.hear_line(self.tables, line),
             Prompt::Quit | Prompt::Key => self.hear_answer(state, prompt, line),
             Prompt::Again => state.hear_again(self.tables, line),
-            Prompt::Over => unreachable!(),
+            Prompt::Over => unreachable!(), // Where the game is over, no line is taken.
         }
     }
 
