@@ -8,7 +8,7 @@ use Rattle.std.proofs.lemmas.Bool.{and_parts, and_from, or_from, or_parts, le-lt
 use Rattle.std.proofs.lemmas.Bool.{not-true, not_from_false}
 use Rattle.std.proofs.lemmas.List.{append_assoc, append-nil, replicate_more}
 use Rattle.std.proofs.lemmas.List.Folds.{list_any-append}
-use Rattle.paw_base.specs.declared.limits.TheConstants.{LOCATION_LIMIT}
+use Rattle.paw_base.specs.declared.limits.TheConstants.{LOCATION_LIMIT, EXIT_LIMIT}
 use Rattle.paw_game.specs.declared.parts.Word.{Word}
 use Rattle.paw_game.specs.declared.parts.Exit.{Exit}
 use Rattle.paw_game.specs.Valid.{is_verb_value, are_exits, exits_are_valid}
@@ -189,7 +189,8 @@ locations_read p d es all n m ([] ∷ xss) at scene f is end within h =
     (locations_read p d es (all ++ [] ∷ []) (suc n) m xss at scene (filled_none es n all f) next (omega arith) within both.1)
 locations_read p d es all n m ((x ∷ xs) ∷ xss) at scene f is end within h =
     let both = and_parts (exits_are_valid d.words (length d.locations) (x ∷ xs)) (list_all (exits_are_valid d.words (length d.locations)) xss) h in
-    let these = and_parts (leb (length (x ∷ xs)) 255) (are_exits d.words (length d.locations) (x ∷ xs)) both.0 in
+    let these = and_parts (leb (length (x ∷ xs)) EXIT_LIMIT)
+    (are_exits d.words (length d.locations) (x ∷ xs)) both.0 in
     let next : suc n ≡ length (all ++ (x ∷ xs) ∷ []) = omega (arith, length-append all ((x ∷ xs) ∷ [])) in
     let item = con_item_step p d es all n at scene f (omega arith) in
     let rows = exits_rows p d all [] (x ∷ xs) at scene these.1 (fresh_at_first (x ∷ xs)) in

@@ -7,7 +7,7 @@ use Rattle.std.specs.List.{list_all, flat_map}
 use Rattle.std.specs.Fmt.{decimal}
 use Rattle.std.proofs.lemmas.Bool.{and_parts, leb-true, lt-ltb, eq-eqb, ne_eqb}
 use Rattle.std.proofs.lemmas.List.{append_assoc, append-nil}
-use Rattle.paw_base.specs.declared.limits.TheConstants.{ENTRY_LIMIT}
+use Rattle.paw_base.specs.declared.limits.TheConstants.{ENTRY_LIMIT, CONDACT_LIMIT}
 use Rattle.paw_base.specs.declared.fault.SourceKind.{SourceKind}
 use Rattle.paw_base.specs.declared.parts.Condact.{Condact}
 use Rattle.paw_game.specs.declared.parts.Word.{Word}
@@ -135,11 +135,12 @@ entries_read p g exits ts done (e ∷ es) s few h =
     let both = and_parts (is_entry g e) (list_all (is_entry g) es) h in
     let verb = and_parts (is_wildcard e.verb || is_verb_value g.words e.verb) _ both.0 in
     let noun = and_parts (is_wildcard e.noun || has_word g.words 2 e.noun) _ verb.1 in
-    let cs = and_parts (leb (length e.condacts) 255) (list_all (is_condact g) e.condacts) noun.1 in
+    let cs = and_parts (leb (length e.condacts) CONDACT_LIMIT) (list_all (is_condact g) e.condacts) noun.1 in
     let row : EntryRow g.words e = record { verb = entry_verb_back g.words e.verb s.words verb.0; noun = entry_noun_back g.words e.noun s.words noun.0 } in
     let room : length done < ENTRY_LIMIT = omega (arith, length-append done (e ∷ es), few) in
     let same : (done ++ e ∷ []) ++ es ≡ done ++ e ∷ es = append_assoc done (e ∷ []) es in
-    let rows = condacts_read p g exits ts done e [] e.condacts s (leb-true (length e.condacts) 255 cs.0) cs.1 in
+    let rows = condacts_read p g exits ts done e [] e.condacts s
+    (leb-true (length e.condacts) CONDACT_LIMIT cs.0) cs.1 in
     let rest = entries_read p g exits ts (done ++ e ∷ []) es s (rw same few) both.1 in
     reads_append p _ _ _ (entry_lines g.words e) _ (reads_line p _ _ _ _ _ (entry_step p g exits ts done e row room) rows) (rw same at rest)
 

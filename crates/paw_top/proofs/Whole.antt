@@ -6,6 +6,7 @@ use Rattle.std.specs.List.{list_all, count_by}
 use Rattle.std.proofs.Math.ListN.{length-map}
 use Rattle.std.proofs.lemmas.Bool.{and_parts, and_from, leb-true, le-ltb, eqb-true, ne_eqb}
 use Rattle.paw_base.specs.declared.limits.TheConstants.{IMAGE_LIMIT, LOCATION_LIMIT, SOURCE_LIMIT, WORD_LIMIT}
+use Rattle.paw_base.specs.declared.limits.TheConstants.{OBJECT_LIMIT}
 use Rattle.paw_game.specs.declared.parts.Word.{Word}
 use Rattle.paw_game.specs.declared.parts.Exit.{Exit}
 use Rattle.paw_game.specs.declared.parts.Entry.{Entry}
@@ -65,7 +66,8 @@ rules g v =
     let each = and_parts (list_all is_word g.words) (words_rise g.words) words.1 in
     let system = and_parts (leb (length g.system) 256) (list_all is_text g.system) v.system in
     let messages = and_parts (leb (length g.messages) 256) (list_all is_text g.messages) v.messages in
-    let objects = and_parts (leb (length g.objects) 255) (list_all (is_object g.words (length g.locations)) g.objects) v.objects in
+    let objects = and_parts (leb (length g.objects) OBJECT_LIMIT)
+    (list_all (is_object g.words (length g.locations)) g.objects) v.objects in
     let some = and_parts (leb 1 (length g.locations)) (rows_are_valid LOCATION_LIMIT is_text g.locations) v.locations in
     let locations = and_parts (leb (length g.locations) LOCATION_LIMIT) (list_all is_text g.locations) some.1 in
     let exits = and_parts (eqb (length g.exits) (length g.locations)) (list_all (exits_are_valid g.words (length g.locations)) g.exits) v.exits in
