@@ -4,6 +4,7 @@ use Rattle.std.proofs.Common.{length, arith, length-append}
 use Rattle.std.specs.Prelude.{All}
 use Rattle.std.proofs.lemmas.List.Elements.{All-append}
 use Rattle.paw_base.specs.declared.limits.TheConstants.{LINE_LIMIT}
+use Rattle.paw_base.specs.declared.words.TheConstants.{NO_WORD}
 use Rattle.paw_world.specs.World.{World}
 use Rattle.paw_phrase.specs.declared.Sentence.{Sentence}
 use Rattle.paw_phrase.specs.Sentence.{IsSentence}
@@ -135,7 +136,8 @@ module _ (g : Story) (valid : ValidStory g) (condacts text : ℕ) where
 
   pub line_ready : (line : List ℕ) (r : Run) → IsLine line → Ready r → Ready (line_set line r)
   line_ready line r is h =
-      changed r h (with_timeout false r.world) (timeout_of g.game valid.game false r.world h.world) line is.short 255 (omega arith) r.current r.events h.lines
+      changed r h (with_timeout false r.world) (timeout_of g.game valid.game false r.world h.world) line is.short
+      NO_WORD (omega arith) r.current r.events h.lines
 
   pub taken_ready : (r : Run) → Ready r → (s : Sentence) (left : List ℕ) → length left < length r.pending → coming_phrase g r ≡ IsSentence s left →
       Ready (with_world (turn_counted (taken_phrase s left r).world) (taken_phrase s left r))

@@ -15,6 +15,7 @@ use Rattle.paw_base.specs.declared.flags.TheConstants.{TIMED_OUT_FLAG, PRONOUN_N
 use Rattle.paw_base.specs.declared.flags.TheConstants.{NOUN_FLAG, ADJECTIVE_FLAG, LOOP_FLAG, LOW_TURNS_FLAG}
 use Rattle.paw_base.specs.declared.flags.TheConstants.{HIGH_TURNS_FLAG, LOCATION_FLAG, VERB_FLAG, PREPOSITION_FLAG}
 use Rattle.paw_base.specs.declared.flags.TheConstants.{ADVERB_FLAG, SECOND_NOUN_FLAG, SECOND_ADJECTIVE_FLAG}
+use Rattle.paw_base.specs.declared.words.TheConstants.{NO_WORD}
 use Rattle.paw_game.specs.declared.parts.Entry.{Entry}
 use Rattle.paw_game.specs.Game.{GameLists}
 use Rattle.paw_game.specs.Tables.{table_at, entry_at, condacts_of, facts_at, exit_at}
@@ -217,7 +218,7 @@ module _ (g : Story) (valid : ValidStory g) (seed base : ℕ) where
   heard_so line r k = in_world r k (with_timeout (is_timeout line) r.world) (timeout_so (bound r) (is_timeout line) r.world k.world)
 
   anew_run : (r : Run) → Is r → Is (anew r)
-  anew_run r k = changed r k _ (anew_so g.game v seed (bound r) r.world k.world) [] no_line 255 (omega arith) None
+  anew_run r k = changed r k _ (anew_so g.game v seed (bound r) r.world k.world) [] no_line NO_WORD (omega arith) None
 
   spoken_so : (n : ℕ) (s : Sentence) (w : World) → AreWords s → IsWorldAt g.game seed n w → IsWorldAt g.game seed n (with_sentence s w)
   spoken_so n s w b k =
@@ -536,7 +537,8 @@ module _ (g : Story) (valid : ValidStory g) (seed base : ℕ) where
     read_sounds t r k = table_done_sounds t (table_read g t r) (table_sounds t r k)
 
     line_set_so : (line : List ℕ) (r : Run) → IsLine line → Is r → Is (line_set line r)
-    line_set_so line r is k = changed r k _ (timeout_so (bound r) false r.world k.world) line is 255 (omega arith) r.turning
+    line_set_so line r is k = changed r k _ (timeout_so (bound r) false r.world k.world) line is NO_WORD
+        (omega arith) r.turning
 
     at_main_sounds : (r : Run) (lines : List (List ℕ)) → Rests r → AreLines lines → EndsSound (at_main g go r lines)
     unfolding at_main
