@@ -198,13 +198,17 @@ fn lower(first: Option<u16>, second: Option<u16>) -> Option<u16>
     }
 }
 
-// The least entry not below `from` that is kept with this verb, and whose noun matches.
+// The least entry not below `from` that is kept with this verb, and whose noun matches. A sentence with no noun looks
+// for none but those of any noun.
 fn first_for(order: &Order, verb: u8, noun: u8, from: u16) -> Option<u16>
     requires sorted { IsSorted order.now }
     ensures least { IsLeast (IsMatch order.now.ranks.items (λ v n. (v == verb) && is_kept_for n noun) from) result }
 {
     let run = run_of(order, verb);
     let none = first_with(run, verb, NO_WORD, from);
+    if noun == NO_WORD {
+        return none;
+    }
     let same = first_with(run, verb, noun, from);
     lower(none, same)
 }
