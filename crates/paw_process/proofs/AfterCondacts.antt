@@ -1,5 +1,5 @@
 -- Reading on in a table, condact by condact and entry by entry.
-use Rattle.std.proofs.Common.{◌≡◌, ℕ, ◌<◌, ◌≤◌, List, ◌∷◌, Option, Some, None, refl, sym, ap, ◌∙◌, suc, length, arith}
+use Rattle.std.proofs.Common.{◌≡◌, ℕ, ◌<◌, ◌≤◌, ◌+◌, List, ◌∷◌, Option, Some, None, refl, sym, ap, ◌∙◌, suc, length, arith}
 use Rattle.std.specs.Prelude.{IfSome, IfNone}
 use Rattle.std.specs.Option.{option_map}
 use Rattle.std.specs.Fn.{Shared}
@@ -21,7 +21,7 @@ use Rattle.paw_process.specs.inner.Meaning.{Held, run_held}
 use Rattle.paw_process.specs.inner.Moves.{ReadsTable, reading_at, Enters, EntersNone}
 use Rattle.paw_process.specs.inner.AfterCondact.{with_frame, frame_of, moved_on, going_at, IsInTable}
 use Rattle.paw_process.specs.inner.Steps.{IsReady, MayReadNext, HasMoved, IsAfterReading, HasStepped}
-use Rattle.paw_process.specs.inner.Work.{machine_work, Progress, falls, stays}
+use Rattle.paw_process.specs.inner.Work.{machine_work, frames_work, loop_work, Progress, falls, stays}
 use Rattle.paw_process.specs.declared.Turned.{Turned}
 use Rattle.paw_process.specs.declared.after_condact.AfterCondact.{AfterCondact}
 use Rattle.paw_process.specs.declared.after_condact.AfterCondact.TheVariants as after_condact
@@ -97,8 +97,8 @@ enters_match g w f (Some c) zero found table start reached small = (
 
 -- Then the table is left.
 pub left_on : (g : GameLists) (m : OpenTables) (f : Frame) (w : World) (t : Option Turned) (new : OpenTables) (w' : World)
-    → HasMoved g (with_frame f m) w t new w' → machine_work new < machine_work (with_frame f m) → Progress (with_frame f m) new
-left_on g m f w t new w' moved less = falls moved.left.left less
+    → HasMoved g m w t new w' → machine_work new ≤ frames_work (below m.frames) + loop_work m.turning → Progress (with_frame f m) new
+left_on g m f w t new w' moved less = falls moved.left.left (omega arith)
 
 module _ {F : Type 0} (calls : Shared F (ℕ × (ℕ × Unit {0})) ℕ) (routines : Routines F) (g : GameLists) where
   -- Where reading on begins.

@@ -9,17 +9,14 @@ use Rattle.paw_process.specs.inner.AfterCondact.{with_frame}
 use Rattle.paw_process.specs.inner.Work.{frames_work, loop_work, machine_work, Progress, counts, falls}
 use Rattle.paw_process.specs.inner.Work.{IsNoFurther, counted, stays}
 
-top_work : (fs : List Frame) → 0 < length fs → 1 + frames_work (below fs) ≤ frames_work fs
-top_work [] h = absurd (omega arith)
-top_work (f ∷ fs) h = omega arith
-
 -- The open loop takes a later object.
-pub taking_falls : (old new : OpenTables) (f : Frame) (l l' : OpenLoop) → 0 < length old.frames → old.turning ≡ Some l
-    → new.frames ≡ f ∷ below old.frames → new.turning ≡ Some l' → l.last < l'.last → l'.last < 256 → machine_work new < machine_work old
-taking_falls old new f l l' some is ef et later low =
+pub taking_falls : (old new : OpenTables) (f : Frame) (l l' : OpenLoop) → old.turning ≡ Some l
+    → new.frames ≡ f ∷ below old.frames → new.turning ≡ Some l' → l.last < l'.last → l'.last < 256
+    → machine_work new ≤ frames_work (below old.frames) + loop_work old.turning
+taking_falls old new f l l' is ef et later low =
     let a : machine_work new ≡ (4001 - f.entry) + 1 + frames_work (below old.frames) + (256 - l'.last) * 5000 = rw (ef, et) refl in
-    let b : machine_work old ≡ frames_work old.frames + (256 - l.last) * 5000 = rw is refl in
-    omega (arith, top_work old.frames some)
+    let b : loop_work old.turning ≡ (256 - l.last) * 5000 = rw is refl in
+    omega arith
 
 frames_bound : (fs : List Frame) → frames_work fs ≤ 4002 * length fs
 frames_bound [] = omega arith

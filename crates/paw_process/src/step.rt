@@ -1,6 +1,6 @@
 // The reading of one condact, and how reading goes on after it.
 
-ghost use Rattle.std.specs.Prelude.{◌≡◌, ◌+◌, ◌-◌, ◌<◌, [], ◌∷◌, length};
+ghost use Rattle.std.specs.Prelude.{◌≡◌, ◌+◌, ◌-◌, ◌<◌, ◌≤◌, [], ◌∷◌, length};
 ghost use Rattle.std.specs.Prelude.{Bool, true, false, Some, None, IfNone, IfSome, IsNone, if◌then◌else◌};
 ghost use Rattle.paw_base.specs.Bytes.{RoutineAnswers};
 ghost use Rattle.paw_base.specs.declared.limits.TheConstants.{ENTRY_LIMIT};
@@ -26,10 +26,10 @@ ghost use Rattle.paw_process.specs.inner.Moves.{Continues, StandsOrStopped, with
 ghost use Rattle.paw_process.specs.inner.Moves.{acted_at};
 ghost use Rattle.paw_process.specs.inner.Moves.{next_of, past_of, loop_at_frames, reading_at, Enters, EntersNone};
 ghost use Rattle.paw_process.specs.inner.Moves.{ReadsTable, ReadsOne};
-ghost use Rattle.paw_process.specs.inner.Steps.{IsReady, IsInnermost, MayReadOne, MayReadNext, HasMoved, HasStepped};
+ghost use Rattle.paw_process.specs.inner.Steps.{IsReady, MayReadOne, MayReadNext, HasMoved, HasStepped};
 ghost use Rattle.paw_process.specs.inner.AfterCondact.{with_frame, frame_of, moved_on, stop_after_condact, held_at};
 ghost use Rattle.paw_process.specs.inner.AfterCondact.{ReachesTable};
-ghost use Rattle.paw_process.specs.inner.Work.{machine_work, frames_work, Progress};
+ghost use Rattle.paw_process.specs.inner.Work.{machine_work, frames_work, loop_work, Progress};
 ghost use Rattle.paw_process.specs.declared.after_condact.AfterCondact.TheVariants as after_condact;
 ghost use Rattle.paw_world.specs.inner.Places.{left_above};
 
@@ -79,7 +79,7 @@ impl Machine {
             Continues g (along g (below self.old.frames) (Left acted r)) result self.new.frames r }
         ensures stands { StandsOrStopped result self.new }
         ensures same { self.new ≡ record self.old { frames = self.new.frames } }
-        ensures falls { frames_work self.new.frames < frames_work self.old.frames }
+        ensures falls { frames_work self.new.frames ≤ frames_work (below self.old.frames) }
     {
         self.pop();
         if self.depth() == 0 {
@@ -173,7 +173,7 @@ impl<T: Tables, F: Fn(u8, u8) -> u8> StoryReader<'_, T, F> {
             result machine.new.frames (looping world.new machine.new.turning r) }
         ensures after { HasMoved (T.game self.now.tables.now) machine.old world.old result machine.new world.new }
         ensures falls { machine.old.turning ≡ Some l → above ≡ Some l.last →
-            machine_work machine.new < machine_work machine.old }
+            machine_work machine.new ≤ frames_work (below machine.old.frames) + loop_work machine.old.turning }
     {
         match next_taken(self.tables, world, l.place, above) {
             Some(o) => {
@@ -209,7 +209,7 @@ impl<T: Tables, F: Fn(u8, u8) -> u8> StoryReader<'_, T, F> {
             (Left acted (looping world.old machine.old.turning r)))
             result machine.new.frames (looping world.new machine.new.turning r) }
         ensures after { HasMoved (T.game self.now.tables.now) machine.old world.old result machine.new world.new }
-        ensures falls { machine_work machine.new < machine_work machine.old }
+        ensures falls { machine_work machine.new ≤ frames_work (below machine.old.frames) + loop_work machine.old.turning }
     {
         let level = machine.depth() - 1;
         match machine.turning() {
@@ -226,7 +226,7 @@ impl<T: Tables, F: Fn(u8, u8) -> u8> StoryReader<'_, T, F> {
     // Takes the next phrase: after a sentence reading goes on at the next entry, otherwise at the next condact.
     fn parse(&self, machine: &mut Machine, surroundings: &mut Surroundings, f: Frame)
         requires ready { IsReady (T.game self.now.tables.now) machine.old surroundings.old.world }
-        requires at { IsInnermost f machine.old }
+        requires place { IsAtCondact f }
         ensures meaning { (X : RoutineAnswers) (r : Run) → let g = story_of (T.game self.now.tables.now) X in
             loop_resolved g (below machine.old.frames)
             (parses g f (next_of g (below machine.old.frames) f) (past_of g (below machine.old.frames) f)
@@ -253,7 +253,7 @@ impl<T: Tables, F: Fn(u8, u8) -> u8> StoryReader<'_, T, F> {
         effect: Effect,
     ) -> Option<Turned>
         requires ready { IsReady (T.game self.now.tables.now) machine.old surroundings.old.world }
-        requires at { IsInnermost f machine.old }
+        requires place { IsAtCondact f }
         requires elsewhere { effect ≡ effects.Go → ⊥ }
         ensures meaning { (X : RoutineAnswers) (r : Run) → let g = story_of (T.game self.now.tables.now) X in
             Continues g
@@ -266,12 +266,16 @@ impl<T: Tables, F: Fn(u8, u8) -> u8> StoryReader<'_, T, F> {
             Effect::Go => unreachable!(), // The caller itself goes on after Go.
             Effect::Exit(acted) => self.leave_level(machine, &mut surroundings.world, acted),
             Effect::Redescribe => machine.stop(Turned::Redescribe),
-            Effect::Call(table) => machine.call(table),
+            Effect::Call(table) => {
+                machine.set_top(f);
+                machine.call(table)
+            }
             Effect::Loop(place) => {
                 let l = machine.loop_at(f, place);
                 self.next_object(machine, &mut surroundings.world, l, None)
             }
             Effect::Ask(prompt) => {
+                machine.set_top(f);
                 machine.set_waiting(Some(prompt));
                 Some(Turned::Waits(prompt))
             }
@@ -303,10 +307,7 @@ impl<T: Tables, F: Fn(u8, u8) -> u8> StoryReader<'_, T, F> {
     {
         match effect {
             Effect::Go => AfterCondact::Next(true),
-            effect => {
-                machine.set_top(f);
-                AfterCondact::Moved(self.go_elsewhere(machine, surroundings, f, effect))
-            }
+            effect => AfterCondact::Moved(self.go_elsewhere(machine, surroundings, f, effect)),
         }
     }
 
@@ -523,7 +524,6 @@ impl<T: Tables, F: Fn(u8, u8) -> u8> StoryReader<'_, T, F> {
         let _counts = self.tables.counts();
         'entries: loop {
             let Some(start) = self.enter(&surroundings.world, *f) else {
-                machine.set_top(*f);
                 let turned = self.leave_level(machine, &mut surroundings.world, f.acted);
                 machine.take_top(turned, f);
                 return turned;

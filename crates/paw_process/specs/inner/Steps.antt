@@ -1,5 +1,5 @@
 -- What the machine needs to read a condact, and what stays the same then.
-use Rattle.std.specs.Prelude.{◌≡◌, ℕ, ◌+◌, ◌-◌, ◌<◌, ◌≤◌, ◌^◌, true, ◌∷◌, Option}
+use Rattle.std.specs.Prelude.{◌≡◌, ℕ, ◌+◌, ◌-◌, ◌<◌, ◌≤◌, ◌^◌, true, Option}
 use Rattle.std.specs.Fn.{Shared}
 use Rattle.paw_base.specs.declared.parts.Condact.{Condact}
 use Rattle.paw_game.specs.Game.{GameLists}
@@ -10,7 +10,7 @@ use Rattle.paw_routines.specs.Routines.{HaveAnswers}
 use Rattle.paw_effects.specs.Worlds.{IsOf}
 use Rattle.paw_reading.specs.declared.frames.Frame.{Frame}
 use Rattle.paw_process.specs.inner.OpenTables.{OpenTables}
-use Rattle.paw_process.specs.inner.OpenTables.{below, ReadsNone, IsAtCondact, IsReading}
+use Rattle.paw_process.specs.inner.OpenTables.{ReadsNone, IsAtCondact, IsReading}
 use Rattle.paw_process.specs.inner.Meaning.{Held}
 use Rattle.paw_process.specs.inner.Moves.{StandsOrStopped}
 use Rattle.paw_process.specs.declared.Turned.{Turned}
@@ -26,11 +26,6 @@ pub record MayReadNext {F : Type 0} (calls : Shared F (ℕ × (ℕ × Unit {0}))
   pub ready : IsReady g m w
   pub answers : HaveAnswers calls routines
   pub draws : w.draws + m.left < 2 ^ 64
-
--- The innermost frame is this one, and it stands at a condact.
-pub record IsInnermost (f : Frame) (m : OpenTables) : Type 0 where
-  pub top : m.frames ≡ f ∷ below m.frames
-  pub place : IsAtCondact f
 
 -- This condact of a frame may be read: the budget isn't used up, and the world can make one draw more.
 pub record MayReadOne (g : GameLists) (f : Frame) (c : Condact) (m : OpenTables) (w : World) : Type 0 where

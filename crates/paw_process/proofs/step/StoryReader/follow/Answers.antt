@@ -15,4 +15,4 @@ returns-in-Go-clause-meaning g c X r =
     acted_as game fs c.args.f c.args.effect effect.Go now c.in-Go.is ∙ acted_go game fs c.args.f now
 
 pub returns-in_default-clause-meaning : goal.returns-in_default-clause-meaning
-returns-in_default-clause-meaning g c X r = rw c.set_top.ensures.value at (c.go_elsewhere.ensures.meaning X r)
+returns-in_default-clause-meaning g c X r = c.go_elsewhere.ensures.meaning X r

@@ -1,4 +1,4 @@
-use Rattle.std.proofs.Common.{refl, ◌∙◌, length}
+use Rattle.std.proofs.Common.{refl, ◌∙◌, ◌∷◌, length}
 use Rattle.paw_base.specs.declared.fault.SpentKind.TheVariants as spent
 use Rattle.paw_effects.specs.Story.{story_of}
 use Rattle.paw_effects.specs.declared.act.Effect.TheVariants as effect
@@ -31,11 +31,12 @@ returns-in-Redescribe-clause-meaning g c X r =
 pub returns-in-Call-clause-meaning : goal.returns-in-Call-clause-meaning
 returns-in-Call-clause-meaning g c X r =
     let game = story_of (g.T.Tables.game c.args.self.now.tables.now) X in
+    let fs = below c.args.machine.now.frames in
     let now = run_held (having c.args.surroundings.now c.args.machine.now) r in
     goes_from game _ _ c.call.result c.call.new.self.frames (run_held (having c.args.surroundings.now c.call.new.self) r)
-    (acted_as game (below c.args.machine.now.frames) c.args.f c.args.effect (effect.Call c.in-Call.table) now c.in-Call.is
-    ∙ call_at game c.args.machine.now.frames c.args.f c.in-Call.table now c.requires.at.top)
-    (c.call.ensures.meaning game now)
+    (acted_as game fs c.args.f c.args.effect (effect.Call c.in-Call.table) now c.in-Call.is
+    ∙ call_at game (c.args.f ∷ fs) c.args.f c.in-Call.table now refl)
+    (rw c.set_top.ensures.value at (c.call.ensures.meaning game now))
 
 pub returns-in-Loop-clause-meaning : goal.returns-in-Loop-clause-meaning
 returns-in-Loop-clause-meaning g c X r =
@@ -52,10 +53,11 @@ returns-in-Loop-clause-meaning g c X r =
 pub returns-in-Ask-clause-meaning : goal.returns-in-Ask-clause-meaning
 returns-in-Ask-clause-meaning g c X r =
     let game = story_of (g.T.Tables.game c.args.self.now.tables.now) X in
+    let fs = below c.args.machine.now.frames in
     let now = run_held (having c.args.surroundings.now c.args.machine.now) r in
-    rw c.set_waiting.ensures.value
-    (acted_as game (below c.args.machine.now.frames) c.args.f c.args.effect (effect.Ask c.in-Ask.prompt) now c.in-Ask.is
-    ∙ ask_at game c.args.machine.now.frames (below c.args.machine.now.frames) c.args.f c.in-Ask.prompt now c.requires.at.top)
+    rw (c.set_waiting.ensures.value, c.set_top-in-Ask.ensures.value)
+    (acted_as game fs c.args.f c.args.effect (effect.Ask c.in-Ask.prompt) now c.in-Ask.is
+    ∙ ask_at game (c.args.f ∷ fs) fs c.args.f c.in-Ask.prompt now refl)
 
 pub returns-in-Spent-clause-meaning : goal.returns-in-Spent-clause-meaning
 returns-in-Spent-clause-meaning g c X r =

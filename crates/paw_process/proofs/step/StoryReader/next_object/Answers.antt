@@ -27,7 +27,7 @@ returns-in-Some-clause-falls g c is above =
     let next : Option ℕ → Option ℕ = λ a. least_taken (g.T.Tables.game c.args.self.now.tables.now) w c.args.l.place (left_above w.places a) in
     let found : Some c.in-Some.o ≡ next (Some c.args.l.last) = c.in-Some.ensures.value ∙ ap next above in
     let f : Frame = record { table = c.args.l.table; entry = c.args.l.entry; at = c.args.l.at + 1; acted = true } in
-    taking_falls c.args.machine.now c.set_top.new.self f c.args.l (record c.args.l { last = c.in-Some.o }) c.requires.ready.reading.tables.some is
+    taking_falls c.args.machine.now c.set_top.new.self f c.args.l (record c.args.l { last = c.in-Some.o }) is
     (ap (λ m. m.frames) c.set_top.ensures.value ∙ ap (λ m. f ∷ below m.frames) c.set_open_loop.ensures.value)
     (ap (λ m. m.turning) c.set_top.ensures.value ∙ ap (λ m. m.turning) c.set_open_loop.ensures.value)
     (taken_above _ w c.args.l.place c.args.l.last c.in-Some.o c.requires.ready.game.places found) (omega arith)

@@ -4,7 +4,7 @@ use Rattle.paw_base.specs.inner.Steps.{KeptSteps}
 use Rattle.paw_effects.specs.Story.{story_of}
 use Rattle.paw_reading.specs.declared.frames.Frame.{Frame}
 use Rattle.paw_process.proofs.Readings.{reads_nothing}
-use Rattle.paw_process.proofs.AfterCondacts.{ready_at_frame, stepped_on, stepped_at_frame, left_on}
+use Rattle.paw_process.proofs.AfterCondacts.{stepped_on, stepped_at_frame, left_on}
 use Rattle.paw_process.proofs.AfterCondacts.{table_starts, entry_starts, reading_goes_on, table_goes_on, entry_goes_on}
 use Rattle.paw_process.proofs.Stops.{goes_from}
 use Rattle.paw_process.proofs.Works.{progresses, progress_on}
@@ -26,11 +26,7 @@ pub enter-requires : goal.enter-requires
 enter-requires g c = record { place = c.entries.invariant.place }
 
 pub leave_level-turned-requires : goal.leave_level-turned-requires
-leave_level-turned-requires g c = record {
-  ready = rw c.set_top.ensures.value
-      (ready_at_frame (g.T.Tables.game c.args.self.now.tables.now) c.entries.machine c.entries.surroundings.world c.entries.f
-      c.entries.invariant.table.may.ready c.entries.invariant.place);
-}
+leave_level-turned-requires g c = record { ready = c.entries.invariant.table.may.ready }
 
 pub returns-in_default-clause-meaning : goal.returns-in_default-clause-meaning
 returns-in_default-clause-meaning g c X answers =
@@ -39,13 +35,13 @@ returns-in_default-clause-meaning g c X answers =
     let now = having c.entries.surroundings c.entries.machine in
     let left = c.leave_level-turned in
     let new = having (record c.entries.surroundings { world = left.new.world }) left.new.machine in
-    let none = rw c.set_top.ensures.value at left.ensures.after.left in
+    let none = left.ensures.after.left in
     rw c.take_top.ensures.held
     (c.entries.invariant.table.leads X answers left.result new
     (reads_nothing game (going_at game fs c.entries.f) now left.result new (record { left = none.left; steps = none.steps })
     (λ r. goes_from game _ _ left.result left.new.machine.frames (run_held new r)
     (c.in_default.ensures.none X fs (run_held now r) refl)
-    (rw c.set_top.ensures.value at (left.ensures.meaning X (run_held now r))))))
+    (left.ensures.meaning X (run_held now r)))))
 
 pub returns-in_default-clause-progress : goal.returns-in_default-clause-progress
 returns-in_default-clause-progress g c none =
@@ -54,14 +50,14 @@ returns-in_default-clause-progress g c none =
     (progress_on (with_frame c.args.f.now c.args.machine.now) (with_frame c.entries.f c.entries.machine) left.new.machine
     c.entries.invariant.table.further
     (left_on (g.T.Tables.game c.args.self.now.tables.now) c.entries.machine c.entries.f c.entries.surroundings.world left.result left.new.machine
-    left.new.world (rw c.set_top.ensures.value at left.ensures.after) (rw c.set_top.ensures.value at left.ensures.falls)))
+    left.new.world left.ensures.after left.ensures.falls))
 
 pub returns-in_default-clause-after : goal.returns-in_default-clause-after
 returns-in_default-clause-after g c =
     let left = c.leave_level-turned in
     let now = having c.entries.surroundings c.entries.machine in
     let new = having (record c.entries.surroundings { world = left.new.world }) left.new.machine in
-    let moved = rw c.set_top.ensures.value at left.ensures.after in
+    let moved = left.ensures.after in
     stepped_on (g.T.Tables.game c.args.self.now.tables.now) (having c.args.surroundings.now c.args.machine.now) now left.result new
     c.entries.invariant.table.after
     (record {
