@@ -155,6 +155,53 @@ impl Machine {
 }
 
 impl<T: Tables, F: Fn(u8, u8) -> u8> StoryReader<'_, T, F> {
+    // Lets the innermost table's loop take its next object above this one, or its first one: reading goes on after the
+    // loop's DOALL. False exactly where none is left, and then nothing changes.
+    #[inline(never)] // Its answer comes in a register, and what is done where none is left stands where it is called.
+    fn takes_object(
+        &self,
+        machine: &mut Machine,
+        world: &mut World,
+        l: OpenLoop,
+        above: Option<u8>,
+    ) -> bool
+        requires ready { IsReady (T.game self.now.tables.now) machine.old world.old }
+        requires own { IsLoopWithin (length machine.old.frames) l }
+        requires level { l.level ≡ length (below machine.old.frames) }
+        ensures meaning { (X : RoutineAnswers) (r : Run) → let g = story_of (T.game self.now.tables.now) X in
+            loop_at_frames g (below machine.old.frames) l (left_above world.old.places above)
+            (looping world.old machine.old.turning r)
+            ≡ if result then going_in g machine.new.frames (looping world.new machine.new.turning r)
+            else along g (below machine.old.frames) (Left true (looping world.old None r)) }
+        ensures after { HasMoved (T.game self.now.tables.now) machine.old world.old None machine.new world.new }
+        ensures same { result ≡ false → machine.new ≡ machine.old }
+        ensures world { result ≡ false → world.new ≡ world.old }
+        ensures falls { result ≡ true → machine.old.turning ≡ Some l → above ≡ Some l.last →
+            machine_work machine.new ≤ frames_work (below machine.old.frames) + loop_work machine.old.turning }
+    {
+        match next_taken(self.tables, world, l.place, above) {
+            Some(o) => {
+                take(self.tables, world, o);
+                machine.set_open_loop(Some(OpenLoop {
+                    level: l.level,
+                    table: l.table,
+                    entry: l.entry,
+                    at: l.at,
+                    place: l.place,
+                    last: o,
+                }));
+                machine.set_top(Frame {
+                    table: l.table,
+                    entry: l.entry,
+                    at: l.at + 1,
+                    acted: true,
+                });
+                true
+            }
+            None => false,
+        }
+    }
+
     // Lets the innermost table's loop take its next object above this one, or its first one. With none left the loop
     // is closed, and the table is left with an action carried out.
     fn next_object(
@@ -175,30 +222,11 @@ impl<T: Tables, F: Fn(u8, u8) -> u8> StoryReader<'_, T, F> {
         ensures falls { machine.old.turning ≡ Some l → above ≡ Some l.last →
             machine_work machine.new ≤ frames_work (below machine.old.frames) + loop_work machine.old.turning }
     {
-        match next_taken(self.tables, world, l.place, above) {
-            Some(o) => {
-                take(self.tables, world, o);
-                machine.set_open_loop(Some(OpenLoop {
-                    level: l.level,
-                    table: l.table,
-                    entry: l.entry,
-                    at: l.at,
-                    place: l.place,
-                    last: o,
-                }));
-                machine.set_top(Frame {
-                    table: l.table,
-                    entry: l.entry,
-                    at: l.at + 1,
-                    acted: true,
-                });
-                None
-            }
-            None => {
-                machine.set_open_loop(None);
-                machine.leave(true)
-            }
+        if self.takes_object(machine, world, l, above) {
+            return None;
         }
+        machine.set_open_loop(None);
+        machine.leave(true)
     }
 
     // Leaves the innermost table or, where its level's loop is open, takes the next object.
