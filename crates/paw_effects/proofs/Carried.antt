@@ -56,12 +56,12 @@ second_alike code is = go (is_indirect code) refl
 
 -- ---- what is carried out ----
 
--- An indirect condact takes the value of its flag.
-pub taken : (g : GameLists) (w : World) (c : Condact) (value : ℕ) (found : Option Condact) → is_indirect c.code ≡ true → value ≡ flag w c.a
-    → found ≡ plain_with g c value → found ≡ as_plain g w c
+-- An indirect condact takes the value of its flag, where it may.
+pub taken : (g : GameLists) (w : World) (c : Condact) (code value : ℕ) (may : Bool) → is_indirect c.code ≡ true
+    → code ≡ plain_code c.code → value ≡ flag w c.a → may ≡ is_argument g (first_kind (plain_code c.code)) value
+    → ◌≡◌ {A = Option Condact} (if may then Some (record { code = code; a = value; b = c.b }) else None) (as_plain g w c)
 unfolding as_plain
-taken g w c value found e same is =
-    is ∙ (ap (λ x. plain_with g c x) same ∙ sym (ap (λ (b : Bool). if b then plain_with g c (flag w c.a) else Some c) e))
+taken g w c code value may e ec ev em = rw (em, ev, ec, e) refl
 
 module _ (g : GameLists) (w : World) (c d : Condact) (is : as_plain g w c ≡ Some d) where
   -- It is the condact itself, or the plain one with the value of the flag.

@@ -1,18 +1,18 @@
 // Condacts that take their first parameter from a flag.
 
 ghost use Rattle.std.specs.Prelude.{◌≡◌, true, IfSome};
-ghost use Rattle.paw_base.specs.Condacts.{is_indirect};
-ghost use Rattle.paw_base.specs.inner.Condacts.{IsPlainCode};
+ghost use Rattle.paw_base.specs.Condacts.{first_kind, plain_code};
+ghost use Rattle.paw_base.specs.inner.Condacts.{IsCode, IsPlainCode};
 ghost use Rattle.paw_game.specs.Valid.{is_argument};
 ghost use Rattle.paw_game.specs.inner.Valid.{is_right};
 ghost use Rattle.paw_effects.specs.Holds.{is_condition};
-ghost use Rattle.paw_effects.specs.Indirect.{as_plain, plain_with};
+ghost use Rattle.paw_effects.specs.Indirect.{as_plain};
 ghost use Rattle.paw_world.specs.World.{flag};
 
 use paw_base::codes::INDIRECT;
 use paw_base::parts::Condact;
 use paw_base::places::NOT_CREATED_PLACE;
-use paw_base::rows::{ParamKind, condact_row, plain_code};
+use paw_base::rows::{ParamKind, plain_code, plain_kinds};
 use paw_game::tables::Tables;
 use paw_world::world::World;
 
@@ -35,25 +35,17 @@ fn is_argument<T: Tables>(tables: &T, kind: ParamKind, value: u8) -> bool
     }
 }
 
-// The plain condact of an indirect one, with this value as its first parameter. None exactly where the value breaks
-// the rule of what that parameter names. It is a function of its own, and cold, because few condacts of a game are
-// indirect: the loop that reads them then keeps what it needs in registers.
+// Whether a value follows the rule of what the first parameter of this code's plain one names. It is a function of its
+// own, and cold, because few condacts of a game are indirect: the loop that reads them then keeps what it needs in
+// registers.
 #[cold]
 #[inline(never)]
-fn plain_with<T: Tables>(tables: &T, c: Condact, value: u8) -> Option<Condact>
-    requires indirect { is_indirect c.code ≡ true }
-    ensures value { result ≡ plain_with (T.game tables.now) c value }
+fn is_first_argument<T: Tables>(tables: &T, code: u8, value: u8) -> bool
+    requires code { IsCode code }
+    ensures value { result ≡ is_argument (T.game tables.now) (first_kind (plain_code code)) value }
 {
-    let code = plain_code(c.code);
-    let row = condact_row(code)?;
-    if !is_argument(tables, row.first, value) {
-        return None;
-    }
-    Some(Condact {
-        code,
-        a: value,
-        b: c.b,
-    })
+    let (first, _) = plain_kinds(code);
+    is_argument(tables, first, value)
 }
 
 /// The plain condact that is carried out: an indirect one takes the value of its flag. None exactly where that value
@@ -65,9 +57,18 @@ pub(crate) fn as_plain<T: Tables>(tables: &T, world: &World, c: Condact) -> Opti
     ensures right { IfSome result (λ d. is_right (T.game tables.now) d ≡ true) }
     ensures kind { IfSome result (λ d. is_condition d ≡ is_condition c) }
 {
+    let code = plain_code(c.code);
     if c.code < INDIRECT {
-        Some(c)
+        return Some(Condact { code, ..c });
+    }
+    let value = world.flag(c.a);
+    if is_first_argument(tables, c.code, value) {
+        Some(Condact {
+            code,
+            a: value,
+            b: c.b,
+        })
     } else {
-        plain_with(tables, c, world.flag(c.a))
+        None
     }
 }
