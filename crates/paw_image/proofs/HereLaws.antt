@@ -83,7 +83,7 @@ here_from zero (x ∷ bytes) b h = rw (same_Some x b h) refl
 here_from (suc p) (x ∷ bytes) b h = here_from p bytes b h
 
 -- The byte at an offset is the first of the bytes from there on.
-here : (p : ℕ) (bytes : List ℕ) (b : ℕ) → slice_get bytes p ≡ Some b → drop p bytes ≡ b ∷ drop (p + 1) bytes
+pub here : (p : ℕ) (bytes : List ℕ) (b : ℕ) → slice_get bytes p ≡ Some b → drop p bytes ≡ b ∷ drop (p + 1) bytes
 here p bytes b h = let next : p + 1 ≡ suc p = omega arith in rw next (here_from p bytes b h)
 
 nothing_here : (p : ℕ) (bytes : List ℕ) → slice_get bytes p ≡ None → drop p bytes ≡ []

@@ -23,6 +23,7 @@ pub mod PlaceLaws
 pub mod RowLaws
 pub mod SoundRows
 pub mod Stands
+pub mod TextLaws
 pub mod ValidLaws
 pub mod VersionLaws
 pub mod ViewLaws

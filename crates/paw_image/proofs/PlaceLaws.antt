@@ -69,6 +69,11 @@ no_row image [] at k h = refl
 no_row image (x ∷ xs) at zero h = absurd (none-some at (sym h))
 no_row image (x ∷ xs) at (suc k) h = no_row image xs (at + length (image x)) k h
 
+some_row : {A : Type 0} (image : A → List ℕ) (xs : List A) (at k p : ℕ) → slice_get (offsets image at xs) k ≡ Some p → slice_get xs k ≡ None → ⊥
+some_row image [] at k p h none = none-some p h
+some_row image (x ∷ xs) at zero p h none = none-some x (sym none)
+some_row image (x ∷ xs) at (suc k) p h none = some_row image xs (at + length (image x)) k p h none
+
 -- ---- the lists ----
 
 -- What stands where each list begins.
@@ -147,6 +152,21 @@ no_text_of_part g part.Objects k h = rw (no_row object_image g.objects (objects_
 no_text_of_part g part.Locations k h = no_row text_image g.locations (locations_begin g) k h
 no_text_of_part g part.Exits k h = refl
 no_text_of_part g part.Tables k h = refl
+
+no_object : (found : Option ObjectRow) → option_map (λ (o : ObjectRow). o.text) found ≡ None → found ≡ None
+no_object None none = refl
+no_object (Some o) none = absurd (none-some o.text (sym none))
+
+-- Where a row begins there is a text.
+pub some_text_of_part : (g : GameLists) (p : GamePart) (k at : ℕ) → slice_get (rows_begin g p) k ≡ Some at → text_at g p k ≡ None → ⊥
+some_text_of_part g part.Words k at h none = none-some at h
+some_text_of_part g part.System k at h none = some_row text_image g.system (system_begins g) k at h none
+some_text_of_part g part.Messages k at h none = some_row text_image g.messages (messages_begin g) k at h none
+some_text_of_part g part.Objects k at h none =
+    some_row object_image g.objects (objects_begin g) k at h (no_object (slice_get g.objects k) none)
+some_text_of_part g part.Locations k at h none = some_row text_image g.locations (locations_begin g) k at h none
+some_text_of_part g part.Exits k at h none = none-some at h
+some_text_of_part g part.Tables k at h none = none-some at h
 
 -- ---- objects ----
 

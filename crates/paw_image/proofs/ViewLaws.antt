@@ -35,7 +35,7 @@ use Rattle.paw_image.proofs.FieldLaws.{IsBytes}
 use Rattle.paw_image.proofs.GameLaws.{all_takes}
 use Rattle.paw_image.proofs.MatchLaws.{next_match_is}
 use Rattle.paw_image.proofs.PlaceLaws.{all_at, ListsAt, lists_lie, RowAt, table_lies, no_table, entry_lies, no_entry}
-use Rattle.paw_image.proofs.PlaceLaws.{text_of_part, head_there, condact_there, entry_bytes_there}
+use Rattle.paw_image.proofs.PlaceLaws.{some_text_of_part, text_of_part, head_there, condact_there, entry_bytes_there}
 use Rattle.paw_image.proofs.ValidLaws.{valid_fits}
 use Rattle.paw_image.proofs.WholeLaws.{all_sound, both_none, nothing_left, image_is_whole}
 
@@ -88,6 +88,12 @@ pub text_read : (bytes : List ℕ) → IsImage bytes (game_read bytes) → (p : 
     → slice_get (rows_begin (game_read bytes) p) k ≡ Some at
     → value_of (inner_reading.sized_text_at (drop at bytes)) ≡ text_at (game_read bytes) p k
 text_read bytes is p k at h = text_of_part bytes (game_read bytes) (lists_of bytes is) (fits_of bytes is) p k at h
+
+-- Where a row begins a text is read.
+pub text_begins : (bytes : List ℕ) → IsImage bytes (game_read bytes) → (p : GamePart) (k at : ℕ)
+    → slice_get (rows_begin (game_read bytes) p) k ≡ Some at
+    → value_of (inner_reading.sized_text_at (drop at bytes)) ≡ None → ⊥
+text_begins bytes is p k at h none = some_text_of_part (game_read bytes) p k at h (sym (text_read bytes is p k at h) ∙ none)
 
 pub span_read : (bytes : List ℕ) → IsImage bytes (game_read bytes) → (p : GamePart) (k at : ℕ) (text : List ℕ)
     → slice_get (rows_begin (game_read bytes) p) k ≡ Some at

@@ -15,7 +15,6 @@ use crate::fault::ReadFault;
 use crate::milestones::Milestones;
 use crate::objects::read_after_text;
 use crate::tables::read_condact;
-use crate::texts::read_text;
 use paw_base::parts::{Condact, ObjectFacts};
 use paw_base::rows::{ParamKind, plain_kinds};
 use paw_game::parts::Exit;
@@ -31,14 +30,16 @@ fn from_offset(bytes: &[u8], place: usize) -> &[u8]
 }
 
 /// The text that begins at an offset, with its length.
-#[tactic(auto, using(crate::proofs::Faults::no_value))]
-pub fn text_in(bytes: &[u8], place: u32) -> Option<&[u8]>
-    ensures value { option_copied result ≡ value_of (sized_text_at (drop place bytes.now)) }
+pub fn text_in(bytes: &[u8], place: u32) -> &[u8]
+    requires there { ¬ (value_of (sized_text_at (drop place bytes.now)) ≡ None) }
+    ensures value { value_of (sized_text_at (drop place bytes.now)) ≡ Some result.now }
 {
-    match read_text(from_offset(bytes, place as usize)) {
-        Ok((text, _)) => Some(text),
-        Err(_) => None,
-    }
+    let place = place as usize;
+    prove!(place + 2 <= bytes.len());
+    let length = u16::from_le_bytes([bytes[place], bytes[place + 1]]) as usize;
+    let rest = &bytes[place + 2..];
+    prove!(length <= rest.len());
+    &rest[..length]
 }
 
 /// The facts of the object that begins at an offset.

@@ -145,7 +145,7 @@ impl<'a> View<'a> {
         ensures value { result ≡ span_at (game_read self.now) part number }
     {
         let offset = self.offset(part, number)?;
-        let text = text_in(self.bytes, offset)?;
+        let text = text_in(self.bytes, offset);
         let from = offset as usize + 2;
         Some((from, from + text.len()))
     }
@@ -227,7 +227,7 @@ impl<'a> Tables for View<'a> {
 
     fn text(&self, part: GamePart, number: u8) -> Option<&[u8]> {
         let offset = self.offset(part, number)?;
-        text_in(self.bytes, offset)
+        Some(text_in(self.bytes, offset))
     }
 
     fn exit(&self, location: u8, verb: u8) -> Option<u8> {
