@@ -71,7 +71,7 @@ impl Places {
         ensures adds { self.new ≡ self.old ++ p ∷ [] }
     {
         self.places[self.count as usize] = p;
-        self.sets[p as usize] = self.sets[p as usize].with(self.count);
+        self.sets[p as usize].insert(self.count);
         self.count += 1;
     }
 
@@ -101,8 +101,8 @@ impl Places {
         ensures sets { self.new ≡ slice_set self.old o p }
     {
         let old = self.places[o as usize];
-        self.sets[old as usize] = self.sets[old as usize].without(o);
-        self.sets[p as usize] = self.sets[p as usize].with(o);
+        self.sets[old as usize].remove(o);
+        self.sets[p as usize].insert(o);
         self.places[o as usize] = p;
     }
 

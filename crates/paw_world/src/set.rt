@@ -24,22 +24,18 @@ impl Model for ObjectSet {
 impl ObjectSet {
     pub const EMPTY: ObjectSet = ObjectSet { words: [0; 4] };
 
-    /// The set with this member too.
-    pub fn with(&self, o: u8) -> ObjectSet
-        ensures inserts { Inserts o self.now result }
+    /// Adds a member, where it isn't one.
+    pub fn insert(&mut self, o: u8)
+        ensures inserts { Inserts o self.old self.new }
     {
-        let mut words = self.words;
-        words[(o / 64) as usize] |= 1 << (o % 64);
-        ObjectSet { words }
+        self.words[(o / 64) as usize] |= 1 << (o % 64);
     }
 
-    /// The set without this member.
-    pub fn without(&self, o: u8) -> ObjectSet
-        ensures removes { Removes o self.now result }
+    /// Takes a member out, where it is one.
+    pub fn remove(&mut self, o: u8)
+        ensures removes { Removes o self.old self.new }
     {
-        let mut words = self.words;
-        words[(o / 64) as usize] &= !(1 << (o % 64));
-        ObjectSet { words }
+        self.words[(o / 64) as usize] &= !(1 << (o % 64));
     }
 
     /// The least member that isn't below `from`.

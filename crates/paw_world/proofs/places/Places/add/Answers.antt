@@ -5,10 +5,10 @@ use Rattle.paw_world.proofs.places.Places.add.Goals as goal
 
 pub invariant_of-self : goal.invariant_of-self
 invariant_of-self c =
-    added_at c.self.inside.sets c.self.inside.count c.self.inside.places c.args.p c.index-self-p.result c.with.result c.self.invariant (omega arith)
+    added_at c.self.inside.sets c.self.inside.count c.self.inside.places c.args.p c.index-self-p.result c.insert.new.self c.self.invariant (omega arith)
     (omega (
       arith,
       count_is c.self.inside.count c.self.inside.places c.args.self.now c.self.view_is
           (omega (arith, c.self.invariant.few, c.self.invariant.room)),
     ))
-    c.with.ensures.inserts
+    c.insert.ensures.inserts

@@ -6,14 +6,14 @@ use Rattle.paw_world.proofs.places.Places.set_place.Goals as goal
 
 pub invariant_of-self : goal.invariant_of-self
 invariant_of-self c =
-    relocated_at c.self.inside.sets c.self.inside.count c.self.inside.places c.args.o c.args.p c.index-self-old.result c.index-self-p.result c.without.result
-    c.with.result c.self.invariant (omega arith) (omega arith)
+    relocated_at c.self.inside.sets c.self.inside.count c.self.inside.places c.args.o c.args.p c.index-self-old.result c.index-self-p.result c.remove.new.self
+    c.insert.new.self c.self.invariant (omega arith) (omega arith)
     (omega (
       arith,
       count_is c.self.inside.count c.self.inside.places c.args.self.now c.self.view_is
           (omega (arith, c.self.invariant.few, c.self.invariant.room)),
     ))
-    c.without.ensures.removes c.with.ensures.inserts
+    c.remove.ensures.removes c.insert.ensures.inserts
 
 pub returns : goal.returns
 returns c =
