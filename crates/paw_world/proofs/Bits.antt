@@ -103,10 +103,10 @@ no_bit_left word from empty = no_bit (λ k low high. let same : from + (k - from
     ap (bit_at word) (sym same) ∙ (sym (bit_at-shr word from (k - from)) ∙ (ap (λ (n : ℕ). bit_at n (k - from)) empty ∙ bit_at-zero (k - from))))
 
 -- What a search in word w from bit b found is the least of the set, where none was passed.
-pub least_in_word : (words : List ℕ) (from w b one : ℕ) → w < 4 → from ≤ 64 * w + b
+pub least_in_word : (words : List ℕ) (from end w b one : ℕ) → w < 4 → from ≤ 64 * w + b
     → ((k : ℕ) → from ≤ k → k < 64 * w + b → member words k ≡ 0)
-    → IsLowestFrom (get_or words w 0) b (Some one) → IsLeastFrom words from (Some (64 * w + one))
-least_in_word words from w b one within below passed (lowest _ low high here before) =
+    → IsLowestFrom (get_or words w 0) b (Some one) → IsLeastFrom words from end (Some (64 * w + one))
+least_in_word words from end w b one within below passed (lowest _ low high here before) =
     let place : 64 * w + one - 64 * w ≡ one = omega arith in
     found (64 * w + one) (omega arith) (omega arith)
     (member_at words w (64 * w + one) (omega arith) (omega arith) ∙ (ap (bit_at (get_or words w 0)) place ∙ here))

@@ -91,12 +91,12 @@ module _ (sets : List (List ℕ)) (n : ℕ) (all places : List ℕ) (sound : Are
       absurd (omega (arith, sound.inside p o small less, at_place_same (get_or all o 0) p same))
 
   -- The least of the set is the least object at the place.
-  pub least_of_set : (from : ℕ) (outcome : Option ℕ) → IsLeastFrom (get_or sets p []) from outcome → outcome ≡ least_at places p (length places - from)
-  least_of_set from _ (found o low fits one before) =
+  pub least_of_set : (from end : ℕ) (outcome : Option ℕ) → n ≤ end → IsLeastFrom (get_or sets p []) from end outcome → outcome ≡ least_at places p (length places - from)
+  least_of_set from end _ whole (found o low fits one before) =
       sym (least_at_found places p from o low (member_known o fits one) (member_stands o fits one)
       (λ k above less. others_stand_elsewhere k (omega (arith, member_known o fits one)) (before k above less)))
-  least_of_set from _ (none empty) =
-      sym (least_at_nowhere places p from (λ k above within. others_stand_elsewhere k within (empty k above (omega (arith, count, sound.few)))))
+  least_of_set from end _ whole (none empty) =
+      sym (least_at_nowhere places p from (λ k above within. others_stand_elsewhere k within (empty k above (omega (arith, count, whole)))))
 
 -- What is found among the last n objects is one of them, and stands at the place.
 pub record IsFoundAt (places : List ℕ) (p n o : ℕ) : Type 0 where

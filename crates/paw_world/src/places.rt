@@ -114,6 +114,8 @@ impl Places {
             None => 0,
             Some(o) => o as usize + 1,
         };
-        self.sets[p as usize].least_from(from)
+        // No object stands in a word past that of the last one.
+        let words = self.count as usize / 64 + 1;
+        self.sets[p as usize].least_from(from, words)
     }
 }

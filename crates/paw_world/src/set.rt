@@ -1,6 +1,6 @@
 // Sets of objects.
 
-ghost use Rattle.std.specs.Prelude.{◌<◌, ◌≤◌};
+ghost use Rattle.std.specs.Prelude.{◌*◌, ◌<◌, ◌≤◌};
 ghost use Rattle.paw_world.specs.inner.ObjectSet.{Inserts, Removes, IsLeastFrom, IsLowestFrom};
 
 use std::marker::Model;
@@ -38,14 +38,15 @@ impl ObjectSet {
         self.words[(o / 64) as usize] &= !(1 << (o % 64));
     }
 
-    /// The least member that isn't below `from`.
-    pub fn least_from(&self, from: usize) -> Option<u8>
+    /// The least member that isn't below `from`, looked for in the first words, this many of them.
+    pub fn least_from(&self, from: usize, words: usize) -> Option<u8>
         requires bound { from ≤ 256 }
-        ensures least { IsLeastFrom self.now from result }
+        requires words { words ≤ 4 }
+        ensures least { IsLeastFrom self.now from (64 * words) result }
     {
         let mut word = from / 64;
         let mut bit = (from % 64) as u8;
-        while word < 4 {
+        while word < words {
             match lowest_from(self.words[word], bit) {
                 Some(one) => return Some(64 * word as u8 + one),
                 None => {

@@ -16,11 +16,11 @@ pub record Removes (o : ℕ) (old new : List ℕ) : Type 0 where
   pub outside : member new o ≡ 0
   pub others : (k : ℕ) → k < 256 → (k ≡ o → ⊥) → member new k ≡ member old k
 
--- The least number of the set that isn't below this one; nothing where there is none.
-pub data IsLeastFrom (words : List ℕ) (from : ℕ) : Option ℕ → Type 0 where
+-- The least number of the set that isn't below `from`; nothing where there is none from there up to `end`.
+pub data IsLeastFrom (words : List ℕ) (from end : ℕ) : Option ℕ → Type 0 where
   found : (o : ℕ) → from ≤ o → o < 256 → member words o ≡ 1 → ((k : ℕ) → from ≤ k → k < o → member words k ≡ 0) →
-      IsLeastFrom words from (Some o)
-  none : ((k : ℕ) → from ≤ k → k < 256 → member words k ≡ 0) → IsLeastFrom words from None
+      IsLeastFrom words from end (Some o)
+  none : ((k : ℕ) → from ≤ k → k < end → member words k ≡ 0) → IsLeastFrom words from end None
 
 -- The lowest bit of a word that is 1 and isn't below this one; nothing where there is none.
 pub data IsLowestFrom (word : ℕ) (from : ℕ) : Option ℕ → Type 0 where

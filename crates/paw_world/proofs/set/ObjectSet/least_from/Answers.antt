@@ -5,7 +5,7 @@ use Rattle.paw_world.proofs.set.ObjectSet.least_from.Goals as goal
 
 pub returns-in-Some : goal.returns-in-Some
 returns-in-Some c = record {
-  least = least_in_word c.args.self.now c.args.from c.loop-word.word c.loop-word.bit c.in-Some.one c.loop-word-test.true
+  least = least_in_word c.args.self.now c.args.from _ c.loop-word.word c.loop-word.bit c.in-Some.one (omega arith)
       c.loop-word.invariant.below c.loop-word.invariant.passed (rw c.self.view_is at c.in-Some.ensures.lowest);
 }
 
