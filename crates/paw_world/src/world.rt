@@ -416,6 +416,7 @@ impl World {
 
     // A weight together with that of all objects at a place, at most 255.
     #[cycle(weigh)]
+    #[inline(never)] // so that to weigh an object with no contents, as most are, takes no call
     fn weight_with(&self, own: u8, p: u8, levels: u8) -> u8
         ensures value { result ≡ weight_with self.now levels own p }
     {
