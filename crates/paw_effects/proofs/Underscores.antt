@@ -1,9 +1,21 @@
 -- Where the first underscore of a text stands, and what the text is with a name in place of each underscore.
-use Rattle.std.proofs.Common.{◌≡◌, ℕ, zero, suc, ◌<◌, ◌≤◌, ◌==◌, false, List, [], ◌∷◌, ◌++◌, length, take, drop, refl}
+use Rattle.std.proofs.Common.{◌≡◌, ℕ, zero, suc, ◌<◌, ◌≤◌, ◌==◌, Bool, false, List, [], ◌∷◌, ◌++◌, length, take, drop, refl}
 use Rattle.std.proofs.Common.{ap, arith}
-use Rattle.std.proofs.lemmas.Bool.{false_from_ne_true}
+use Rattle.std.proofs.lemmas.Bool.{false_from_ne_true, or_parts}
+use Rattle.std.specs.List.{list_any}
 use Rattle.memchr.specs.Find.{Passes, is_byte, Nowhere}
 use Rattle.paw_effects.specs.Texts.{with_name}
+
+-- Whether an underscore stands in a text.
+abbrev pub stands_in : List ℕ → Bool
+stands_in text = list_any (λ b. b == 95) text
+
+-- Where none stands the text stays as it is.
+pub kept_without : (name text : List ℕ) → stands_in text ≡ false → with_name name text ≡ text
+kept_without name [] none = refl
+kept_without name (b ∷ bs) none =
+    let both = or_parts (b == 95) (stands_in bs) none in
+    rw both.0 (ap (λ t. b ∷ t) (kept_without name bs both.1))
 
 -- Where no byte is an underscore the text stays as it is.
 pub kept_whole : (name text : List ℕ) → Nowhere (Passes (is_byte 95) text) 0 (length text) → with_name name text ≡ text

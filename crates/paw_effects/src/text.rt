@@ -53,13 +53,8 @@ fn object_text<T: Tables>(tables: &T, o: u8) -> &[u8]
     text_of(tables, GamePart::Objects, o)
 }
 
-/// Prints a text as a game prints it: with the text of the object last referred to in place of each underscore.
-pub(crate) fn print_text<T: Tables>(
-    tables: &T,
-    world: &World,
-    piece: &mut Piece,
-    text: &[u8],
-) -> bool
+// Prints a text with the text of the object last referred to in place of each underscore.
+fn print_with_name<T: Tables>(tables: &T, world: &World, piece: &mut Piece, text: &[u8]) -> bool
     ensures puts { Puts piece.old piece.new result (printed_text (T.game tables.now) world.now text.now) }
 {
     let mut rest = text;
@@ -71,6 +66,22 @@ pub(crate) fn print_text<T: Tables>(
         rest = after;
     }
     piece.push(rest)
+}
+
+/// Prints a text as a game prints it: with the text of the object last referred to in place of each underscore.
+pub(crate) fn print_text<T: Tables>(
+    tables: &T,
+    world: &World,
+    piece: &mut Piece,
+    text: &[u8],
+) -> bool
+    ensures puts { Puts piece.old piece.new result (printed_text (T.game tables.now) world.now text.now) }
+{
+    if text.contains(&b'_') {
+        print_with_name(tables, world, piece, text)
+    } else {
+        piece.push(text)
+    }
 }
 
 /// Prints a text and a newline; nothing where it is empty.
