@@ -3,6 +3,7 @@
 ghost use Rattle.std.specs.Prelude.{◌≡◌, ◌<◌, length};
 ghost use Rattle.paw_effects.specs.ObjectActions.{is_worn, is_carried, can_be_worn, is_too_heavy, is_laden};
 ghost use Rattle.paw_effects.specs.ObjectActions.{holds_place, first_that_holds, hindrances};
+ghost use Rattle.paw_effects.specs.declared.object_actions.Action.TheVariants as action;
 
 use crate::object_actions::Action;
 use crate::object_words::ObjectReply;
@@ -55,16 +56,94 @@ fn holds_place(world: &World, place: u8) -> bool
     place < world.objects() && is_held(world, place)
 }
 
-// The message of the first test that holds.
-fn first_that_holds(tests: &[(bool, ObjectReply)]) -> Option<ObjectReply>
-    ensures value { result ≡ first_that_holds tests.now }
+// What hinders that an object is taken.
+fn hindrance_to_get(world: &World, o: u8) -> Option<ObjectReply>
+    requires known { o < length world.now.places }
+    ensures value { result ≡ first_that_holds (hindrances world.now o action.Get) }
 {
-    for &(holds, said) in tests {
-        if holds {
-            return Some(said);
-        }
+    if is_held(world, o) {
+        Some(ObjectReply::HELD)
+    } else if !is_here(world, o) {
+        Some(ObjectReply::NOT_HERE)
+    } else if is_too_heavy(world, o) {
+        Some(ObjectReply::TOO_HEAVY)
+    } else if is_laden(world) {
+        Some(ObjectReply::TOO_MANY)
+    } else {
+        None
     }
-    None
+}
+
+// What hinders that an object is dropped, or put into another one.
+fn hindrance_to_drop(world: &World, o: u8) -> Option<ObjectReply>
+    requires known { o < length world.now.places }
+    ensures value { result ≡ first_that_holds (hindrances world.now o action.Drop) }
+{
+    if is_worn(world, o) {
+        Some(ObjectReply::WORN)
+    } else if is_here(world, o) {
+        Some(ObjectReply::NOT_HELD)
+    } else if !is_carried(world, o) {
+        Some(ObjectReply::NOT_CARRIED)
+    } else {
+        None
+    }
+}
+
+// What hinders that an object is put on.
+fn hindrance_to_wear(world: &World, o: u8) -> Option<ObjectReply>
+    requires known { o < length world.now.places }
+    ensures value { result ≡ first_that_holds (hindrances world.now o action.Wear) }
+{
+    if is_here(world, o) {
+        Some(ObjectReply::NOT_HELD)
+    } else if is_worn(world, o) {
+        Some(ObjectReply::WORN_ALREADY)
+    } else if !is_carried(world, o) {
+        Some(ObjectReply::NOT_CARRIED)
+    } else if !can_be_worn(world, o) {
+        Some(ObjectReply::NOT_WEARABLE)
+    } else {
+        None
+    }
+}
+
+// What hinders that an object is taken off.
+fn hindrance_to_remove(world: &World, o: u8) -> Option<ObjectReply>
+    requires known { o < length world.now.places }
+    ensures value { result ≡ first_that_holds (hindrances world.now o action.Remove) }
+{
+    if is_carried(world, o) || is_here(world, o) {
+        Some(ObjectReply::NOT_PUT_ON)
+    } else if !is_worn(world, o) {
+        Some(ObjectReply::NOT_WORN)
+    } else if !can_be_worn(world, o) {
+        Some(ObjectReply::NOT_REMOVABLE)
+    } else if is_laden(world) {
+        Some(ObjectReply::HANDS_FULL)
+    } else {
+        None
+    }
+}
+
+// What hinders that an object is taken out of the container whose number is that of this place.
+fn hindrance_to_take_out(world: &World, o: u8, place: u8) -> Option<ObjectReply>
+    requires known { o < length world.now.places }
+    ensures value { result ≡ first_that_holds (hindrances world.now o (action.TakeOut place)) }
+{
+    if is_held(world, o) {
+        Some(ObjectReply::HELD)
+    } else if is_here(world, o) {
+        Some(ObjectReply::outside(place))
+    } else if world.place(o) != place {
+        Some(ObjectReply::not_in(place))
+    } else if !holds_place(world, place) && is_too_heavy(world, o) {
+        Some(ObjectReply::TOO_HEAVY)
+    } else if is_laden(world) {
+        Some(ObjectReply::TOO_MANY)
+    } else {
+        None
+    }
 }
 
 /// What hinders an action on an object that was referred to: the message of the first test that holds.
@@ -73,41 +152,10 @@ pub(crate) fn hindrance(world: &World, o: u8, action: Action) -> Option<ObjectRe
     ensures value { result ≡ first_that_holds (hindrances world.now o action) }
 {
     match action {
-        Action::Get => first_that_holds(&[
-            (is_held(world, o), ObjectReply::HELD),
-            (!is_here(world, o), ObjectReply::NOT_HERE),
-            (is_too_heavy(world, o), ObjectReply::TOO_HEAVY),
-            (is_laden(world), ObjectReply::TOO_MANY),
-        ]),
-        Action::Drop | Action::PutIn(_) => first_that_holds(&[
-            (is_worn(world, o), ObjectReply::WORN),
-            (is_here(world, o), ObjectReply::NOT_HELD),
-            (!is_carried(world, o), ObjectReply::NOT_CARRIED),
-        ]),
-        Action::Wear => first_that_holds(&[
-            (is_here(world, o), ObjectReply::NOT_HELD),
-            (is_worn(world, o), ObjectReply::WORN_ALREADY),
-            (!is_carried(world, o), ObjectReply::NOT_CARRIED),
-            (!can_be_worn(world, o), ObjectReply::NOT_WEARABLE),
-        ]),
-        Action::Remove => first_that_holds(&[
-            (
-                is_carried(world, o) || is_here(world, o),
-                ObjectReply::NOT_PUT_ON,
-            ),
-            (!is_worn(world, o), ObjectReply::NOT_WORN),
-            (!can_be_worn(world, o), ObjectReply::NOT_REMOVABLE),
-            (is_laden(world), ObjectReply::HANDS_FULL),
-        ]),
-        Action::TakeOut(place) => first_that_holds(&[
-            (is_held(world, o), ObjectReply::HELD),
-            (is_here(world, o), ObjectReply::outside(place)),
-            (world.place(o) != place, ObjectReply::not_in(place)),
-            (
-                !holds_place(world, place) && is_too_heavy(world, o),
-                ObjectReply::TOO_HEAVY,
-            ),
-            (is_laden(world), ObjectReply::TOO_MANY),
-        ]),
+        Action::Get => hindrance_to_get(world, o),
+        Action::Drop | Action::PutIn(_) => hindrance_to_drop(world, o),
+        Action::Wear => hindrance_to_wear(world, o),
+        Action::Remove => hindrance_to_remove(world, o),
+        Action::TakeOut(place) => hindrance_to_take_out(world, o, place),
     }
 }
