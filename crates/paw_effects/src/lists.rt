@@ -130,17 +130,17 @@ impl<'a, T: Tables> ObjectList<'a, T> {
         self.print_text(piece, o) && piece.push(b"\n")
     }
 
-    // Prints the objects of the list, each in a line of its own.
-    fn print_lines(&self, piece: &mut Piece) -> bool
+    // Prints the objects of the list above this one, each in a line of its own.
+    fn print_other_lines(&self, piece: &mut Piece, first: u8) -> bool
         ensures puts { Puts piece.old piece.new result
-            (as_lines (texts_above self.now.game self.now.world self.now.listed None)) }
+            (as_lines (texts_above self.now.game self.now.world self.now.listed (Some first))) }
     {
-        let mut last = None;
-        while let Some(o) = self.next(last) {
+        let mut last = first;
+        while let Some(o) = self.next(Some(last)) {
             if !self.print_in_line(piece, o) {
                 return false;
             }
-            last = Some(o);
+            last = o;
         }
         piece.push(&[])
     }
@@ -191,7 +191,7 @@ impl<'a, T: Tables> ObjectList<'a, T> {
         if lists_are_sentences(self.world) {
             self.print_text(piece, first) && self.print_others(piece, first)
         } else {
-            self.print_lines(piece)
+            self.print_in_line(piece, first) && self.print_other_lines(piece, first)
         }
     }
 
