@@ -17,6 +17,7 @@ pub mod ListLoop
 pub mod MarkLaws
 pub mod MatchHere
 pub mod MatchLaws
+pub mod NumberLaws
 pub mod OrderLaws
 pub mod PassRows
 pub mod PlaceLaws

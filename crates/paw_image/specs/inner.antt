@@ -3,6 +3,7 @@ pub mod Groups
 pub mod Milestones
 pub mod Images
 pub mod Marks
+pub mod Numbers
 pub mod Offsets
 pub mod Orders
 pub mod Reading

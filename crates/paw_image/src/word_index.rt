@@ -7,9 +7,9 @@ ghost use Rattle.paw_game.specs.Tables.{word_of};
 ghost use Rattle.paw_game.specs.Valid.{words_are_valid};
 ghost use Rattle.paw_image.specs.inner.Groups.{group_of, first_group};
 ghost use Rattle.paw_image.specs.inner.Groups.{AreBelowGroup, AreGroupStarts, GroupsRise, IsGroup, IsGroupStart};
+ghost use Rattle.paw_image.specs.inner.Numbers.{letters_as_number, AreFiveBytes, AreNumbers};
 
 use paw_base::limits::WORD_LENGTH;
-use paw_game::lookup::word_of;
 use paw_game::parts::Word;
 use std::alloc::{AllocError, Global};
 use std::marker::Model;
@@ -22,6 +22,8 @@ const LAST_GROUP: u8 = b'Z' + 1;
 #[derive(Drop)]
 pub struct WordIndex {
     words: Vec<Word>,
+    // The letters of each word as a number, since numbers are compared at once.
+    numbers: Vec<u64>,
     // Where the words of each group begin, and where those of the last one end: 93 numbers from 0 to 2,000.
     starts: Vec<u16>,
 }
@@ -35,7 +37,7 @@ impl Model for WordIndex {
 
     ghost view = { λ v. v.words.items };
 
-    ghost invariant = { λ v. IsWordIndex v.words.items v.starts.items };
+    ghost invariant = { λ v. IsWordIndex v.words.items v.numbers.items v.starts.items };
 }
 
 // The group of a first letter.
@@ -81,6 +83,26 @@ fn starts_of(alloc: Global, words: &[Word]) -> Result<Vec<u16>, AllocError>
     Ok(starts)
 }
 
+// Letters as a number, the first one highest, so that letters that stand later have a greater number.
+fn letters_as_number(letters: &[u8; WORD_LENGTH]) -> u64
+    ensures value { result ≡ letters_as_number letters.now }
+    ensures five { AreFiveBytes letters.now }
+{
+    let [first, second, third, fourth, fifth] = *letters;
+    u64::from_be_bytes([0, 0, 0, first, second, third, fourth, fifth])
+}
+
+// The numbers of words.
+fn numbers_of(alloc: Global, words: &[Word]) -> Result<Vec<u64>, AllocError>
+    ensures numbers { IfOk result (λ v. AreNumbers words.now v.items) }
+{
+    let mut numbers = Vec::with_capacity(alloc, words.len())?;
+    for word in words {
+        numbers.push(letters_as_number(&word.letters))?;
+    }
+    Ok(numbers)
+}
+
 impl WordIndex {
     /// These words, with where those of each first letter begin.
     pub fn new(alloc: Global, words: Vec<Word>) -> Result<WordIndex, AllocError>
@@ -88,23 +110,31 @@ impl WordIndex {
         ensures words { IfOk result (λ v. v ≡ words.items) }
     {
         let starts = starts_of(alloc, &words)?;
-        Ok(WordIndex { words, starts })
+        let numbers = numbers_of(alloc, &words)?;
+        Ok(WordIndex {
+            words,
+            numbers,
+            starts,
+        })
     }
 
-    // The words of the group of a first letter.
-    fn group(&self, letter: u8) -> &[Word]
-        ensures group { IsGroup self.now (group_of letter) result.now }
+    // The words of the group of a first letter, and their numbers.
+    fn group(&self, letter: u8) -> (&[Word], &[u64])
+        ensures group { IsGroup self.now (group_of letter) result.0.now }
+        ensures numbers { AreNumbers result.0.now result.1.now }
     {
         let group = group_of(letter) as usize;
         let start = self.starts[group] as usize;
         let end = self.starts[group + 1] as usize;
-        &self.words[start..end]
+        (&self.words[start..end], &self.numbers[start..end])
     }
 
     /// The word with these letters, if there is one.
     pub fn find(&self, letters: &[u8; WORD_LENGTH]) -> Option<&Word>
         ensures value { option_copied result ≡ word_of letters.now self.now }
     {
-        word_of(letters, self.group(letters[0]))
+        let (words, numbers) = self.group(letters[0]);
+        let at = numbers.binary_search(&letters_as_number(letters)).ok()?;
+        Some(&words[at])
     }
 }

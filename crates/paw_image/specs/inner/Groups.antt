@@ -7,6 +7,7 @@ use Rattle.paw_game.specs.declared.parts.Word.{Word}
 use Rattle.paw_game.specs.Tables.{word_of}
 use Rattle.paw_game.specs.Valid.{words_rise}
 use Rattle.paw_image.specs.declared.word_index.TheConstants.{LAST_GROUP}
+use Rattle.paw_image.specs.inner.Numbers.{AreNumbers}
 
 -- The group of a first letter: its byte; all past Z are in the last group.
 abbrev pub group_of : ℕ → ℕ
@@ -34,9 +35,10 @@ pub record AreGroupStarts (words : List Word) (starts : List ℕ) : Type 0 where
   pub long : length starts ≡ LAST_GROUP + 2
   pub each : (group : ℕ) → group ≤ LAST_GROUP + 1 → IsGroupStart words group (slice_index starts group)
 
--- Words in order of their letters, and where those of each group begin.
-pub record IsWordIndex (words : List Word) (starts : List ℕ) : Type 0 where
+-- Words in order of their letters, with their numbers, and where those of each group begin.
+pub record IsWordIndex (words : List Word) (numbers : List ℕ) (starts : List ℕ) : Type 0 where
   pub rise : IsTrue (words_rise words)
+  pub numbered : AreNumbers words numbers
   pub grouped : AreGroupStarts words starts
 
 -- These words are in order, and a search among them for letters of a group finds what a search among all words finds.
