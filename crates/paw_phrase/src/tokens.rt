@@ -14,10 +14,29 @@ pub(crate) struct Lexeme {
     pub(crate) end: usize,
 }
 
+/// What each byte is in a token: a digit, or a letter as a capital; 0 for a byte that ends one.
+static LETTERS: [u8; 256] = [
+    0, 0, 0, 0, 0, 0, 0, 0, 0, 0, 0, 0, 0, 0, 0, 0, 0, 0, 0, 0, 0, 0, 0, 0, 0, 0, 0, 0, 0, 0, 0, 0,
+    0, 0, 0, 0, 0, 0, 0, 0, 0, 0, 0, 0, 0, 0, 0, 0, 48, 49, 50, 51, 52, 53, 54, 55, 56, 57, 0, 0,
+    0, 0, 0, 0, 0, 65, 66, 67, 68, 69, 70, 71, 72, 73, 74, 75, 76, 77, 78, 79, 80, 81, 82, 83, 84,
+    85, 86, 87, 88, 89, 90, 0, 0, 0, 0, 0, 0, 65, 66, 67, 68, 69, 70, 71, 72, 73, 74, 75, 76, 77,
+    78, 79, 80, 81, 82, 83, 84, 85, 86, 87, 88, 89, 90, 0, 0, 0, 0, 0, 0, 0, 0, 0, 0, 0, 0, 0, 0,
+    0, 0, 0, 0, 0, 0, 0, 0, 0, 0, 0, 0, 0, 0, 0, 0, 0, 0, 0, 0, 0, 0, 0, 0, 0, 0, 0, 0, 0, 0, 0, 0,
+    0, 0, 0, 0, 0, 0, 0, 0, 0, 0, 0, 0, 0, 0, 0, 0, 0, 0, 0, 0, 0, 0, 0, 0, 0, 0, 0, 0, 0, 0, 0, 0,
+    0, 0, 0, 0, 0, 0, 0, 0, 0, 0, 0, 0, 0, 0, 0, 0, 0, 0, 0, 0, 0, 0, 0, 0, 0, 0, 0, 0, 0, 0, 0, 0,
+    0, 0, 0, 0, 0, 0, 0, 0, 0, 0, 0, 0, 0, 0, 0, 0, 0, 0, 0, 0, 0, 0, 0,
+];
+
 fn is_separator(byte: u8) -> bool
     ensures value { result ≡ is_separator byte }
 {
     matches!(byte, b'.' | b',' | b';' | b':' | b'!' | b'?' | b'"')
+}
+
+fn is_in_token(byte: u8) -> bool
+    ensures value { result ≡ is_ascii_alphanumeric byte }
+{
+    LETTERS[byte as usize] != 0
 }
 
 // What a byte is in a token: a digit, or a letter as a capital. None for a byte that ends one.
@@ -25,11 +44,8 @@ fn letter_of(byte: u8) -> Option<u8>
     ensures none { IfNone result (is_ascii_alphanumeric byte ≡ false) }
     ensures some { IfSome result (λ letter. (is_ascii_alphanumeric byte ≡ true) × (letter ≡ to_ascii_uppercase byte)) }
 {
-    match byte {
-        b'A'..=b'Z' | b'0'..=b'9' => Some(byte),
-        b'a'..=b'z' => Some(byte - 32),
-        _ => None,
-    }
+    let letter = LETTERS[byte as usize];
+    if letter == 0 { None } else { Some(letter) }
 }
 
 // The token that stands first. It is inlined, as is what calls it, because a lexeme would be given back through memory.
@@ -69,7 +85,7 @@ pub(crate) fn first_lexeme(bytes: &[u8]) -> Option<Lexeme>
         ≡ record { token = lexeme.token; after = drop lexeme.end bytes.now } ∷ lexemes (drop lexeme.end bytes.now)) }
 {
     for (i, byte) in bytes.iter().enumerate() {
-        if byte.is_ascii_alphanumeric() {
+        if is_in_token(*byte) {
             let lexeme = first_token(&bytes[i..]);
             return Some(Lexeme {
                 token: lexeme.token,
