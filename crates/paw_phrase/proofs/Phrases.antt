@@ -13,6 +13,7 @@ use Rattle.paw_phrase.specs.Phrase.{is_parting}
 use Rattle.paw_phrase.specs.Phrase.{from_phrase}
 use Rattle.paw_phrase.specs.Phrase.{bytes_after}
 use Rattle.paw_phrase.specs.Sentence.{Parsed, IsSentence, IsUnknown, IsNoPhrase, parsed_lexemes, phrase_parsed}
+use Rattle.paw_phrase.proofs.Lexemes.{lexemes-empty}
 pub use Rattle.paw_phrase.specs.inner.Leaving.{LeavesBytes}
 
 -- The bytes that stay pending: all after the first few.
@@ -136,3 +137,8 @@ sentence-rest g pending e n a s rest is = subst (LeavesBytes (IsRest pending)) i
 pub unknown-rest : (g : GameLists) (pending : List ℕ) (earlier noun adjective : ℕ) (rest : List ℕ)
     → phrase_parsed g pending earlier noun adjective ≡ IsUnknown rest → IsRest pending rest
 unknown-rest g pending e n a rest is = subst (LeavesBytes (IsRest pending)) is (parsed-rest g pending e n a)
+
+-- No bytes have no phrase.
+pub no_phrase : (g : GameLists) (pending : List ℕ) (e n a : ℕ) → pending ≡ [] → phrase_parsed g pending e n a ≡ IsNoPhrase
+unfolding phrase_parsed
+no_phrase g pending e n a is = rw is (ap (λ ms. parsed_lexemes g e n a (from_phrase g ms)) lexemes-empty)

@@ -16,7 +16,22 @@ use paw_world::world::World;
 /// Takes the next phrase of the pending line. A sentence goes into flags 33 to 36 and 43 to 47, and its verb is the
 /// earlier one for the next phrase. The bytes of a phrase with no known word are dropped. With no phrase left nothing
 /// changes.
+// It is inlined, because each line ends by asking for a phrase where nothing is left, which needs no call.
+#[inline(always)]
 pub fn take_phrase<T: Tables>(tables: &T, world: &mut World, pending: &mut Pending) -> Found
+    ensures value { Speaks (T.game tables.now) result world.old world.new pending.old pending.new }
+    ensures draws { world.new.draws ≡ world.old.draws }
+    ensures game { IsOf (T.game tables.now) world.old → IsOf (T.game tables.now) world.new }
+{
+    if pending.bytes().is_empty() {
+        return Found::Empty;
+    }
+    take_words(tables, world, pending)
+}
+
+// Takes the next phrase of some bytes. It isn't inlined, because what calls it has much else to do.
+#[inline(never)]
+fn take_words<T: Tables>(tables: &T, world: &mut World, pending: &mut Pending) -> Found
     ensures value { Speaks (T.game tables.now) result world.old world.new pending.old pending.new }
     ensures draws { world.new.draws ≡ world.old.draws }
     ensures game { IsOf (T.game tables.now) world.old → IsOf (T.game tables.now) world.new }
