@@ -88,11 +88,13 @@ pub(crate) fn show_step<P: Preface, S: Stage, T: Tables, F: Fn(u8, u8) -> u8>(
     }
 }
 
-// Asks for a line, takes it, and shows the piece that it brings.
+// Asks for a line, takes it, and shows the piece that it brings. The line comes into room that is lent: room of its
+// own would be filled with zeros for each line.
 fn walk_line<P: Preface, S: Stage, T: Tables, F: Fn(u8, u8) -> u8>(
     preface: &mut P,
     stage: &mut S,
     player: &mut Player<'_, T, F>,
+    line: &mut [u8; LINE_LIMIT],
 ) -> Option<PlayEnd>
     requires seated { IsSeated player.old }
     requires answers { HaveAnswers F.Fn player.old.routines }
@@ -105,8 +107,7 @@ fn walk_line<P: Preface, S: Stage, T: Tables, F: Fn(u8, u8) -> u8>(
         IsWalking P.showing g whole first old player.old n → n < most →
         WalksTo P.showing g whole most first new player.new (suc n) result)) }
 {
-    let mut line = [0u8; LINE_LIMIT];
-    match stage.ask(&mut line) {
+    match stage.ask(line) {
         Asked::Line(n) => {
             let step = player.take(&line[..n as usize]);
             show_step(preface, stage, player, step)
@@ -132,8 +133,9 @@ fn walk_lines<P: Preface, S: Stage, T: Tables, F: Fn(u8, u8) -> u8>(
         IsWalking P.showing g whole first old player.old 0 →
         Walks (with_shown_steps P.showing whole) EVENT_LIMIT first new result)) }
 {
+    let mut line = [0u8; LINE_LIMIT];
     for _ in 0..EVENT_LIMIT {
-        if let Some(end) = walk_line(preface, stage, player) {
+        if let Some(end) = walk_line(preface, stage, player, &mut line) {
             return end;
         }
     }
