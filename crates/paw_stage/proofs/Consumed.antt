@@ -1,22 +1,40 @@
 -- What is taken from bytes that were read ahead.
-use Rattle.std.proofs.Common.{◌≡◌, ℕ, List, [], ◌++◌, sym, ap, ◌∙◌, append_assoc}
+use Rattle.std.proofs.Common.{◌≡◌, ℕ, List, [], ◌++◌, refl, sym, ap, ◌∙◌, append_assoc}
 use Rattle.std.specs.Prelude.{Option, Some, None}
 use Rattle.std.specs.Io.KnownBytes.{prepend_known, Consumes, IsAtEnd}
 
-pub consumes_ahead : (remaining : Option (List ℕ)) (ahead left bytes : List ℕ) → ahead ≡ bytes ++ left →
-    Consumes (prepend_known ahead remaining) (prepend_known left remaining) bytes
-consumes_ahead None ahead left bytes e = tt
-consumes_ahead (Some xs) ahead left bytes e = ap (λ a. a ++ xs) e ∙ append_assoc bytes left xs
+-- A part of the bytes read ahead is taken, with the line end after it.
+pub consumes_part : (remaining : Option (List ℕ)) (ahead part ending left : List ℕ) → ahead ≡ part ++ (ending ++ left) →
+    Consumes (prepend_known ahead remaining) (prepend_known ending (prepend_known left remaining)) part
+consumes_part None ahead part ending left e = tt
+consumes_part (Some xs) ahead part ending left e =
+    ap (λ a. a ++ xs) e
+    ∙ (append_assoc part (ending ++ left) xs ∙ ap (λ a. part ++ a) (append_assoc ending left xs))
 
-pub consumes_read : (old new : Option (List ℕ)) (ahead left bytes : List ℕ) → Consumes old new ahead →
-    ahead ≡ bytes ++ left → Consumes (prepend_known [] old) (prepend_known left new) bytes
-consumes_read None new ahead left bytes h e = tt
-consumes_read (Some xs) None ahead left bytes h e = absurd h
-consumes_read (Some xs) (Some ys) ahead left bytes h e = h ∙ (ap (λ a. a ++ ys) e ∙ append_assoc bytes left ys)
+-- More bytes are read ahead, and none is taken.
+pub consumes_read : (old new : Option (List ℕ)) (ahead : List ℕ) → Consumes old new ahead →
+    Consumes (prepend_known [] old) (prepend_known ahead new) []
+consumes_read None new ahead h = tt
+consumes_read (Some xs) None ahead h = absurd h
+consumes_read (Some xs) (Some ys) ahead h = h
 
-pub at_end : (remaining : Option (List ℕ)) → IsAtEnd remaining → IsAtEnd (prepend_known [] remaining)
-at_end None h = h
-at_end (Some xs) h = h
+pub at_end : (remaining : Option (List ℕ)) (ahead : List ℕ) → ahead ≡ [] → IsAtEnd remaining →
+    IsAtEnd (prepend_known ahead remaining)
+at_end None ahead e h = h
+at_end (Some xs) ahead e h = ap (λ a. a ++ xs) e ∙ h
+
+-- The line end alone is taken.
+pub consumes_end : (left : Option (List ℕ)) (ending : List ℕ) → Consumes (prepend_known ending left) left ending
+consumes_end None ending = tt
+consumes_end (Some xs) ending = refl
+
+pub consumes_none : (left : Option (List ℕ)) → Consumes left left []
+consumes_none None = tt
+consumes_none (Some xs) = refl
+
+pub prepend_none : (left : Option (List ℕ)) → prepend_known [] left ≡ left
+prepend_none None = refl
+prepend_none (Some xs) = refl
 
 pub Consumes_on : (old mid new : Option (List ℕ)) (xs ys : List ℕ) → Consumes old mid xs → Consumes mid new ys → Consumes old new (xs ++ ys)
 Consumes_on None mid new xs ys h k = tt

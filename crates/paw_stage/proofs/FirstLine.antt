@@ -1,12 +1,12 @@
 -- The first line of some bytes.
 use Rattle.std.proofs.Common.{◌≡◌, ◌≢◌, ℕ, ◌+◌, ◌-◌, ◌<◌, ◌≤◌, zero, suc, ◌&&◌, Bool, true, false, List, [], ◌∷◌, ◌++◌}
 use Rattle.std.proofs.Common.{length, take, get_or, nat_lt, refl, ap, ◌∙◌, sym, subst}
-use Rattle.std.proofs.Common.{arith, length-append}
+use Rattle.std.proofs.Common.{arith, length-append, append_assoc, ◌⊎◌, inl, inr}
 use Rattle.std.specs.Prelude.{if◌then◌else◌, ◌==◌}
 use Rattle.std.specs.Io.BufRead.{take_through, drop_through, ends_with_byte, strip_last, first_line}
 use Rattle.std.proofs.Math.Seq.{take-append_seam}
-use Rattle.std.proofs.lemmas.List.{length-take, append-nil}
-use Rattle.paw_stage.specs.inner.Input.{HasNoEnd}
+use Rattle.std.proofs.lemmas.List.{length-take, append-nil, take_more}
+use Rattle.paw_stage.specs.inner.LineParts.{HasNoEnd}
 
 not_same : (x y : ℕ) → x ≢ y → (x == y) ≡ false
 not_same x y h = grind arith
@@ -31,6 +31,10 @@ pub HasNoEnd-push : (xs : List ℕ) (x : ℕ) → HasNoEnd xs → x ≢ 10 → H
 HasNoEnd-push [] x h ne = (ne, tt)
 HasNoEnd-push (y ∷ xs) x h ne = (h.0, HasNoEnd-push xs x h.1 ne)
 
+pub HasNoEnd-append : (xs ys : List ℕ) → HasNoEnd xs → HasNoEnd ys → HasNoEnd (xs ++ ys)
+HasNoEnd-append [] ys h k = k
+HasNoEnd-append (x ∷ xs) ys h k = (h.0, HasNoEnd-append xs ys h.1 k)
+
 get_last : (xs : List ℕ) (x : ℕ) → get_or (xs ++ x ∷ []) (length xs) 0 ≡ x
 get_last [] x = refl
 get_last (y ∷ xs) x = get_last xs x
@@ -50,13 +54,36 @@ ends_with_byte-push b xs x =
     ap (λ t. t && (get_or (xs ++ x ∷ []) (length (xs ++ x ∷ []) - 1) 0 == b)) some
     ∙ (ap (λ k. get_or (xs ++ x ∷ []) k 0 == b) n ∙ ap (λ v. v == b) (get_last xs x))
 
+none_or : (n : ℕ) → (n ≡ 0) ⊎ (0 < n)
+none_or n = grind arith
+
+-- The last of some bytes decides, or where there is none of them the last byte before them.
+pub ends_with_byte-part : (b : ℕ) (xs bytes : List ℕ) (n : ℕ) (before : Bool) → before ≡ ends_with_byte b xs →
+    n ≤ length bytes → (if nat_lt 0 n then get_or bytes (n - 1) 0 == b else before) ≡ ends_with_byte b (xs ++ take n bytes)
+ends_with_byte-part b xs bytes n before e low = elim (none_or n) [
+  | inl none ↦
+      let test : nat_lt 0 n ≡ false = grind (arith, none) in
+      ap (λ t. if t then get_or bytes (n - 1) 0 == b else before) test
+      ∙ (e ∙ ap (ends_with_byte b) (sym (ap (λ k. xs ++ take k bytes) none ∙ append-nil xs)))
+  | inr some ↦
+      let test : nat_lt 0 n ≡ true = grind (arith, some) in
+      let next : n ≡ (n - 1) + 1 = omega (arith, some) in
+      let byte : ℕ = get_or bytes (n - 1) 0 in
+      let parts : xs ++ take n bytes ≡ (xs ++ take (n - 1) bytes) ++ byte ∷ [] =
+      ap (λ k. xs ++ take k bytes) next
+      ∙ (ap (λ ys. xs ++ ys) (take_more bytes (n - 1) 0 (omega (arith, some, low)))
+      ∙ sym (append_assoc xs (take (n - 1) bytes) (byte ∷ []))) in
+      ap (λ t. if t then byte == b else before) test
+      ∙ (sym (ends_with_byte-push b (xs ++ take (n - 1) bytes) byte) ∙ ap (ends_with_byte b) (sym parts))
+]
+
 strip_last-push : (b : ℕ) (xs : List ℕ) → strip_last b (xs ++ b ∷ []) ≡ xs
 strip_last-push b xs =
     let n : length (xs ++ b ∷ []) - 1 ≡ length xs = omega (arith, length-append xs (b ∷ [])) in
     ap (λ t. if t then take (length (xs ++ b ∷ []) - 1) (xs ++ b ∷ []) else xs ++ b ∷ [])
     (ends_with_byte-push b xs b ∙ same b) ∙ (ap (λ k. take k (xs ++ b ∷ [])) n ∙ take-append_seam xs (b ∷ []))
 
-get_plain : (xs : List ℕ) (i : ℕ) → HasNoEnd xs → i < length xs → get_or xs i 0 ≢ 10
+pub get_plain : (xs : List ℕ) (i : ℕ) → HasNoEnd xs → i < length xs → get_or xs i 0 ≢ 10
 get_plain [] i h low = absurd (omega arith)
 get_plain (x ∷ xs) zero h low = h.0
 get_plain (x ∷ xs) (suc i) h low = get_plain xs i h.1 (omega arith)

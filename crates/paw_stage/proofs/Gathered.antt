@@ -1,60 +1,95 @@
 -- One byte more of the line in work, and its end.
-use Rattle.std.proofs.Common.{◌≡◌, ◌≢◌, ◌≤◌, ◌<◌, ◌⊎◌, inl, inr, ℕ, ◌+◌, ◌-◌, Bool, true, false, List, [], ◌∷◌, ◌++◌}
-use Rattle.std.proofs.Common.{length, take, set, suc, min, nat_lt, sym}
+use Rattle.std.proofs.Common.{◌≡◌, ◌≤◌, ◌<◌, ◌⊎◌, inl, inr, ℕ, ◌+◌, ◌-◌, Bool, true, false, List, [], ◌∷◌, ◌++◌}
+use Rattle.std.proofs.Common.{length, take, get_or, min, nat_lt, refl, sym, subst}
 use Rattle.std.proofs.Common.{ap, ◌∙◌, arith, length-append}
 use Rattle.std.specs.Prelude.{Option, Some, None, IfSome, if◌then◌else◌, ◌==◌}
-use Rattle.std.specs.Io.KnownBytes.{Consumes, IsAtEnd}
+use Rattle.std.specs.Io.KnownBytes.{prepend_known, Consumes, IsAtEnd}
 use Rattle.std.specs.Io.BufRead.{strip_last, first_line, drop_through}
 use Rattle.std.proofs.lemmas.List.{take_all, take-append-le, take-take, length-take, append-nil}
-use Rattle.std.proofs.Math.Seq.{take-suc-set}
+use Rattle.std.proofs.Math.Seq.{take-append-add}
 use Rattle.paw_base.specs.declared.limits.TheConstants.{LINE_LIMIT}
-use Rattle.paw_stage.specs.inner.Input.{Gathers, GathersLine, HasLine, longest_line}
-use Rattle.paw_stage.proofs.Consumed.{Consumes_on}
-use Rattle.paw_stage.proofs.FirstLine.{HasNoEnd-push, ends_with_byte-push, drop_through-end, drop_through-whole}
+use Rattle.paw_stage.specs.inner.Input.{GathersLine, HasLine, longest_line}
+use Rattle.paw_stage.specs.inner.LineParts.{Gathers, HasNoEnd, KeepsPart}
+use Rattle.paw_stage.proofs.Consumed.{Consumes_on, consumes_none, consumes_read}
+use Rattle.paw_stage.proofs.FirstLine.{HasNoEnd-append, ends_with_byte-part, drop_through-end, drop_through-whole}
 use Rattle.paw_stage.proofs.FirstLine.{first_line-end, first_line-whole, first_line-long}
 
-below_or : (k : ℕ) → (k < 255) ⊎ (255 ≤ k)
+below_or : (k : ℕ) → (k < LINE_LIMIT) ⊎ (LINE_LIMIT ≤ k)
 below_or k = grind arith
 
--- The first bytes with one byte more.
-kept_more : (into taken : List ℕ) (len byte : ℕ) → length into ≡ LINE_LIMIT → length taken ≡ len →
-    take (min len LINE_LIMIT) into ≡ take LINE_LIMIT taken →
-    take (min (len + 1) LINE_LIMIT) (if nat_lt len LINE_LIMIT then set into len byte else into) ≡ take LINE_LIMIT
-    (taken ++ byte ∷ [])
-kept_more into taken len byte size count kept = elim (below_or len) [
+-- The first 255 bytes of two parts.
+take_both : (xs ys : List ℕ) → take LINE_LIMIT (xs ++ ys) ≡ take LINE_LIMIT xs ++ take (LINE_LIMIT - length xs) ys
+take_both xs ys = elim (below_or (length xs)) [
   | inl low ↦
-      let test : nat_lt len 255 ≡ true = grind arith in
-      let old : min len LINE_LIMIT ≡ len = omega arith in
-      let new : min (len + 1) LINE_LIMIT ≡ suc len = omega arith in
-      let all : take len into ≡ taken = ap (λ k. take k into) (sym old)
-      ∙ (kept ∙ take_all LINE_LIMIT taken (omega arith)) in
-      ap (λ t. take (min (len + 1) LINE_LIMIT) (if t then set into len byte else into)) test
-      ∙ (ap (λ k. take k (set into len byte)) new
-      ∙ (take-suc-set into len byte (omega arith)
-      ∙ (ap (λ xs. xs ++ byte ∷ []) all
-      ∙ sym (take_all LINE_LIMIT (taken ++ byte ∷ []) (omega (arith, length-append taken (byte ∷ [])))))))
+      let sum : LINE_LIMIT ≡ length xs + (LINE_LIMIT - length xs) = omega (arith, low) in
+      ap (λ k. take k (xs ++ ys)) sum
+      ∙ (take-append-add xs ys (LINE_LIMIT - length xs) ∙ ap (λ l. l ++ take (LINE_LIMIT - length xs) ys) (sym (take_all LINE_LIMIT xs (omega (arith, low)))))
   | inr high ↦
-      let test : nat_lt len 255 ≡ false = grind arith in
-      let old : min len LINE_LIMIT ≡ LINE_LIMIT = omega arith in
-      let new : min (len + 1) LINE_LIMIT ≡ LINE_LIMIT = omega arith in
-      ap (λ t. take (min (len + 1) LINE_LIMIT) (if t then set into len byte else into)) test
-      ∙ (ap (λ k. take k into) (new ∙ sym old)
-      ∙ (kept ∙ sym (take-append-le LINE_LIMIT taken (byte ∷ []) (omega arith))))
+      let none : LINE_LIMIT - length xs ≡ 0 = omega (arith, high) in
+      take-append-le LINE_LIMIT xs ys high
+      ∙ (sym (append-nil (take LINE_LIMIT xs)) ∙ ap (λ k. take LINE_LIMIT xs ++ take k ys) (sym none))
 ]
 
-pub gathers_more : (first left now : Option (List ℕ)) (into into' : List ℕ) (len byte : ℕ) (returned : Bool) →
-    Gathers first left into len returned → Consumes left now (byte ∷ []) → byte ≢ 10 → length into ≡ LINE_LIMIT →
-    into' ≡ (if nat_lt len LINE_LIMIT then set into len byte else into)
-    → Gathers first now into' (len + 1) (byte == 13)
-gathers_more first left now into into' len byte returned h k ne size e =
+at_most_or : (m n : ℕ) → (m ≤ n) ⊎ (n < m)
+at_most_or m n = grind arith
+
+-- As many of a part as are among the first 255 bytes.
+part_kept : (bytes : List ℕ) (len n : ℕ) → n ≤ length bytes →
+    take (LINE_LIMIT - len) (take n bytes) ≡ take (min (len + n) LINE_LIMIT - min len LINE_LIMIT) bytes
+part_kept bytes len n low = elim (at_most_or (LINE_LIMIT - len) n) [
+  | inl cut ↦
+      let is : LINE_LIMIT - len ≡ min (len + n) LINE_LIMIT - min len LINE_LIMIT = omega (arith, cut) in
+      take-take (LINE_LIMIT - len) n bytes cut ∙ ap (λ k. take k bytes) is
+  | inr whole ↦
+      let is : n ≡ min (len + n) LINE_LIMIT - min len LINE_LIMIT = omega (arith, whole) in
+      take_all (LINE_LIMIT - len) (take n bytes) (omega (arith, whole, length-take n bytes)) ∙ ap (λ k. take k bytes) is
+]
+
+-- Nothing was taken yet.
+pub gathers_none : (first : Option (List ℕ)) (into : List ℕ) → Gathers first first into 0 false
+gathers_none first into =
+    record { taken = []; consumed = consumes_none first; count = refl; plain = tt; kept = refl; last = refl }
+
+-- A part more, without an LF.
+pub gathers_part : (first left now : Option (List ℕ)) (into into' bytes : List ℕ) (len n : ℕ) (returned : Bool) →
+    Gathers first left into len returned → Consumes left now (take n bytes) → n ≤ length bytes → HasNoEnd (take n bytes) →
+    KeepsPart into into' len n bytes →
+    Gathers first now into' (len + n) (if nat_lt 0 n then get_or bytes (n - 1) 0 == 13 else returned)
+gathers_part first left now into into' bytes len n returned h k low plain kept =
+    let of_taken : take (LINE_LIMIT - length h.taken) (take n bytes) ≡ take (min (len + n) LINE_LIMIT - min len LINE_LIMIT) bytes =
+    ap (λ t. take (LINE_LIMIT - t) (take n bytes)) h.count ∙ part_kept bytes len n low in
     record {
-      taken = h.taken ++ byte ∷ [];
-      consumed = Consumes_on first left now h.taken (byte ∷ []) h.consumed k;
-      count = omega (arith, h.count, length-append h.taken (byte ∷ []));
-      plain = HasNoEnd-push h.taken byte h.plain ne;
-      kept = ap (take (min (len + 1) LINE_LIMIT)) e ∙ kept_more into h.taken len byte size h.count h.kept;
-      last = sym (ends_with_byte-push 13 h.taken byte);
+      taken = h.taken ++ take n bytes;
+      consumed = Consumes_on first left now h.taken (take n bytes) h.consumed k;
+      count = omega (arith, h.count, low, length-append h.taken (take n bytes), length-take n bytes);
+      plain = HasNoEnd-append h.taken (take n bytes) h.plain plain;
+      kept =
+          kept
+          ∙ (ap (λ l. l ++ take (min (len + n) LINE_LIMIT - min len LINE_LIMIT) bytes) h.kept
+          ∙ (ap (λ l. take LINE_LIMIT h.taken ++ l) (sym of_taken) ∙ sym (take_both h.taken (take n bytes))));
+      last = ends_with_byte-part 13 h.taken bytes n returned h.last low;
     }
+
+-- Nothing more was taken.
+pub gathers_on : (first left now : Option (List ℕ)) (into : List ℕ) (len : ℕ) (returned : Bool) →
+    Gathers first left into len returned → Consumes left now [] → Gathers first now into len returned
+gathers_on first left now into len returned h k =
+    record {
+      taken = h.taken;
+      consumed = subst (Consumes first now) (append-nil h.taken) (Consumes_on first left now h.taken [] h.consumed k);
+      count = h.count;
+      plain = h.plain;
+      kept = h.kept;
+      last = h.last;
+    }
+
+-- More bytes were read ahead, after all before were taken.
+pub gathers_read : (first old new : Option (List ℕ)) (before ahead into : List ℕ) (len : ℕ) (returned : Bool) → before ≡ [] →
+    Consumes old new ahead → Gathers first (prepend_known before old) into len returned →
+    Gathers first (prepend_known ahead new) into len returned
+gathers_read first old new before ahead into len returned e k h =
+    gathers_on first (prepend_known [] old) (prepend_known ahead new) into len returned
+    (subst (λ a. Gathers first (prepend_known a old) into len returned) e h) (consumes_read old new ahead k)
 
 -- A line of known length, which may be too long.
 line_of : (bytes : List ℕ) (left : Option (List ℕ)) (len : ℕ) (into : List ℕ) → HasLine bytes left len into → GathersLine bytes left (Some len) into
@@ -62,11 +97,11 @@ line_of bytes left len into h = (λ low. h, λ high. omega (arith, h.1))
 
 -- More bytes than a line may have, and none is an LF.
 pub gathered_long : (first left now : Option (List ℕ)) (into : List ℕ) (len : ℕ) (returned : Bool) →
-    Gathers first left into len returned → longest_line + 2 ≤ len → IfSome first (λ bytes. GathersLine bytes now (Some (longest_line + 1)) into)
+    Gathers first left into len returned → longest_line + 2 ≤ len → IfSome first (λ bytes. GathersLine bytes now (Some len) into)
 gathered_long None left now into len returned h many = tt
 gathered_long (Some xs) None now into len returned h many = absurd h.consumed
 gathered_long (Some xs) (Some ys) now into len returned h many =
-    (λ low. absurd (omega arith), λ high. omega (arith, h.count, ap (λ l. length (first_line l)) h.consumed, first_line-long h.taken ys h.plain))
+    (λ low. absurd (omega (arith, low, many)), λ high. omega (arith, h.count, ap (λ l. length (first_line l)) h.consumed, first_line-long h.taken ys h.plain))
 
 -- The end of the bytes, with a line that has no end of its own.
 pub gathered_whole : (first left now : Option (List ℕ)) (into : List ℕ) (len : ℕ) (returned : Bool) →
@@ -84,34 +119,36 @@ gathered_whole (Some xs) (Some ys) (Some zs) into len returned h k end some =
       ap Some (end ∙ sym (ap (drop_through 10) whole ∙ drop_through-whole h.taken h.plain)),
     )
 
+-- The end of the bytes, of which none was there.
+pub gathered_none : (first left now : Option (List ℕ)) (into : List ℕ) (len : ℕ) (returned : Bool) →
+    Gathers first left into len returned → Consumes left now [] → IsAtEnd now → len ≡ 0 →
+    IfSome first (λ bytes. GathersLine bytes now None into)
+gathered_none None left now into len returned h k end none = tt
+gathered_none (Some xs) None now into len returned h k end none = absurd h.consumed
+gathered_none (Some xs) (Some ys) None into len returned h k end none = absurd k
+gathered_none (Some xs) (Some ys) (Some zs) into len returned h k end none =
+    let nothing : h.taken ≡ [] = sym (take_all 0 h.taken (omega (arith, h.count, none))) in
+    (h.consumed ∙ (ap (λ l. l ++ ys) nothing ∙ (k ∙ end)), ap Some end)
+
 take_short : (m : ℕ) (taken : List ℕ) → take (min m LINE_LIMIT) taken ≡ take LINE_LIMIT (take m taken)
 take_short m taken = elim (below_or m) [
-  | inl low ↦ let is : min m LINE_LIMIT ≡ m = omega arith in ap (λ k. take k taken) is
-      ∙ sym (take_all LINE_LIMIT (take m taken) (omega (arith, length-take m taken)))
-  | inr high ↦ let is : min m LINE_LIMIT ≡ LINE_LIMIT = omega arith in ap (λ k. take k taken) is
-      ∙ sym (take-take LINE_LIMIT m taken high)
+  | inl low ↦ let is : min m LINE_LIMIT ≡ m = omega arith in ap (λ k. take k taken) is ∙ sym (take_all LINE_LIMIT (take m taken) (omega (arith, length-take m taken)))
+  | inr high ↦ let is : min m LINE_LIMIT ≡ LINE_LIMIT = omega arith in ap (λ k. take k taken) is ∙ sym (take-take LINE_LIMIT m taken high)
 ]
 
 -- Without the last byte.
-cut_last : (into taken : List ℕ) (len : ℕ) → length taken ≡ len
-    → take (min len LINE_LIMIT) into ≡ take LINE_LIMIT taken →
+cut_last : (into taken : List ℕ) (len : ℕ) → length taken ≡ len → take (min len LINE_LIMIT) into ≡ take LINE_LIMIT taken →
     take (min (len - 1) LINE_LIMIT) into ≡ take LINE_LIMIT (take (len - 1) taken)
 cut_last into taken len count kept =
     sym (take-take (min (len - 1) LINE_LIMIT) (min len LINE_LIMIT) into (omega arith))
-    ∙ (ap (take (min (len - 1) LINE_LIMIT)) kept
-    ∙ (take-take (min (len - 1) LINE_LIMIT) LINE_LIMIT taken (omega arith) ∙ take_short (len - 1) taken))
+    ∙ (ap (take (min (len - 1) LINE_LIMIT)) kept ∙ (take-take (min (len - 1) LINE_LIMIT) LINE_LIMIT taken (omega arith) ∙ take_short (len - 1) taken))
 
-without_return : (returned : Bool) (into taken : List ℕ) (len : ℕ) → length taken ≡ len
-    → take (min len LINE_LIMIT) into ≡ take LINE_LIMIT taken
+without_return : (returned : Bool) (into taken : List ℕ) (len : ℕ) → length taken ≡ len → take (min len LINE_LIMIT) into ≡ take LINE_LIMIT taken
     → ((if returned then len - 1 else len) ≡ length (if returned then take (length taken - 1) taken else taken))
-    × (take (min (if returned then len - 1 else len) LINE_LIMIT) into ≡ take LINE_LIMIT
-    (if returned then take (length taken - 1) taken else taken))
+    × (take (min (if returned then len - 1 else len) LINE_LIMIT) into ≡ take LINE_LIMIT (if returned then take (length taken - 1) taken else taken))
 without_return false into taken len count kept = (omega arith, kept)
-without_return true into taken len count kept = (
-  omega (arith, length-take (length taken - 1) taken),
-  cut_last into taken len count kept
-      ∙ ap (λ n. take LINE_LIMIT (take (n - 1) taken)) (sym count),
-)
+without_return true into taken len count kept =
+    (omega (arith, length-take (length taken - 1) taken), cut_last into taken len count kept ∙ ap (λ n. take LINE_LIMIT (take (n - 1) taken)) (sym count))
 
 -- The LF that ends the line.
 pub gathered_end : (first left now : Option (List ℕ)) (into : List ℕ) (len : ℕ) (returned : Bool) →

@@ -15,4 +15,5 @@ mod Lines
 mod Consumed
 mod FirstLine
 mod Gathered
+mod LineParts
 mod Appended

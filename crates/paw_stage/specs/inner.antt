@@ -14,4 +14,5 @@ pub mod Memory
 pub mod Filed
 pub mod Refusing
 pub mod Failing
+pub mod LineParts
 pub mod Input

@@ -1,7 +1,6 @@
 // Bytes that were read ahead of what was taken.
 
-ghost use Rattle.std.specs.Prelude.{◌≡◌, [], ◌++◌, IfNone, OnOk, OnErr};
-ghost use Rattle.std.specs.Option.{option_to_list};
+ghost use Rattle.std.specs.Prelude.{◌≡◌, ◌≤◌, [], length, drop, OnOk, OnErr};
 ghost use Rattle.std.specs.Io.{ReadsAtMost};
 ghost use Rattle.std.specs.Io.KnownBytes.{Keeps, Consumes, IsAtEnd, ReadConsumes};
 
@@ -40,17 +39,20 @@ impl Ahead {
         }
     }
 
-    /// Takes the first byte, if there is one.
-    pub fn pop(&mut self) -> Option<u8>
-        ensures taken { self.old ≡ option_to_list result ++ self.new }
-        ensures none { IfNone result (self.new ≡ []) }
+    /// The bytes that weren't taken yet.
+    pub fn bytes(&self) -> &[u8]
+        ensures value { result.now ≡ self.now }
+        ensures few { length result.now ≤ 4096 }
     {
-        if self.from == self.to {
-            return None;
-        }
-        let byte = self.buffer[self.from];
-        self.from += 1;
-        Some(byte)
+        &self.buffer[self.from..self.to]
+    }
+
+    /// Takes the first bytes.
+    pub fn take(&mut self, count: usize)
+        requires within { count ≤ length self.old }
+        ensures rest { self.new ≡ drop count self.old }
+    {
+        self.from += count;
     }
 
     /// Reads more bytes, which are none only at the reader's end. Nothing is taken from the reader where it fails.

@@ -1,9 +1,13 @@
 // The lines of a reader.
 
-ghost use Rattle.std.specs.Prelude.{◌≡◌, ◌<◌, ◌-◌, ◌↔◌, nat_lt, if◌then◌else◌, slice_set, IsTrue, IsSome, IsNone, IfOk};
-ghost use Rattle.std.specs.Io.KnownBytes.{IsAtEnd};
+ghost use Rattle.std.specs.Prelude.{◌≡◌, ◌<◌, ◌≤◌, ◌+◌, ◌-◌, ◌==◌, ◌++◌, ◌↔◌, nat_lt, if◌then◌else◌, [], length, take};
+ghost use Rattle.std.specs.Prelude.{slice_index, Option, IsFalse, IsSome, IsNone};
+ghost use Rattle.std.specs.List.{position, position_or_len};
+ghost use Rattle.std.specs.Io.KnownBytes.{prepend_known};
+ghost use Rattle.paw_base.specs.Bytes.{Bytes};
 ghost use Rattle.paw_base.specs.declared.limits.TheConstants.{LINE_LIMIT};
 ghost use Rattle.paw_stage.specs.declared.Asked.TheVariants as asked;
+ghost use Rattle.paw_stage.specs.inner.LineParts.{Gathers, HasNoEnd, KeepsPart, line_end};
 
 use crate::ahead::Ahead;
 use crate::{Asked, Failed};
@@ -20,6 +24,13 @@ pub enum LineFailure {
     Reader,
 }
 
+/// What was taken of the line in work: how many bytes, and whether the last of them is a CR.
+#[derive(Clone, Copy, Drop)]
+struct Begun {
+    len: u32,
+    returned: bool,
+}
+
 /// The lines of a reader, which it reads through a buffer.
 ///
 /// A line ends with LF or CR LF, and a last line that has no end is a line where it isn't empty. Once an ask has failed
@@ -32,8 +43,8 @@ pub struct LineReader<R: Drop> {
 }
 
 impl<R: Read + Drop> LineReader<R> {
-    ghost use Rattle.paw_stage.specs.inner.Input.{bytes_unread, AsksOf, GathersOf, TakesByteOf};
-    ghost use Rattle.paw_stage.specs.inner.Input.{IsLong};
+    ghost use Rattle.paw_stage.specs.inner.Input.{bytes_unread, AsksOf, GathersOf, GathersFrom};
+    ghost use Rattle.paw_stage.specs.inner.Input.{IsLong, longest_line};
     ghost use Rattle.paw_stage.specs.declared.input.LineFailure.TheVariants as failure;
 
     /// The lines of a reader, of which nothing was read yet.
@@ -82,49 +93,128 @@ impl<R: Read + Drop> LineReader<R> {
         ensures line { GathersOf R.remaining self.old self.new result into.new }
         ensures rest { self.new.broken ≡ self.old.broken }
     {
-        let mut returned = false;
-        for len in 0..LONGEST_LINE + 2 {
-            match self.next_byte()? {
-                None => return Ok(if len == 0 { None } else { Some(len) }),
-                Some(b'\n') => return Ok(Some(without_return(len, returned))),
-                Some(byte) => {
-                    keep(into, len, byte);
-                    returned = byte == b'\r';
-                }
-            }
+        let mut begun = Begun {
+            len: 0,
+            returned: false,
+        };
+        if self.take_part(into, &mut begun) {
+            return Ok(Some(without_return(begun.len, begun.returned)));
         }
-        Ok(Some(LONGEST_LINE + 1))
+        self.read_on(into, begun)
     }
 
-    // Takes the next byte, if there is one.
-    fn next_byte(&mut self) -> Result<Option<u8>, Failed>
-        ensures taken { TakesByteOf R.remaining self.old self.new result }
-        ensures end { IfOk result (λ byte. IsNone byte → IsAtEnd (bytes_unread R.remaining self.new)) }
+    // Goes on with the line in work, as `gather` does, by reading until its end comes. Few lines begin in what one read
+    // gave and end in what the next one gives.
+    #[cold]
+    fn read_on(
+        &mut self,
+        into: &mut [u8; LINE_LIMIT],
+        mut begun: Begun,
+    ) -> Result<Option<u32>, Failed>
+        requires empty { self.old.ahead ≡ [] }
+        ensures line { (first : Option Bytes) →
+            Gathers first (bytes_unread R.remaining self.old) into.old begun.len begun.returned →
+            GathersFrom R.remaining first self.new result into.new }
         ensures rest { self.new.broken ≡ self.old.broken }
     {
-        match self.ahead.pop() {
-            Some(byte) => Ok(Some(byte)),
-            None => {
-                self.ahead.fill(&mut self.reader)?;
-                Ok(self.ahead.pop())
+        while begun.len < LONGEST_LINE + 2 {
+            self.ahead.fill(&mut self.reader)?;
+            if self.ahead.bytes().is_empty() {
+                return Ok(if begun.len == 0 {
+                    None
+                } else {
+                    Some(begun.len)
+                });
+            }
+            if self.take_part(into, &mut begun) {
+                return Ok(Some(without_return(begun.len, begun.returned)));
             }
         }
+        Ok(Some(begun.len))
     }
+
+    // Takes the bytes of the line in work that were read ahead, and its LF where that is among them. Gives whether it
+    // is.
+    fn take_part(&mut self, into: &mut [u8; LINE_LIMIT], begun: &mut Begun) -> bool
+        requires short { begun.old.len < longest_line + 2 }
+        ensures line { (first : Option Bytes) →
+            Gathers first (bytes_unread R.remaining self.old) into.old begun.old.len begun.old.returned →
+            Gathers first (prepend_known (line_end result) (bytes_unread R.remaining self.new))
+            into.new begun.new.len begun.new.returned }
+        ensures all { IsFalse result → self.new.ahead ≡ [] }
+        ensures grows { IsFalse result → begun.new.len ≡ begun.old.len + length self.old.ahead }
+        ensures rest { self.new.broken ≡ self.old.broken }
+    {
+        let ahead = self.ahead.bytes();
+        let count = keep_line(ahead, into, begun.len);
+        let ended = count < ahead.len();
+        begun.returned = ends_with_return(ahead, count, begun.returned);
+        begun.len += count as u32;
+        self.ahead.take(if ended { count + 1 } else { count });
+        ended
+    }
+}
+
+// Keeps the bytes before the first LF, or all where there is none, after those that were taken of the line in work, as
+// far as they are among its first 255. Gives how many they are.
+fn keep_line(bytes: &[u8], into: &mut [u8; LINE_LIMIT], taken: u32) -> usize
+    ensures within { result ≤ length bytes.now }
+    ensures plain { HasNoEnd (take result bytes.now) }
+    ensures end { result < length bytes.now → slice_index bytes.now result ≡ 10 }
+    ensures kept { KeepsPart into.old into.new taken result bytes.now }
+{
+    let kept = copy_line(bytes, into, taken.min(LINE_LIMIT as u32) as usize);
+    kept + line_length(&bytes[kept..])
+}
+
+// Copies bytes to an offset on, up to the first LF or as many as there is room for, and gives how many.
+fn copy_line(bytes: &[u8], into: &mut [u8; LINE_LIMIT], to: usize) -> usize
+    requires room { to ≤ LINE_LIMIT }
+    ensures within { result ≤ length bytes.now }
+    ensures room { to + result ≤ LINE_LIMIT }
+    ensures copied { take (to + result) into.new ≡ take to into.old ++ take result bytes.now }
+    ensures plain { HasNoEnd (take result bytes.now) }
+    ensures stops { result < length bytes.now → to + result < LINE_LIMIT → slice_index bytes.now result ≡ 10 }
+{
+    let most = bytes.len().min(LINE_LIMIT - to);
+    for at in 0..most {
+        let byte = bytes[at];
+        if byte == b'\n' {
+            return at;
+        }
+        into[to + at] = byte;
+    }
+    most
+}
+
+fn first_line_feed(bytes: &[u8]) -> Option<usize>
+    ensures value { result ≡ position (λ byte. byte == 10) bytes.now }
+{
+    bytes.iter().position(|byte| *byte == b'\n')
+}
+
+// How many bytes stand before the first LF, or how many there are where there is none.
+fn line_length(bytes: &[u8]) -> usize
+    ensures value { result ≡ position_or_len (λ byte. byte == 10) bytes.now }
+    ensures within { result ≤ length bytes.now }
+{
+    first_line_feed(bytes).unwrap_or(bytes.len())
+}
+
+// Whether the last of the first bytes is a CR; where there is none of them, what was so before.
+fn ends_with_return(bytes: &[u8], count: usize, before: bool) -> bool
+    requires within { count ≤ length bytes.now }
+    ensures value { result ≡ (if nat_lt 0 count then slice_index bytes.now (count - 1) == 13 else before) }
+{
+    if count == 0 {
+        return before;
+    }
+    bytes[count - 1] == b'\r'
 }
 
 // The length of a line without the CR before its LF.
 fn without_return(len: u32, returned: bool) -> u32
-    requires nonempty { IsTrue returned → 0 < len }
     ensures value { result ≡ (if returned then len - 1 else len) }
 {
-    if returned { len - 1 } else { len }
-}
-
-// Keeps a byte of the line, if it is one of the first 255.
-fn keep(into: &mut [u8; LINE_LIMIT], at: u32, byte: u8)
-    ensures kept { into.new ≡ (if nat_lt at LINE_LIMIT then slice_set into.old at byte else into.old) }
-{
-    if at < LINE_LIMIT as u32 {
-        into[at as usize] = byte;
-    }
+    if returned { len.saturating_sub(1) } else { len }
 }

@@ -1,9 +1,8 @@
 -- What a reader of lines takes from its bytes.
-use Rattle.std.specs.Prelude.{◌≡◌, ◌≢◌, ℕ, ◌<◌, ◌≤◌, ⊤, Bool, [], ◌∷◌, length, take, min, Option, Some, None}
+use Rattle.std.specs.Prelude.{◌≡◌, ℕ, ◌<◌, ◌≤◌, ⊤, [], length, take, min, Option, Some, None}
 use Rattle.std.specs.Prelude.{IfSome, Result, IfOk}
-use Rattle.std.specs.Option.{option_to_list}
-use Rattle.std.specs.Io.KnownBytes.{prepend_known, Consumes}
-use Rattle.std.specs.Io.BufRead.{ends_with_byte, first_line, drop_through}
+use Rattle.std.specs.Io.KnownBytes.{prepend_known}
+use Rattle.std.specs.Io.BufRead.{first_line, drop_through}
 use Rattle.paw_base.specs.Bytes.{Bytes}
 use Rattle.paw_base.specs.declared.limits.TheConstants.{LINE_LIMIT}
 use Rattle.paw_stage.specs.Stage.{IsCut}
@@ -46,7 +45,13 @@ GathersLine bytes left None into = (bytes ≡ []) × (left ≡ Some [])
 GathersLine bytes left (Some len) into =
     (len ≤ longest_line → HasLine bytes left len into) × (longest_line < len → IsLong (Some bytes))
 
--- What an ask, the gathering of a line and the taking of a byte do to a reader, where its bytes are known.
+-- What gathering gives of a line of which a part was maybe taken before from the first bytes, where these are known.
+abbrev pub GathersFrom : {R E : Type 0} → (R → Option Bytes) → Option Bytes → LineReader R → Result (Option ℕ) E → Bytes
+    → Type 0
+GathersFrom remaining first new gathered into =
+    IfSome first (λ bytes. IfOk gathered (λ len. GathersLine bytes (bytes_unread remaining new) len into))
+
+-- What an ask and the gathering of a line do to a reader, where its bytes are known.
 module _ {R : Type 0} (remaining : R → Option Bytes) (old new : LineReader R) where
   -- What an ask does to a reader.
   abbrev pub AsksOf : Asked → Bytes → Type 0
@@ -55,26 +60,4 @@ module _ {R : Type 0} (remaining : R → Option Bytes) (old new : LineReader R) 
 
   -- What the gathering of a line does to a reader.
   abbrev pub GathersOf : {E : Type 0} → Result (Option ℕ) E → Bytes → Type 0
-  GathersOf gathered into =
-      IfSome (bytes_unread remaining old) (λ bytes. IfOk gathered
-      (λ len. GathersLine bytes (bytes_unread remaining new) len into))
-
-  -- What the taking of a byte does to a reader.
-  abbrev pub TakesByteOf : {E : Type 0} → Result (Option ℕ) E → Type 0
-  TakesByteOf taken =
-      IfOk taken (λ byte. Consumes (bytes_unread remaining old) (bytes_unread remaining new) (option_to_list byte))
-
--- No byte of these is an LF.
-abbrev pub HasNoEnd : Bytes → Type 0
-HasNoEnd [] = Unit {0}
-HasNoEnd (x ∷ xs) = (x ≢ 10) × HasNoEnd xs
-
--- Of the line in work this number of bytes was taken from the first bytes, with no LF among them. Their first 255 stand
--- in a buffer, and `returned` says that the last of them is a CR.
-pub record Gathers (first left : Option Bytes) (into : Bytes) (len : ℕ) (returned : Bool) : Type 0 where
-  pub taken : Bytes
-  pub consumed : Consumes first left taken
-  pub count : length taken ≡ len
-  pub plain : HasNoEnd taken
-  pub kept : take (min len LINE_LIMIT) into ≡ take LINE_LIMIT taken
-  pub last : returned ≡ ends_with_byte 13 taken
+  GathersOf gathered into = GathersFrom remaining (bytes_unread remaining old) new gathered into

@@ -1,28 +1,18 @@
-use Rattle.std.proofs.Common.{refl, ◌∙◌, arith}
-use Rattle.paw_stage.proofs.Gathered.{gathers_more, gathered_whole, gathered_end, gathered_long}
+use Rattle.std.proofs.Common.{[], ◌∷◌, subst}
+use Rattle.std.specs.Io.KnownBytes.{prepend_known}
+use Rattle.paw_stage.specs.inner.Input.{bytes_unread}
+use Rattle.paw_stage.specs.inner.LineParts.{Gathers, line_end}
+use Rattle.paw_stage.proofs.Consumed.{consumes_end}
+use Rattle.paw_stage.proofs.Gathered.{gathers_none, gathered_end}
 use Rattle.paw_stage.proofs.input.LineReader.gather.Goals as goal
 
-pub returns-else-len-eq0-clause-line : goal.returns-else-len-eq0-clause-line
-returns-else-len-eq0-clause-line g c =
-    let taken = rw c.in-None.is at c.in_ok-next_byte.ensures.taken in
-    let end = rw c.in-None.is at c.in_ok-next_byte.ensures.end in
-    gathered_whole _ _ _ c.loop-len.into c.loop-len.len c.loop-len.returned c.loop-len.invariant.gathered taken (end refl) (omega (arith, c.if-len-eq0.false))
-
-pub returns-in-Some-eq10-clause-line : goal.returns-in-Some-eq10-clause-line
-returns-in-Some-eq10-clause-line g c =
-    let taken = rw (c.in-Some-eq10.is, c.in-Some-eq10.field-0-test) at c.in_ok-next_byte.ensures.taken in
-    rw c.without_return.ensures.value (gathered_end _ _ _ c.loop-len.into c.loop-len.len c.loop-len.returned c.loop-len.invariant.gathered taken)
-
-pub returns-clause-line : goal.returns-clause-line
-returns-clause-line g c =
-    gathered_long _ _ _ c.loop-len.into c.loop-len.len c.loop-len.returned c.loop-len.invariant.gathered (omega (arith, c.loop-len-test.false))
-
-pub loop-len-preserved : goal.loop-len-preserved
-loop-len-preserved g c =
-    let taken = rw c.in-Some.is at c.in_ok-next_byte.ensures.taken in
-    record {
-      rest = c.in_ok-next_byte.ensures.rest ∙ c.loop-len.invariant.rest;
-      size = c.keep.array_long;
-      gathered = gathers_more _ _ _ c.loop-len.into c.keep.new.into c.loop-len.len c.in-Some.byte c.loop-len.returned
-          c.loop-len.invariant.gathered taken c.in-Some.byte-test.1 c.loop-len.invariant.size c.keep.ensures.kept;
-    }
+pub returns-then-take_part-clause-line : goal.returns-then-take_part-clause-line
+returns-then-take_part-clause-line g c =
+    let remaining = g.R.Read.remaining in
+    let first = bytes_unread remaining c.args.self.now in
+    let part = c.take_part.new in
+    let left = bytes_unread remaining part.self in
+    let taken = subst (λ t. Gathers first (prepend_known (line_end t) left) part.into part.begun.len part.begun.returned)
+    c.if-take_part.true (c.take_part.ensures.line first (gathers_none first c.args.into.now)) in
+    rw c.without_return.ensures.value (gathered_end first (prepend_known (10 ∷ []) left) left part.into part.begun.len
+    part.begun.returned taken (consumes_end left (10 ∷ [])))
