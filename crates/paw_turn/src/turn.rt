@@ -241,6 +241,8 @@ impl PlayState {
     }
 
     // Says that no entry answered and no exit leads on, drops the rest of the line, and goes on with the time frame.
+    // It isn't inlined, because few lines are refused, and `after_table` is then small enough to be inlined itself.
+    #[inline(never)]
     fn refuse<T: Tables>(&mut self, tables: &T) -> Next
         requires ready { MayGoOn (T.game tables.now) self.old }
         ensures meaning { (X : RoutineAnswers) → let g = story_of (T.game tables.now) X in
