@@ -242,8 +242,8 @@ pub fn plain_code(code: u8) -> u8
     }
 }
 
-/// What the parameters of a condact name, as its plain code has them. An indirect one has as many parameters: all but the
-/// first name the same, and in the place of the first is a flag.
+/// What the parameters of a condact name, as its plain code has them. An indirect one has as many parameters: all but
+/// the first name the same, and in the place of the first is a flag.
 pub fn plain_kinds(code: u8) -> (ParamKind, ParamKind)
     requires code { IsCode code }
     ensures first { result.0 ≡ first_kind (plain_code code) }

@@ -28,8 +28,8 @@ const NO_STEP: StepRow = StepRow {
     yes: false,
 };
 
-/// The condacts that were read for a piece: how many there were, and the first 1,000, or none where they are only counted.
-/// It takes no memory.
+/// The condacts that were read for a piece: how many there were, and the first 1,000, or none where they are only
+/// counted. It takes no memory.
 #[derive(Drop)]
 pub struct Steps {
     rows: [StepRow; STEP_LIMIT],

@@ -63,8 +63,8 @@ fn host_game<S: Stage, T: Tables, F: Fn(u8, u8) -> u8>(
 /// Whatever sessions there are at first, the text that is shown is that of `replies` to the lines that were taken, or a
 /// first part of it where a call failed: so what a player reads depends on the lines of that name alone. At each moment
 /// whatever a crash leaves of the file of a name is of its session before the line that is being answered or after it,
-/// and its reply is shown only once it is that after it (`InHost`). A file that is refused stays as it is. Over whatever
-/// a crash leaves, hosting may be begun again (`laws`).
+/// and its reply is shown only once it is that after it (`InHost`). A file that is refused stays as it is. Over
+/// whatever a crash leaves, hosting may be begun again (`laws`).
 pub fn host<S: Stage, F: Fn(u8, u8) -> u8>(
     alloc: Global,
     stage: &mut S,

@@ -67,7 +67,8 @@ pub(crate) fn write<S: Stage>(stage: &mut S, at: u64, bytes: &[u8]) -> Result<()
         (λ old. InWrite old at (length bytes.now)) stage.old stage.new }
     ensures serves { FailsOnlyBy S.Stage (call.Write ∷ []) (failed_stage_call result) stage.old stage.new }
     ensures few { IfTelling S.Stage stage.old stage.new (WritesAtMost (length bytes.now)) }
-    ensures part { IfTelling S.Stage stage.old stage.new (λ old new. OnErr result (InWrite old at (length bytes.now) new)) }
+    ensures part { IfTelling S.Stage stage.old stage.new (λ old new.
+        OnErr result (InWrite old at (length bytes.now) new)) }
 {
     match stage.write_at(at, bytes) {
         Ok(_) => Ok(()),

@@ -174,7 +174,8 @@ static PASSES: [(u64, u64, u8, &[Option<(u8, usize)>]); 7] = [
     (20, 21, 3, &[THIRD, THIRD, THIRD]),
 ];
 
-// Stops sessions after this number of calls: what they do by then, and what a search finds after a crash with each pick.
+// Stops sessions after this number of calls: what they do by then, and what a search finds after a crash with each
+// pick.
 fn sessions_stop(
     rt: &impl Abort,
     alloc: Global,

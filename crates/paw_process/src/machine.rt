@@ -72,8 +72,8 @@ impl Model for Machine {
 }
 
 impl Machine {
-    /// A machine with no open table, a full budget, and no steps. Of the steps of a piece it keeps the first 1,000; all are
-    /// counted.
+    /// A machine with no open table, a full budget, and no steps. Of the steps of a piece it keeps the first 1,000; all
+    /// are counted.
     pub fn new() -> Machine
         ensures value { result ≡ new_machine STEP_LIMIT }
     {
@@ -166,8 +166,8 @@ impl Machine {
     }
 
     /// The frames of the machine and its loop, to be kept where it waits. Restored at the prompt where it waits, they
-    /// give the same machine with a full budget and no steps, of which it keeps the first 1,000; and they can be restored
-    /// wherever they are frames of a run.
+    /// give the same machine with a full budget and no steps, of which it keeps the first 1,000; and they can be
+    /// restored wherever they are frames of a run.
     pub fn frames(&self) -> Frames
         ensures value { result ≡ kept_of self.now }
         ensures again { (p : AtPrompt) → WaitsAtPrompt p self.now →
@@ -184,7 +184,8 @@ impl Machine {
         }
     }
 
-    /// A machine with kept frames that waits at this prompt, with a full budget and no steps. Its `frames` are these again.
+    /// A machine with kept frames that waits at this prompt, with a full budget and no steps. Its `frames` are these
+    /// again.
     ///
     /// # Errors
     /// The least depth at which the frames break a rule, exactly where they break one for this game: inside tables the

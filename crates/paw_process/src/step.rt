@@ -527,9 +527,9 @@ impl<T: Tables, F: Fn(u8, u8) -> u8> StoryReader<'_, T, F> {
         self.tables.match_cursor(f.table, f.entry, verb, noun)
     }
 
-    /// Reads on at a frame in the place of the innermost one: in its entry, or in the next one that matches, and so on from
-    /// entry to entry, as long as reading goes on in the table. It leaves the frame where reading goes on then, which the
-    /// machine needn't hold yet, unless the machine has stopped.
+    /// Reads on at a frame in the place of the innermost one: in its entry, or in the next one that matches, and so on
+    /// from entry to entry, as long as reading goes on in the table. It leaves the frame where reading goes on then,
+    /// which the machine needn't hold yet, unless the machine has stopped.
     pub(crate) fn read_on(
         &self,
         machine: &mut Machine,

@@ -154,8 +154,8 @@ impl<'a, T: Tables, F: Fn(u8, u8) -> u8> Player<'a, T, F> {
         })
     }
 
-    /// Goes back to the start of the game, with another seed: the player is as `new` gives it, but where it only counts its
-    /// steps it still does. Takes no memory.
+    /// Goes back to the start of the game, with another seed: the player is as `new` gives it, but where it only counts
+    /// its steps it still does. Takes no memory.
     pub fn renew(&mut self, seed: u64)
         requires seated { IsSeated self.old }
         ensures game { self.new.game ≡ self.old.game }
@@ -243,8 +243,8 @@ impl<'a, T: Tables, F: Fn(u8, u8) -> u8> Player<'a, T, F> {
         self.turn.piece()
     }
 
-    /// The steps of the last piece: how many condacts were read for it, and the first 1,000, or none where the player only
-    /// counts them. After Spent and TooDeep they are those of the piece that wasn't closed.
+    /// The steps of the last piece: how many condacts were read for it, and the first 1,000, or none where the player
+    /// only counts them. After Spent and TooDeep they are those of the piece that wasn't closed.
     pub fn steps(&self) -> &Steps
         ensures value { result.now ≡ self.now.machine.steps }
     {

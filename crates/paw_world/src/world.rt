@@ -73,8 +73,8 @@ impl Model for World {
 }
 
 impl World {
-    // What keeps or fills a whole set of places isn't inlined: a set takes 8,456 bytes of the stack, which the loop that
-    // reads condacts would reserve each time that it begins.
+    // What keeps or fills a whole set of places isn't inlined: a set takes 8,456 bytes of the stack, which the loop
+    // that reads condacts would reserve each time that it begins.
 
     /// The world at the start of a game with these objects, this number of locations and this seed.
     pub fn new(facts: &[ObjectFacts], locations: u8, seed: u64) -> World

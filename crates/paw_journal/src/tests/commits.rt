@@ -223,9 +223,9 @@ fn each_byte_that_commits_leave(rt: HostRuntime) -> Result<(), Fail> {
     Ok(())
 }
 
-/// What makes slot 1, from 86,208 on, which isn't chosen, one without a state: it is of version 1; it has too many change
-/// records; one of them isn't sound; there is no room for three more. Each time one that stands where the records are
-/// stays there.
+/// What makes slot 1, from 86,208 on, which isn't chosen, one without a state: it is of version 1; it has too many
+/// change records; one of them isn't sound; there is no room for three more. Each time one that stands where the
+/// records are stays there.
 static WITHOUT_STATE: [[(usize, u8); 4]; 4] = [
     [(86_208, 1), (86_209, 0), (86_210, 1), (155_904, 8)],
     [(86_208, 1), (86_209, 16), (86_210, 2), (155_904, 8)],

@@ -60,7 +60,8 @@ LeadsOn g x first y now = (t : Option Turned) (new : Held) → ReadsTable g y no
 -- The machine has read on in its innermost table from one frame, where it began, to another, and may read on there in
 -- this way: at the frame (`going_at`), or at the condact of an entry that matches (`reading_at`).
 pub record IsInTable {F : Type 0} (calls : Shared F (ℕ × (ℕ × Unit {0})) ℕ) (routines : Routines F) (g : GameLists)
-    (start : Frame) (first : Held) (reading : Story → List Frame → Frame → Run → Out) (f : Frame) (now : Held) : Type 0 where
+    (start : Frame) (first : Held) (reading : Story → List Frame → Frame → Run → Out) (f : Frame) (now : Held)
+    : Type 0 where
   pub leads : InStories calls routines g (λ s.
       LeadsOn s (going_at s (below first.machine.frames) start) first (reading s (below now.machine.frames) f) now)
   pub may : MayReadNext calls routines g now.machine now.surroundings.world

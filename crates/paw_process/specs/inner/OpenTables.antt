@@ -18,8 +18,8 @@ pub record OpenTables : Type 0 where
   pub left : ℕ
   pub steps : KeptSteps
 
--- The open piece has read these condacts, and with what it may still read that makes as many as a piece may. Of its steps
--- as many are kept as the machine keeps.
+-- The open piece has read these condacts, and with what it may still read that makes as many as a piece may. Of its
+-- steps as many are kept as the machine keeps.
 pub record HasRead (read : List Step) (m : OpenTables) : Type 0 where
   pub left : length read + m.left ≡ READ_LIMIT
   pub steps : m.steps ≡ kept_steps m.steps.most read

@@ -18,8 +18,8 @@ line_end ended = if ended then 10 ∷ [] else []
 abbrev pub bytes_kept : ℕ → ℕ
 bytes_kept taken = min taken LINE_LIMIT
 
--- Once `taken` bytes of a line were taken, the next `count` were taken from these bytes: after the old ones, a buffer with
--- the first 255 of the line has those of the new ones that are among them.
+-- Once `taken` bytes of a line were taken, the next `count` were taken from these bytes: after the old ones, a buffer
+-- with the first 255 of the line has those of the new ones that are among them.
 abbrev pub KeepsPart : Bytes → Bytes → ℕ → ℕ → Bytes → Type 0
 KeepsPart old new taken count bytes =
     take (bytes_kept (taken + count)) new

@@ -79,8 +79,8 @@ seated_again p =
     let at = prompt_at p.last in
     seat_at p.game p.routines p.world (machine_restored (machine_kept p.machine) (waiting_at at)) p.pending at
 
--- A player seated with its own parts is the same, except that it shows no piece, has a full budget and no steps, and keeps
--- the first 1,000 of those to come.
+-- A player seated with its own parts is the same, except that it shows no piece, has a full budget and no steps, and
+-- keeps the first 1,000 of those to come.
 abbrev pub SeatedAgain : Type 0 → Type 0
 SeatedAgain F =
     (p : PlayerView F) → IsSeated p → IsStanding p.last →

@@ -87,7 +87,8 @@ PlayHalts whole halt new pieces traces =
 
 -- Playing on in a story ends this way. Whatever lines come after, the whole reading of them goes on from the player's
 -- prompt with one more piece; or is over with one more piece, as the player stands; or is spent, or a call is too deep,
--- with no further piece and none to show. Of the piece that was closed the player keeps as many steps as it keeps of each.
+-- with no further piece and none to show. Of the piece that was closed the player keeps as many steps as it keeps of
+-- each.
 abbrev pub PlaysTo : {F : Type 0} → Story → (Lines → Ending) → Step → PlayerView F → Texts → List (List Read) → Type 0
 PlaysTo g whole (step.Waits p) new pieces traces =
     (read : List Read) × ((new.machine.steps ≡ kept_steps new.machine.steps.most read) × ((lines : Lines) →
