@@ -147,6 +147,7 @@ fn hindrance_to_take_out(world: &World, o: u8, place: u8) -> Option<ObjectReply>
 }
 
 /// What hinders an action on an object that was referred to: the message of the first test that holds.
+#[inline(always)] // so that its answer needn't go through memory
 pub(crate) fn hindrance(world: &World, o: u8, action: Action) -> Option<ObjectReply>
     requires known { o < length world.now.places }
     ensures value { result ≡ first_that_holds (hindrances world.now o action) }

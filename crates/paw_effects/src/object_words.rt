@@ -110,6 +110,7 @@ impl ObjectReply {
 }
 
 /// Prints this message. False exactly where it doesn't fit; the piece may then hold anything.
+#[inline(always)] // so that its message needn't be put together for a call
 pub(crate) fn speak<T: Tables>(
     tables: &T,
     world: &World,
