@@ -108,6 +108,7 @@ fn first_match(entries: &[Entry], from: usize, verb: u8, noun: u8) -> Option<usi
     None
 }
 
+// Whether an entry is for this verb and this noun.
 fn matches(entry: &Entry, verb: u8, noun: u8) -> bool
     ensures value { result ≡ matches verb noun entry.now }
 {
@@ -118,7 +119,8 @@ fn matches(entry: &Entry, verb: u8, noun: u8) -> bool
 pub fn is_for(word: u8, flag: u8) -> bool
     ensures value { result ≡ is_for word flag }
 {
-    word == ANY_WORD || word == NO_WORD || word == flag
+    // NO_WORD is asked for first, because most entries that are read have it.
+    word == NO_WORD || word == ANY_WORD || word == flag
 }
 
 pub(crate) fn word_at(parts: &GameParts, letters: &[u8; WORD_LENGTH]) -> Option<(u8, u8)>
@@ -129,8 +131,8 @@ pub(crate) fn word_at(parts: &GameParts, letters: &[u8; WORD_LENGTH]) -> Option<
     Some((word.value, word.class))
 }
 
-/// The word with these letters, of words that rise by their letters.
-pub fn word_of<'a>(letters: &[u8; WORD_LENGTH], words: &'a [Word]) -> Option<&'a Word>
+// The word with these letters, of words that rise by their letters.
+fn word_of<'a>(letters: &[u8; WORD_LENGTH], words: &'a [Word]) -> Option<&'a Word>
     requires sorted { IsTrue (words_rise words.now) }
     ensures value { option_copied result ≡ word_of letters.now words.now }
 {
