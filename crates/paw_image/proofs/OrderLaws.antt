@@ -8,9 +8,8 @@ use Rattle.std.proofs.lemmas.Bool.{cases_lt, eqb-true, eq-eqb, ltb-true, ltb-fal
 use Rattle.std.proofs.lemmas.List.{get_or-take, get_or-drop, get_or_default}
 use Rattle.std.proofs.lemmas.List.Sorted.{IsNonDecreasingBy-take, IsNonDecreasingBy-drop}
 use Rattle.paw_base.specs.declared.words.TheConstants.{NO_WORD}
-use Rattle.paw_image.specs.declared.order.Order.{Order}
 use Rattle.paw_image.specs.inner.Orders.{is_kept_for, is_match, is_pair, lower, entry_rank, ranks_at, AreStarts}
-use Rattle.paw_image.specs.inner.Orders.{IsLeast, IsMatch, IsRun, IsSorted, IsStart}
+use Rattle.paw_image.specs.inner.Orders.{IsLeast, IsMatch, IsRun, IsStart}
 use Rattle.paw_image.proofs.Stands.{and_true}
 
 -- ---- the first number with a property ----
@@ -100,19 +99,18 @@ starts_rise ranks verb start end s e =
     ]
 
 -- Between which offsets the ranks of a verb stand.
-pub record RunsAt (order : Order) (verb start end : ℕ) : Type 0 where
-  pub starts : IsStart order.ranks.items verb start
-  pub ends : IsStart order.ranks.items (verb + 1) end
+pub record RunsAt (ranks : List ℕ) (verb start end : ℕ) : Type 0 where
+  pub starts : IsStart ranks verb start
+  pub ends : IsStart ranks (verb + 1) end
   pub rise : start ≤ end
 
-pub runs_at : (order : Order) (verb start end : ℕ) → IsSorted order → verb < 256
-    → start ≡ get_or order.starts.items verb start → end ≡ get_or order.starts.items (verb + 1) end
-    → RunsAt order verb start end
-runs_at order verb start end sorted low s e =
-    let ranks = order.ranks.items in
-    let starts = start_at ranks order.starts.items sorted.starts verb start (omega arith) s in
-    let ends = start_at ranks order.starts.items sorted.starts (verb + 1) end (omega arith) e in
-    record { starts = starts; ends = ends; rise = starts_rise ranks verb start end starts ends }
+pub runs_at : (ranks starts : List ℕ) (verb start end : ℕ) → AreStarts ranks starts → verb < 256
+    → start ≡ get_or starts verb start → end ≡ get_or starts (verb + 1) end
+    → RunsAt ranks verb start end
+runs_at ranks starts verb start end are low s e =
+    let begins = start_at ranks starts are verb start (omega arith) s in
+    let ends = start_at ranks starts are (verb + 1) end (omega arith) e in
+    record { starts = begins; ends = ends; rise = starts_rise ranks verb start end begins ends }
 
 module _ (ranks : List ℕ) (up : IsNonDecreasing ranks) (verb start end : ℕ) (s : IsStart ranks verb start) (e : IsStart ranks (verb + 1) end) where
   run : List ℕ

@@ -71,7 +71,8 @@ fn sorted_ranks(alloc: Global, bytes: &[u8], offsets: &[u32]) -> Result<Vec<u32>
     ensures few { IfOk result (λ v. length v.items ≤ ENTRY_LIMIT) }
 {
     let mut ranks = ranks_at(alloc, bytes, offsets)?;
-    ranks.sort_unstable();
+    // The entries of a game mostly stand in runs that rise, which this sort finds and only merges.
+    ranks.sort()?;
     Ok(ranks)
 }
 
@@ -107,6 +108,18 @@ fn starts_of(alloc: Global, ranks: &[u32]) -> Result<Vec<u16>, AllocError>
     Ok(starts)
 }
 
+// The ranks with this verb.
+fn run_of<'a>(ranks: &'a [u32], starts: &[u16], verb: u8) -> &'a [u32]
+    requires rises { IsNonDecreasing ranks.now }
+    requires starts { AreStarts ranks.now starts.now }
+    ensures run { IsRun ranks.now verb result.now }
+{
+    let verb = verb as usize;
+    let start = starts[verb] as usize;
+    let end = starts[verb + 1] as usize;
+    &ranks[start..end]
+}
+
 // For each entry up to the last that matches any verb and any noun: which of these comes next, from it on.
 fn next_any_of(alloc: Global, ranks: &[u32]) -> Result<Vec<u16>, AllocError>
     requires rises { IsNonDecreasing ranks.now }
@@ -130,23 +143,12 @@ pub fn order_of(alloc: Global, bytes: &[u8], offsets: &[u32]) -> Result<Order, A
 {
     let ranks = sorted_ranks(alloc, bytes, offsets)?;
     let starts = starts_of(alloc, &ranks)?;
-    let next_any = next_any_of(alloc, &ranks)?;
+    let next_any = next_any_of(alloc, run_of(&ranks, &starts, NO_WORD))?;
     Ok(Order {
         ranks,
         starts,
         next_any,
     })
-}
-
-// The ranks with this verb.
-fn run_of(order: &Order, verb: u8) -> &[u32]
-    requires sorted { IsSorted order.now }
-    ensures run { IsRun order.now.ranks.items verb result.now }
-{
-    let verb = verb as usize;
-    let start = order.starts[verb] as usize;
-    let end = order.starts[verb + 1] as usize;
-    &order.ranks[start..end]
 }
 
 // The index of the first rank that isn't below this one.
@@ -198,13 +200,13 @@ fn lower(first: Option<u16>, second: Option<u16>) -> Option<u16>
     }
 }
 
-// The least entry not below `from` that is kept with this verb, and whose noun matches. A sentence with no noun looks
-// for none but those of any noun.
+// The least entry not below `from` that is kept with this verb, and whose noun matches. Where the
+// sentence has no noun, one search is enough: both would be the same.
 fn first_for(order: &Order, verb: u8, noun: u8, from: u16) -> Option<u16>
     requires sorted { IsSorted order.now }
     ensures least { IsLeast (IsMatch order.now.ranks.items (λ v n. (v == verb) && is_kept_for n noun) from) result }
 {
-    let run = run_of(order, verb);
+    let run = run_of(&order.ranks, &order.starts, verb);
     let none = first_with(run, verb, NO_WORD, from);
     if noun == NO_WORD {
         return none;
@@ -227,7 +229,8 @@ fn first_for_any(order: &Order, noun: u8, from: u16) -> Option<u16>
     ensures least { IsLeast (IsMatch order.now.ranks.items (λ v n. (v == NO_WORD) && is_kept_for n noun) from) result }
 {
     let none = any_from(order, from);
-    let same = first_with(run_of(order, NO_WORD), NO_WORD, noun, from);
+    let run = run_of(&order.ranks, &order.starts, NO_WORD);
+    let same = first_with(run, NO_WORD, noun, from);
     lower(none, same)
 }
 

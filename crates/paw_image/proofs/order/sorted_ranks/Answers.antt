@@ -6,13 +6,13 @@ use Rattle.paw_image.proofs.order.sorted_ranks.Goals as goal
 
 pub returns : goal.returns
 returns c =
-    let ranks = c.sort_unstable.new.self.items in
+    let ranks = c.sort.new.self.items in
     record {
-      same = subst (λ (rs : List ℕ). IsPermutation rs ranks) c.in_ok-ranks.ensures.value c.sort_unstable.ensures.permutation;
-      rises = IsNonDecreasingBy-from_sort (λ r. r) ranks c.sort_unstable.ensures.sorted;
+      same = subst (λ (rs : List ℕ). IsPermutation rs ranks) c.in_ok-ranks.ensures.value c.sort.ensures.permutation;
+      rises = IsNonDecreasingBy-from_sort (λ r. r) ranks c.sort.ensures.sorted;
       few = omega (
         arith,
-        c.sort_unstable.ensures.len,
+        c.sort.ensures.len,
         ap length c.in_ok-ranks.ensures.value,
         ranks_long c.args.bytes.now 0 c.args.offsets.now,
         c.requires.few,
