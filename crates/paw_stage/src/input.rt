@@ -24,11 +24,11 @@ pub enum LineFailure {
     Reader,
 }
 
-/// What was taken of the line in work: how many bytes, and whether the last of them is a CR.
+/// What was taken of the line that is being read: how many bytes, and whether the last of them is a CR.
 #[derive(Clone, Copy, Drop)]
-struct Begun {
+struct LineBegun {
     len: u32,
-    returned: bool,
+    ends_with_return: bool,
 }
 
 /// The lines of a reader, which it reads through a buffer.
@@ -93,27 +93,27 @@ impl<R: Read + Drop> LineReader<R> {
         ensures line { GathersOf R.remaining self.old self.new result into.new }
         ensures rest { self.new.broken ≡ self.old.broken }
     {
-        let mut begun = Begun {
+        let mut begun = LineBegun {
             len: 0,
-            returned: false,
+            ends_with_return: false,
         };
         if self.take_part(into, &mut begun) {
-            return Ok(Some(without_return(begun.len, begun.returned)));
+            return Ok(Some(without_return(begun.len, begun.ends_with_return)));
         }
         self.read_on(into, begun)
     }
 
-    // Goes on with the line in work, as `gather` does, by reading until its end comes. Few lines begin in what one read
-    // gave and end in what the next one gives.
+    // Goes on with the line that is being read, of which nothing may have been taken yet, by reading until its end comes. One read
+    // of a file gives many lines; at a terminal each comes through here, after a wait for the player.
     #[cold]
     fn read_on(
         &mut self,
         into: &mut [u8; LINE_LIMIT],
-        mut begun: Begun,
+        mut begun: LineBegun,
     ) -> Result<Option<u32>, Failed>
         requires empty { self.old.ahead ≡ [] }
         ensures line { (first : Option Bytes) →
-            Gathers first (bytes_unread R.remaining self.old) into.old begun.len begun.returned →
+            Gathers first (bytes_unread R.remaining self.old) into.old begun.len begun.ends_with_return →
             GathersFrom R.remaining first self.new result into.new }
         ensures rest { self.new.broken ≡ self.old.broken }
     {
@@ -127,20 +127,20 @@ impl<R: Read + Drop> LineReader<R> {
                 });
             }
             if self.take_part(into, &mut begun) {
-                return Ok(Some(without_return(begun.len, begun.returned)));
+                return Ok(Some(without_return(begun.len, begun.ends_with_return)));
             }
         }
         Ok(Some(begun.len))
     }
 
-    // Takes the bytes of the line in work that were read ahead, and its LF where that is among them. Gives whether it
+    // Takes the bytes of the line being read that were read ahead, and its LF where that is among them. Gives whether it
     // is.
-    fn take_part(&mut self, into: &mut [u8; LINE_LIMIT], begun: &mut Begun) -> bool
+    fn take_part(&mut self, into: &mut [u8; LINE_LIMIT], begun: &mut LineBegun) -> bool
         requires short { begun.old.len < longest_line + 2 }
         ensures line { (first : Option Bytes) →
-            Gathers first (bytes_unread R.remaining self.old) into.old begun.old.len begun.old.returned →
+            Gathers first (bytes_unread R.remaining self.old) into.old begun.old.len begun.old.ends_with_return →
             Gathers first (prepend_known (line_end result) (bytes_unread R.remaining self.new))
-            into.new begun.new.len begun.new.returned }
+            into.new begun.new.len begun.new.ends_with_return }
         ensures all { IsFalse result → self.new.ahead ≡ [] }
         ensures grows { IsFalse result → begun.new.len ≡ begun.old.len + length self.old.ahead }
         ensures rest { self.new.broken ≡ self.old.broken }
@@ -148,15 +148,16 @@ impl<R: Read + Drop> LineReader<R> {
         let ahead = self.ahead.bytes();
         let count = keep_line(ahead, into, begun.len);
         let ended = count < ahead.len();
-        begun.returned = ends_with_return(ahead, count, begun.returned);
+        begun.ends_with_return = ends_with_return(ahead, count, begun.ends_with_return);
         begun.len += count as u32;
         self.ahead.take(if ended { count + 1 } else { count });
         ended
     }
 }
 
-// Keeps the bytes before the first LF, or all where there is none, after those that were taken of the line in work, as
-// far as they are among its first 255. Gives how many they are.
+// Keeps the bytes before the first LF, or all where there is none, after those that were taken of the line being read, as
+// far as they are among its first 255. Gives how many they are. It looks for the LF while it copies, so that most lines
+// are gone over once.
 fn keep_line(bytes: &[u8], into: &mut [u8; LINE_LIMIT], taken: u32) -> usize
     ensures within { result ≤ length bytes.now }
     ensures plain { HasNoEnd (take result bytes.now) }
@@ -187,6 +188,7 @@ fn copy_line(bytes: &[u8], into: &mut [u8; LINE_LIMIT], to: usize) -> usize
     most
 }
 
+// Where the first LF stands.
 fn first_line_feed(bytes: &[u8]) -> Option<usize>
     ensures value { result ≡ position (λ byte. byte == 10) bytes.now }
 {
@@ -212,9 +214,13 @@ fn ends_with_return(bytes: &[u8], count: usize, before: bool) -> bool
     bytes[count - 1] == b'\r'
 }
 
-// The length of a line without the CR before its LF.
-fn without_return(len: u32, returned: bool) -> u32
-    ensures value { result ≡ (if returned then len - 1 else len) }
+// The length of a line without the CR before its LF. A CR is a byte, so nothing saturates: it says so without a proof.
+fn without_return(len: u32, ends_with_return: bool) -> u32
+    ensures value { result ≡ (if ends_with_return then len - 1 else len) }
 {
-    if returned { len.saturating_sub(1) } else { len }
+    if ends_with_return {
+        len.saturating_sub(1)
+    } else {
+        len
+    }
 }

@@ -1,5 +1,5 @@
 -- What a reader of lines takes from its bytes.
-use Rattle.std.specs.Prelude.{◌≡◌, ℕ, ◌<◌, ◌≤◌, ⊤, [], length, take, min, Option, Some, None}
+use Rattle.std.specs.Prelude.{◌≡◌, ℕ, ◌<◌, ◌≤◌, ⊤, [], length, take, Option, Some, None}
 use Rattle.std.specs.Prelude.{IfSome, Result, IfOk}
 use Rattle.std.specs.Io.KnownBytes.{prepend_known}
 use Rattle.std.specs.Io.BufRead.{first_line, drop_through}
@@ -9,6 +9,7 @@ use Rattle.paw_stage.specs.Stage.{IsCut}
 use Rattle.paw_stage.specs.declared.Asked.{Asked}
 use Rattle.paw_stage.specs.declared.Asked.TheVariants as asked
 use Rattle.paw_stage.specs.declared.input.LineReader.{LineReader}
+use Rattle.paw_stage.specs.inner.LineParts.{bytes_kept}
 
 -- The bytes that are still to be taken, where they are known: those read ahead, and those that reads will give.
 abbrev pub bytes_unread : {R : Type 0} → (R → Option Bytes) → LineReader R → Option Bytes
@@ -35,7 +36,7 @@ TakesLine bytes left asked.Failed into = ⊤
 abbrev pub HasLine : Bytes → Option Bytes → ℕ → Bytes → Type 0
 HasLine bytes left len into =
     (0 < length bytes) × (len ≡ length (first_line bytes))
-    × (take (min len LINE_LIMIT) into ≡ take LINE_LIMIT (first_line bytes))
+    × (take (bytes_kept len) into ≡ take LINE_LIMIT (first_line bytes))
     × (left ≡ Some (drop_through 10 bytes))
 
 -- What gathering a line from these bytes gives: its length. A length that is too great says only that the line is too
@@ -45,7 +46,7 @@ GathersLine bytes left None into = (bytes ≡ []) × (left ≡ Some [])
 GathersLine bytes left (Some len) into =
     (len ≤ longest_line → HasLine bytes left len into) × (longest_line < len → IsLong (Some bytes))
 
--- What gathering gives of a line of which a part was maybe taken before from the first bytes, where these are known.
+-- What gathering a line from the first bytes gives, where they are known; a part of it may have been taken before.
 abbrev pub GathersFrom : {R E : Type 0} → (R → Option Bytes) → Option Bytes → LineReader R → Result (Option ℕ) E → Bytes
     → Type 0
 GathersFrom remaining first new gathered into =

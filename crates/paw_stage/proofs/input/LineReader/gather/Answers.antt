@@ -12,7 +12,7 @@ returns-then-take_part-clause-line g c =
     let first = bytes_unread remaining c.args.self.now in
     let part = c.take_part.new in
     let left = bytes_unread remaining part.self in
-    let taken = subst (λ t. Gathers first (prepend_known (line_end t) left) part.into part.begun.len part.begun.returned)
+    let taken = subst (λ t. Gathers first (prepend_known (line_end t) left) part.into part.begun.len part.begun.ends_with_return)
     c.if-take_part.true (c.take_part.ensures.line first (gathers_none first c.args.into.now)) in
     rw c.without_return.ensures.value (gathered_end first (prepend_known (10 ∷ []) left) left part.into part.begun.len
-    part.begun.returned taken (consumes_end left (10 ∷ [])))
+    part.begun.ends_with_return taken (consumes_end left (10 ∷ [])))

@@ -10,8 +10,8 @@ invariant-loop-begun g l = record {
   empty : l.self.ahead ≡ [];
   rest : l.self.broken ≡ l.initial.self.broken;
   gathered : (first : Option Bytes) →
-      Gathers first (bytes_unread g.R.Read.remaining l.initial.self) l.initial.into l.initial.begun.len l.initial.begun.returned →
-      Gathers first (bytes_unread g.R.Read.remaining l.self) l.into l.begun.len l.begun.returned;
+      Gathers first (bytes_unread g.R.Read.remaining l.initial.self) l.initial.into l.initial.begun.len l.initial.begun.ends_with_return →
+      Gathers first (bytes_unread g.R.Read.remaining l.self) l.into l.begun.len l.begun.ends_with_return;
 }
 
 abbrev pub decreases-loop-begun : goal.decreases-loop-begun

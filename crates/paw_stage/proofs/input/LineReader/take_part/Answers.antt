@@ -21,7 +21,7 @@ returns-clause-line g c = λ first h.
     let left : c.take.new.self ≡ drop (if ended then n + 1 else n) bytes =
     c.take.ensures.rest
     ∙ (ap (λ k. drop k old.ahead) count ∙ ap (drop (if ended then n + 1 else n)) (sym c.bytes-ahead.ensures.value)) in
-    let known = subst (λ a. Gathers first (prepend_known a remaining) c.args.into.now begun.len begun.returned) (sym c.bytes-ahead.ensures.value) h in
+    let known = subst (λ a. Gathers first (prepend_known a remaining) c.args.into.now begun.len begun.ends_with_return) (sym c.bytes-ahead.ensures.value) h in
     let kept = c.keep_line-count.ensures in
-    rw (left, c.ends_with_return-begun.ensures.value) (takes_part first remaining bytes c.args.into.now c.keep_line-count.new.into begun.len n begun.returned ended refl kept.within
+    rw (left, c.ends_with_return-begun.ensures.value) (takes_part first remaining bytes c.args.into.now c.keep_line-count.new.into begun.len n begun.ends_with_return ended refl kept.within
     kept.plain kept.end kept.kept known)
