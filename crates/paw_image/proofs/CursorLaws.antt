@@ -92,12 +92,12 @@ condacts_end : (row : List ℕ) → 3 ≤ length row → IsEnd row (take (length
 condacts_end row le = subst (IsEnd row) (sym (take_all (length row - 3) (drop 3 row) (omega (arith, length-drop 3 row)))) (drop_end 3 row)
 
 -- They are those that begin at an offset of the bytes.
-pub nth_read : (bytes : List ℕ) (place at left : ℕ) (row rest : List ℕ) → row ≡ drop place bytes → 3 ≤ length row
+pub nth_read : (bytes : List ℕ) (start at left : ℕ) (row rest : List ℕ) → row ≡ drop start bytes → 3 ≤ length row
     → AreFrom at (get_or row 2 0) (take (length row - 3) (drop 3 row)) left rest → IsEnd (take (length row - 3) (drop 3 row)) rest
-    → AreNth at (drop place bytes) left (drop (length bytes - length rest) bytes)
-nth_read bytes place at left row rest same le from end =
+    → AreNth at (drop start bytes) left (drop (length bytes - length rest) bytes)
+nth_read bytes start at left row rest same le from end =
     let within = end_of_end row (take (length row - 3) (drop 3 row)) rest (condacts_end row le) end in
-    let all = end_of_end bytes row rest (subst (IsEnd bytes) (sym same) (drop_end place bytes)) within in
+    let all = end_of_end bytes row rest (subst (IsEnd bytes) (sym same) (drop_end start bytes)) within in
     subst (λ (r : List ℕ). AreNth at r left (drop (length bytes - length rest) bytes)) same
     (subst (λ (r : List ℕ). AreNth at row left r) (sym all) (nth_from at left row rest le from))
 
@@ -138,9 +138,9 @@ stands_next bytes t e at left offset next c stands lt is k =
     among_from 1 left (left - 1) (drop offset bytes) (drop next bytes) past (omega (arith, lt)) k
     ∙ stands (1 + k) ∙ ap (λ (n : ℕ). condact_at (game_read bytes) t e n) same
 
-pub stands_in : (bytes : List ℕ) (t e at left offset place : ℕ) → EntryStands bytes t e place
-    → AreNth at (drop place bytes) left (drop offset bytes) → CondactsStand bytes t e at left offset
-stands_in bytes t e at left offset place there are k = are k ∙ there (at + k)
+pub stands_in : (bytes : List ℕ) (t e at left offset start : ℕ) → EntryStands bytes t e start
+    → AreNth at (drop start bytes) left (drop offset bytes) → CondactsStand bytes t e at left offset
+stands_in bytes t e at left offset start there are k = are k ∙ there (at + k)
 
 pub stands_nowhere : (bytes : List ℕ) (t e at offset : ℕ) → entry_at (game_read bytes) t e ≡ None → CondactsStand bytes t e at 0 offset
 stands_nowhere bytes t e at offset none k = among_none k (drop offset bytes) ∙ sym (rw none refl)
@@ -163,13 +163,13 @@ pub left_next : (bytes : List ℕ) (t e at left : ℕ) → AreLeft bytes t e at 
 left_next bytes t e at left there lt some = omega (arith, there lt, lt, some)
 
 -- An entry has the condacts that its head counts.
-pub left_in : (bytes : List ℕ) (t e at left place : ℕ) → HeadCounts bytes t e place
-    → (0 < left → IfSome (head_here (drop place bytes)) (λ x. at + left ≤ x.1)) → AreLeft bytes t e at left
-left_in bytes t e at left place counts few some =
+pub left_in : (bytes : List ℕ) (t e at left start : ℕ) → HeadCounts bytes t e start
+    → (0 < left → IfSome (head_here (drop start bytes)) (λ x. at + left ≤ x.1)) → AreLeft bytes t e at left
+left_in bytes t e at left start counts few some =
     subst (λ (h : Option ((ℕ × ℕ) × ℕ)). IfSome h (λ x. at + left ≤ x.1)) counts.1 (few some)
 
-pub left_whole : (bytes : List ℕ) (t e place : ℕ) (head : ℕ × ℕ) (left : ℕ) → HeadCounts bytes t e place
-    → head_here (drop place bytes) ≡ Some (head, left) → AreLeft bytes t e 0 left
-left_whole bytes t e place head left counts h some =
+pub left_whole : (bytes : List ℕ) (t e start : ℕ) (head : ℕ × ℕ) (left : ℕ) → HeadCounts bytes t e start
+    → head_here (drop start bytes) ≡ Some (head, left) → AreLeft bytes t e 0 left
+left_whole bytes t e start head left counts h some =
     let same = ap (λ (x : (ℕ × ℕ) × ℕ). x.1) (same_Some _ _ (sym h ∙ counts.1)) in
     omega (arith, same)

@@ -69,11 +69,11 @@ among_head (b ∷ c ∷ d ∷ bytes) head left k h =
     rw same refl
 
 -- The condacts of an entry begin after its head.
-pub stands_at_first : (bytes : List ℕ) (t e place : ℕ) (head : ℕ × ℕ) (left : ℕ) → EntryStands bytes t e place
-    → head_here (drop place bytes) ≡ Some (head, left) → CondactsStand bytes t e 0 left (place + 3)
-stands_at_first bytes t e place head left there h k =
+pub stands_at_first : (bytes : List ℕ) (t e start : ℕ) (head : ℕ × ℕ) (left : ℕ) → EntryStands bytes t e start
+    → head_here (drop start bytes) ≡ Some (head, left) → CondactsStand bytes t e 0 left (start + 3)
+stands_at_first bytes t e start head left there h k =
     let none : 0 + k ≡ k = omega arith in
-    rw (none, ← drop-drop 3 place bytes) (among_head (drop place bytes) head left k h ∙ there k)
+    rw (none, ← drop-drop 3 start bytes) (among_head (drop start bytes) head left k h ∙ there k)
 
 -- ---- a condact ----
 

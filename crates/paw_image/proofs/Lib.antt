@@ -20,8 +20,8 @@ pub mod MatchLaws
 pub mod NumberLaws
 pub mod OrderLaws
 pub mod PassRows
-pub mod PlaceLaws
 pub mod RowLaws
+pub mod RowStartLaws
 pub mod SoundRows
 pub mod Stands
 pub mod TextLaws

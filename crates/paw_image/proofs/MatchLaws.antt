@@ -22,7 +22,7 @@ use Rattle.paw_image.specs.inner.Orders.{is_kept_for, is_match, kept_word, entry
 use Rattle.paw_image.specs.inner.Orders.{IsMatch}
 use Rattle.paw_image.specs.inner.Offsets.{offsets}
 use Rattle.paw_image.proofs.OrderLaws.{IsLeast-same, one_least}
-use Rattle.paw_image.proofs.PlaceLaws.{next_at}
+use Rattle.paw_image.proofs.RowStartLaws.{next_at}
 
 -- ---- the words that are kept ----
 

@@ -34,8 +34,8 @@ use Rattle.paw_image.specs.declared.refusal.ImageRefusal.TheVariants as refusal
 use Rattle.paw_image.proofs.FieldLaws.{IsBytes}
 use Rattle.paw_image.proofs.GameLaws.{all_takes}
 use Rattle.paw_image.proofs.MatchLaws.{next_match_is}
-use Rattle.paw_image.proofs.PlaceLaws.{all_at, ListsAt, lists_lie, RowAt, table_lies, no_table, entry_lies, no_entry}
-use Rattle.paw_image.proofs.PlaceLaws.{some_text_of_part, text_of_part, head_there, condact_there, entry_bytes_there}
+use Rattle.paw_image.proofs.RowStartLaws.{all_at, ListsAt, lists_lie, RowAt, table_lies, no_table, entry_lies, no_entry}
+use Rattle.paw_image.proofs.RowStartLaws.{some_text_of_part, text_of_part, head_there, condact_there, entry_bytes_there}
 use Rattle.paw_image.proofs.ValidLaws.{valid_fits}
 use Rattle.paw_image.proofs.WholeLaws.{all_sound, both_none, nothing_left, image_is_whole}
 

@@ -20,34 +20,35 @@ use paw_base::rows::{ParamKind, plain_kinds};
 use paw_game::parts::Exit;
 
 // The bytes from an offset on; none past the end.
-fn from_offset(bytes: &[u8], place: usize) -> &[u8]
-    ensures value { result.now ≡ drop place bytes.now }
+fn from_offset(bytes: &[u8], offset: usize) -> &[u8]
+    ensures value { result.now ≡ drop offset bytes.now }
 {
-    if place > bytes.len() {
+    if offset > bytes.len() {
         return &[];
     }
-    &bytes[place..]
+    &bytes[offset..]
 }
 
-/// The text that begins at an offset, with its length.
-pub fn text_in(bytes: &[u8], place: u32) -> &[u8]
-    requires there { ¬ (value_of (sized_text_at (drop place bytes.now)) ≡ None) }
-    ensures value { value_of (sized_text_at (drop place bytes.now)) ≡ Some result.now }
+/// The text at an offset, where first its length stands and then its bytes.
+pub fn text_in(bytes: &[u8], offset: u32) -> &[u8]
+    requires there { ¬ (value_of (sized_text_at (drop offset bytes.now)) ≡ None) }
+    ensures value { value_of (sized_text_at (drop offset bytes.now)) ≡ Some result.now }
 {
-    let place = place as usize;
-    prove!(place + 2 <= bytes.len());
-    let length = u16::from_le_bytes([bytes[place], bytes[place + 1]]) as usize;
-    let rest = &bytes[place + 2..];
+    let offset = offset as usize;
+    // A text stands here, so nothing asks where the bytes end, as `read_text` has to.
+    prove!(offset + 2 <= bytes.len());
+    let length = u16::from_le_bytes([bytes[offset], bytes[offset + 1]]) as usize;
+    let rest = &bytes[offset + 2..];
     prove!(length <= rest.len());
     &rest[..length]
 }
 
 /// The facts of the object that begins at an offset.
 #[tactic(auto, using(crate::proofs::Faults::no_value), unfolding(crate::specs::inner::Rows::facts_here))]
-pub fn facts_in(bytes: &[u8], place: u32) -> Option<ObjectFacts>
-    ensures value { result ≡ facts_here (drop place bytes.now) }
+pub fn facts_in(bytes: &[u8], offset: u32) -> Option<ObjectFacts>
+    ensures value { result ≡ facts_here (drop offset bytes.now) }
 {
-    match read_after_text(from_offset(bytes, place as usize)) {
+    match read_after_text(from_offset(bytes, offset as usize)) {
         Ok((facts, _)) => Some(facts),
         Err(_) => None,
     }
@@ -87,23 +88,23 @@ fn exit_of(verb: u8, count: u8, bytes: &[u8]) -> Option<u8>
 
 /// Where the exit for a verb leads, among the exits that begin at an offset.
 #[tactic(auto, unfolding(crate::specs::inner::Rows::exits_here))]
-pub fn exit_at(bytes: &[u8], place: u32, verb: u8) -> Option<u8>
-    ensures value { result ≡ exits_here verb (drop place bytes.now) }
+pub fn exit_at(bytes: &[u8], offset: u32, verb: u8) -> Option<u8>
+    ensures value { result ≡ exits_here verb (drop offset bytes.now) }
 {
-    match from_offset(bytes, place as usize) {
+    match from_offset(bytes, offset as usize) {
         [count, rest @ ..] => exit_of(verb, *count, rest),
         [] => None,
     }
 }
 
 /// The verb and the noun of the entry that begins at an offset, and how many condacts it has.
-pub fn head_in(bytes: &[u8], place: u32) -> ((u8, u8), u8)
-    requires there { ¬ (head_here (drop place bytes.now) ≡ None) }
-    ensures value { head_here (drop place bytes.now) ≡ Some result }
+pub fn head_in(bytes: &[u8], offset: u32) -> ((u8, u8), u8)
+    requires there { ¬ (head_here (drop offset bytes.now) ≡ None) }
+    ensures value { head_here (drop offset bytes.now) ≡ Some result }
 {
-    let place = place as usize;
-    prove!(place + 2 < bytes.len());
-    ((bytes[place], bytes[place + 1]), bytes[place + 2])
+    let offset = offset as usize;
+    prove!(offset + 2 < bytes.len());
+    ((bytes[offset], bytes[offset + 1]), bytes[offset + 2])
 }
 
 // The bytes after this number of condacts.
@@ -168,16 +169,16 @@ fn from_condact<'a>(
 #[tactic(auto, unfolding(crate::specs::inner::Rows::nth_condact))]
 pub fn condacts_in(
     bytes: &[u8],
-    place: u32,
+    offset: u32,
     milestones: &Milestones,
     entry: u16,
     at: u8,
 ) -> (u8, usize)
-    requires milestones { EntryMilestones (milestones_of milestones.now entry) (drop place bytes.now) }
-    ensures value { AreNth at (drop place bytes.now) result.0 (drop result.1 bytes.now) }
-    ensures few { 0 < result.0 → IfSome (head_here (drop place bytes.now)) (λ x. at + result.0 ≤ x.1) }
+    requires milestones { EntryMilestones (milestones_of milestones.now entry) (drop offset bytes.now) }
+    ensures value { AreNth at (drop offset bytes.now) result.0 (drop result.1 bytes.now) }
+    ensures few { 0 < result.0 → IfSome (head_here (drop offset bytes.now)) (λ x. at + result.0 ≤ x.1) }
 {
-    match from_offset(bytes, place as usize) {
+    match from_offset(bytes, offset as usize) {
         [_, _, count, condacts @ ..] => {
             let (left, rest) = from_condact(milestones, entry, at, *count, condacts);
             (left, bytes.len().saturating_sub(rest.len()))
@@ -187,36 +188,36 @@ pub fn condacts_in(
 }
 
 // The byte at an offset, and the offset after it.
-fn byte_from(bytes: &[u8], place: usize) -> (u8, usize)
-    requires there { place < length bytes.now }
-    ensures value { slice_get bytes.now place ≡ Some result.0 }
-    ensures next { result.1 ≡ place + 1 }
+fn byte_from(bytes: &[u8], offset: usize) -> (u8, usize)
+    requires there { offset < length bytes.now }
+    ensures value { slice_get bytes.now offset ≡ Some result.0 }
+    ensures next { result.1 ≡ offset + 1 }
 {
-    prove!(place < bytes.len());
-    (bytes[place], place + 1)
+    prove!(offset < bytes.len());
+    (bytes[offset], offset + 1)
 }
 
 // The parameter of this kind at an offset, and where the bytes after it begin; 0 where the kind has none.
-fn parameter_in(kind: ParamKind, bytes: &[u8], place: usize) -> (u8, usize)
-    requires there { ¬ IsFault (parameter_at kind (drop place bytes.now)) }
-    ensures value { parameter_at kind (drop place bytes.now) ≡ Ok (result.0, drop result.1 bytes.now) }
+fn parameter_in(kind: ParamKind, bytes: &[u8], offset: usize) -> (u8, usize)
+    requires there { ¬ IsFault (parameter_at kind (drop offset bytes.now)) }
+    ensures value { parameter_at kind (drop offset bytes.now) ≡ Ok (result.0, drop result.1 bytes.now) }
 {
     match kind {
-        ParamKind::Absent => (0, place),
-        _ => byte_from(bytes, place),
+        ParamKind::Absent => (0, offset),
+        _ => byte_from(bytes, offset),
     }
 }
 
 /// The condact that begins at an offset, where one does, and where the next one begins.
-pub fn condact_at(bytes: &[u8], place: usize) -> (Condact, usize)
-    requires there { ¬ (value_of (leading_condact (drop place bytes.now)) ≡ None) }
-    ensures value { leading_condact (drop place bytes.now) ≡ Ok (result.0, drop result.1 bytes.now) }
+pub fn condact_at(bytes: &[u8], offset: usize) -> (Condact, usize)
+    requires there { ¬ (value_of (leading_condact (drop offset bytes.now)) ≡ None) }
+    ensures value { leading_condact (drop offset bytes.now) ≡ Ok (result.0, drop result.1 bytes.now) }
 {
-    let (code, place) = byte_from(bytes, place);
+    let (code, offset) = byte_from(bytes, offset);
     let (first, second) = plain_kinds(code);
-    let (a, place) = parameter_in(first, bytes, place);
-    let (b, place) = parameter_in(second, bytes, place);
-    (Condact { code, a, b }, place)
+    let (a, offset) = parameter_in(first, bytes, offset);
+    let (b, offset) = parameter_in(second, bytes, offset);
+    (Condact { code, a, b }, offset)
 }
 
 // A row up to this number of condacts, and with them.
@@ -232,10 +233,10 @@ fn up_to<'a>(row: &'a [u8], count: u8, condacts: &[u8]) -> Option<&'a [u8]>
 
 /// The bytes of the entry that begins at an offset.
 #[tactic(auto, unfolding(crate::specs::inner::Rows::entry_here))]
-pub fn entry_in(bytes: &[u8], place: u32) -> Option<&[u8]>
-    ensures value { option_copied result ≡ entry_here (drop place bytes.now) }
+pub fn entry_in(bytes: &[u8], offset: u32) -> Option<&[u8]>
+    ensures value { option_copied result ≡ entry_here (drop offset bytes.now) }
 {
-    let row = from_offset(bytes, place as usize);
+    let row = from_offset(bytes, offset as usize);
     match row {
         [_, _, count, condacts @ ..] => up_to(row, *count, condacts),
         _ => None,

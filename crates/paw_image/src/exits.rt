@@ -73,13 +73,13 @@ fn read_exit<'a>(
     ensures gives { (verbs : List ℕ) → Marks marks.now verbs →
         Gives (λ x. (x.0, x.1.now)) result (checked_exit rules.now verbs bytes.now) }
 {
-    let (verb, places) = read_byte(bytes)?;
+    let (verb, locations) = read_byte(bytes)?;
     if !rules.game.is_verb_value(verb) || marks[verb as usize] {
         return Err(fault_at(bytes));
     }
-    let (to, rest) = read_byte(places)?;
+    let (to, rest) = read_byte(locations)?;
     if !rules.game.is_location(to) {
-        return Err(fault_at(places));
+        return Err(fault_at(locations));
     }
     Ok((verb, rest))
 }

@@ -67,6 +67,7 @@ pub fn version_of(parts: &GameParts) -> Version
     }
 }
 
+// Whether an entry has an indirect condact.
 #[tactic(auto, unfolding(paw_game::specs::Image::has_indirect))]
 fn has_indirect(tables: &[Table]) -> bool
     ensures value { result ≡ has_indirect tables.now }

@@ -93,7 +93,7 @@ fn letters_as_number(letters: &[u8; WORD_LENGTH]) -> u64
     u64::from_be_bytes([0, 0, 0, first, second, third, fourth, fifth])
 }
 
-// The numbers of words.
+// The letters of each word as a number.
 fn numbers_of(alloc: Global, words: &[Word]) -> Result<Vec<u64>, AllocError>
     ensures numbers { IfOk result (λ v. AreNumbers words.now v.items) }
 {
@@ -105,7 +105,7 @@ fn numbers_of(alloc: Global, words: &[Word]) -> Result<Vec<u64>, AllocError>
 }
 
 impl WordIndex {
-    /// These words, with where those of each first letter begin.
+    /// These words, the letters of each as a number, and where those of each first letter begin.
     pub fn new(alloc: Global, words: Vec<Word>) -> Result<WordIndex, AllocError>
         requires valid { IsTrue (words_are_valid words.items) }
         ensures words { IfOk result (λ v. v ≡ words.items) }
@@ -119,7 +119,7 @@ impl WordIndex {
         })
     }
 
-    // The words of the group of a first letter, and their numbers.
+    // The words of the group of a first letter, and the letters of each as a number.
     fn group(&self, letter: u8) -> (&[Word], &[u64])
         ensures group { IsGroup self.now (group_of letter) result.0.now }
         ensures numbers { AreNumbers result.0.now result.1.now }

@@ -251,19 +251,19 @@ fn spoil_after(call: Call, room: &[u8], store: &mut [u8])
     ensures spoiled { Spoils (writes call.kind (length (done_in room.now call).bytes)) store.old store.new }
 {
     let bytes = slice_of(room, call.mid, call.to);
-    if let CallKind::Write(place) = call.kind {
-        let place = (place as usize).min(store.len());
-        spoil_range(place, bytes.len(), store);
+    if let CallKind::Write(offset) = call.kind {
+        let offset = (offset as usize).min(store.len());
+        spoil_range(offset, bytes.len(), store);
     }
 }
 
 // Gives another value to n bytes of a store from an offset on, as far as it goes.
-fn spoil_range(place: usize, n: usize, store: &mut [u8])
-    requires within { place ≤ length store.old }
-    ensures spoiled { store.new ≡ put_at place (replicate (min n (length store.old - place)) SPOILED) store.old }
+fn spoil_range(offset: usize, n: usize, store: &mut [u8])
+    requires within { offset ≤ length store.old }
+    ensures spoiled { store.new ≡ put_at offset (replicate (min n (length store.old - offset)) SPOILED) store.old }
 {
-    let to = place + n.min(store.len() - place);
-    store[place..to].fill(SPOILED);
+    let to = offset + n.min(store.len() - offset);
+    store[offset..to].fill(SPOILED);
 }
 
 // All bytes of a file; none where it is missing.
@@ -323,8 +323,8 @@ fn seen_after(call: Call, room: &[u8], name: &[u8], at: usize, into: &mut [u8], 
             seen
         },
         CallKind::Attach => seen_opened(named, seen),
-        CallKind::Write(place) => if seen.attached {
-            seen_written(place, bytes, at, into, seen)
+        CallKind::Write(offset) => if seen.attached {
+            seen_written(offset, bytes, at, into, seen)
         } else {
             seen
         },
@@ -362,26 +362,26 @@ fn seen_opened(named: bool, seen: Seen) -> Seen
 }
 
 // What is seen of the attached store once bytes were written to it, or after its end where the offset lies past it.
-fn seen_written(place: u64, bytes: &[u8], at: usize, into: &mut [u8], seen: Seen) -> Seen
+fn seen_written(offset: u64, bytes: &[u8], at: usize, into: &mut [u8], seen: Seen) -> Seen
     requires fits { seen.len + length bytes.now < 2 ^ 64 }
-    ensures seen { result ≡ record seen { len = max seen.len (min place seen.len + length bytes.now) } }
-    ensures laid { LaysOver (min place seen.len) bytes.now at into.old into.new }
+    ensures seen { result ≡ record seen { len = max seen.len (min offset seen.len + length bytes.now) } }
+    ensures laid { LaysOver (min offset seen.len) bytes.now at into.old into.new }
 {
-    let place = (place as usize).min(seen.len);
-    lay_over(place, bytes, at, into);
+    let offset = (offset as usize).min(seen.len);
+    lay_over(offset, bytes, at, into);
     Seen {
         here: seen.here,
         attached: seen.attached,
-        len: seen.len.max(place + bytes.len()),
+        len: seen.len.max(offset + bytes.len()),
     }
 }
 
 // Lays bytes that stand from an offset on over those in a slice, which stand from `at` on.
-fn lay_over(place: usize, bytes: &[u8], at: usize, into: &mut [u8])
-    ensures laid { LaysOver place bytes.now at into.old into.new }
+fn lay_over(offset: usize, bytes: &[u8], at: usize, into: &mut [u8])
+    ensures laid { LaysOver offset bytes.now at into.old into.new }
 {
-    let from = at.saturating_sub(place).min(bytes.len());
-    let to = place.saturating_sub(at).min(into.len());
+    let from = at.saturating_sub(offset).min(bytes.len());
+    let to = offset.saturating_sub(at).min(into.len());
     copy_over(&bytes[from..], into, to);
 }
 

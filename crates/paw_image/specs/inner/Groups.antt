@@ -35,7 +35,7 @@ pub record AreGroupStarts (words : List Word) (starts : List ℕ) : Type 0 where
   pub long : length starts ≡ LAST_GROUP + 2
   pub each : (group : ℕ) → group ≤ LAST_GROUP + 1 → IsGroupStart words group (slice_index starts group)
 
--- Words in order of their letters, with their numbers, and where those of each group begin.
+-- Words in order of their letters, the letters of each as a number, and where those of each group begin.
 pub record IsWordIndex (words : List Word) (numbers : List ℕ) (starts : List ℕ) : Type 0 where
   pub rise : IsTrue (words_rise words)
   pub numbered : AreNumbers words numbers

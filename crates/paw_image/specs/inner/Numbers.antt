@@ -1,9 +1,10 @@
 -- The letters of words as numbers.
-use Rattle.std.specs.Prelude.{◌≡◌, ℕ, ◌+◌, ◌*◌, ◌<◌, List, [], ◌∷◌, length, map, slice_index}
+use Rattle.std.specs.Prelude.{◌≡◌, ℕ, ◌+◌, ◌*◌, List, [], ◌∷◌, length, map}
 use Rattle.std.specs.List.{All}
-use Rattle.paw_base.specs.Bytes.{Bytes}
+use Rattle.paw_base.specs.Bytes.{Bytes, Letters}
 use Rattle.paw_base.specs.declared.limits.TheConstants.{WORD_LENGTH}
 use Rattle.paw_game.specs.declared.parts.Word.{Word}
+use Rattle.paw_image.specs.inner.Images.{EachIsByte}
 
 -- A number with further bytes written after it.
 abbrev pub number_followed_by : ℕ → Bytes → ℕ
@@ -11,13 +12,13 @@ number_followed_by n [] = n
 number_followed_by n (b ∷ bs) = number_followed_by (n * 256 + b) bs
 
 -- Letters as a number, the first one highest.
-abbrev pub letters_as_number : Bytes → ℕ
+abbrev pub letters_as_number : Letters → ℕ
 letters_as_number letters = number_followed_by 0 letters
 
 -- Letters are five bytes.
-pub record AreFiveBytes (letters : Bytes) : Type 0 where
+pub record AreFiveBytes (letters : Letters) : Type 0 where
   pub five : length letters ≡ WORD_LENGTH
-  pub small : (i : ℕ) → slice_index letters i < 256
+  pub bytes : EachIsByte letters
 
 -- These are the numbers of words, whose letters are five bytes each.
 pub record AreNumbers (words : List Word) (numbers : List ℕ) : Type 0 where

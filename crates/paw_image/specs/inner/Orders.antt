@@ -9,6 +9,7 @@ use Rattle.paw_base.specs.declared.words.TheConstants.{NO_WORD}
 use Rattle.paw_game.specs.declared.parts.Entry.{Entry}
 use Rattle.paw_game.specs.Valid.{is_wildcard}
 use Rattle.paw_image.specs.declared.order.Order.{Order}
+use Rattle.paw_image.specs.inner.Images.{EachIsByte}
 
 -- ---- ranks ----
 
@@ -106,5 +107,5 @@ pub record IsSorted (order : Order) : Type 0 where
 pub record IsOrder (bytes : Bytes) (offsets : List ℕ) (order : Order) : Type 0 where
   pub same : IsPermutation (ranks_at bytes 0 offsets) order.ranks.items
   pub few : length offsets ≤ ENTRY_LIMIT
-  pub fits : (at : ℕ) → slice_index bytes at < 256
+  pub fits : EachIsByte bytes
   pub sorted : IsSorted order

@@ -112,16 +112,16 @@ pub record IsIndex (bytes : Bytes) (counts : Counts) (words : List Word) (p : Of
 -- ---- cursors ----
 
 -- The bytes from an offset on have the condacts of an entry.
-abbrev pub EntryStands : Bytes → (table entry place : ℕ) → Type 0
-EntryStands bytes t e place = (k : ℕ) → nth_condact k (drop place bytes) ≡ condact_at (game_read bytes) t e k
+abbrev pub EntryStands : Bytes → (table entry offset : ℕ) → Type 0
+EntryStands bytes t e offset = (k : ℕ) → nth_condact k (drop offset bytes) ≡ condact_at (game_read bytes) t e k
 
 -- How many condacts an entry has.
 abbrev pub condact_count : Bytes → (table entry : ℕ) → ℕ
 condact_count bytes t e = length (condacts_of (entry_at (game_read bytes) t e))
 
 -- The head at an offset says how many condacts an entry has.
-abbrev pub HeadCounts : Bytes → (table entry place : ℕ) → Type 0
-HeadCounts bytes t e place = (head : ℕ × ℕ) × (head_here (drop place bytes) ≡ Some (head, condact_count bytes t e))
+abbrev pub HeadCounts : Bytes → (table entry offset : ℕ) → Type 0
+HeadCounts bytes t e offset = (head : ℕ × ℕ) × (head_here (drop offset bytes) ≡ Some (head, condact_count bytes t e))
 
 -- An entry has as many condacts as are left from number `at` on.
 abbrev pub AreLeft : Bytes → (table entry at left : ℕ) → Type 0

@@ -16,8 +16,8 @@ returns-in-len3-up c =
     let found = c.from_condact-left in
     record {
       value = rw c.saturating_sub.ensures
-          (nth_read c.args.bytes.now c.args.place c.args.at found.result.0 c.from_offset.result.now found.result.1.now c.from_offset.ensures.value
+          (nth_read c.args.bytes.now c.args.offset c.args.at found.result.0 c.from_offset.result.now found.result.1.now c.from_offset.ensures.value
           c.in-len3-up.len_at_least found.ensures.value found.ensures.end);
-      few = λ some. few_in_row (drop c.args.place c.args.bytes.now) c.from_offset.result.now (c.args.at + found.result.0) c.from_offset.ensures.value
+      few = λ some. few_in_row (drop c.args.offset c.args.bytes.now) c.from_offset.result.now (c.args.at + found.result.0) c.from_offset.ensures.value
           c.in-len3-up.len_at_least (found.ensures.few some);
     }

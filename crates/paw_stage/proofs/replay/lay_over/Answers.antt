@@ -13,6 +13,6 @@ returns c = record {
       let into = c.args.into.now in
       let all : take (length bytes - from) (drop from bytes) ≡ drop from bytes =
       take_all (length bytes - from) (drop from bytes) (omega (arith, length-drop from bytes)) in
-      lays c.args.place c.args.at from to bytes into c.copy_over.new.into j (omega arith) (omega arith)
+      lays c.args.offset c.args.at from to bytes into c.copy_over.new.into j (omega arith) (omega arith)
       (c.copy_over.ensures.laid ∙ ap (λ b. put_at to (take (length into - to) b) into) all) low;
 }

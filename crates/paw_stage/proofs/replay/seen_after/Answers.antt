@@ -14,5 +14,5 @@ returns-then-seen-clause-sees c s filed h =
     let laid = rw c.slice_of-bytes.ensures.value at c.seen_written.ensures.laid in
     subst (λ k. Sees (after_call_of k (slice_range room call.from call.mid) bytes s) c.args.name.now c.args.at
     c.seen_written.result c.seen_written.new.into) (sym c.in-Write.is)
-    (sees_written s c.args.name.now c.args.at c.in-Write.place bytes c.args.into.now c.seen_written.new.into c.args.seen
+    (sees_written s c.args.name.now c.args.at c.in-Write.offset bytes c.args.into.now c.seen_written.new.into c.args.seen
     c.seen_written.result filed h c.if-seen.true is c.seen_written.auto.into laid)

@@ -11,6 +11,6 @@ returns-in-Write c = record {
       let n = length (slice_range c.args.room.now c.args.call.mid c.args.call.to) in
       let e = rw c.slice_of-bytes.ensures.value at c.spoil_range.ensures.spoiled in
       subst (λ k. slice_index c.spoil_range.new.store j ≡ spoiled_if (writes k n j) (slice_index c.args.store.now j))
-      (sym c.in-Write.is) (spoils c.in-Write.place c.min-place.result n c.args.store.now c.spoil_range.new.store j
-      c.min-place.ensures e low);
+      (sym c.in-Write.is) (spoils c.in-Write.offset c.min-offset.result n c.args.store.now c.spoil_range.new.store j
+      c.min-offset.ensures e low);
 }

@@ -2,7 +2,7 @@ use Rattle.std.proofs.Common.{sym, ap, ◌∙◌}
 use Rattle.std.specs.Option.{option_copied}
 use Rattle.paw_game.proofs.Kept.{text-short, text_kept}
 use Rattle.paw_image.specs.inner.Views.{game_read}
-use Rattle.paw_image.proofs.PlaceLaws.{no_text_of_part}
+use Rattle.paw_image.proofs.RowStartLaws.{no_text_of_part}
 use Rattle.paw_image.proofs.ViewLaws.{text_begins, text_read}
 use Rattle.paw_image.proofs.view.ViewTables.text.Goals as goal
 
