@@ -17,7 +17,7 @@ pub mod FoundLaws
 pub mod Greatest
 pub mod LevelLaws
 pub mod MarkLaws
-pub mod PlaceLaws
+pub mod SpotLaws
 pub mod RangeSums
 pub mod ReachedLaws
 pub mod RoundLaws

@@ -67,7 +67,7 @@ pub each_of_table : (g : GameLists) (v : Valid g) (t : ℕ) (Q : Condact → Typ
 each_of_table g v t Q holds =
     each_entry g (table_condacts g t) Q holds (table_at g t) (second_of_and (nat_le (length (table_at g t)) ENTRY_LIMIT) _ (table_kept g v t)) (λ p e. e)
 
--- ---- places of condacts ----
+-- ---- condacts of a table, one by one ----
 
 any_entry : (is_so : Condact → Bool) (es : List Entry) → list_any is_so (flat_map (λ e. e.condacts) es) ≡ true →
     list_any (λ (e : Entry). list_any is_so e.condacts) es ≡ true

@@ -1,4 +1,4 @@
--- The first place with a condact of a kind, number by number.
+-- The first spot of a condact of a kind, number by number.
 use Rattle.std.proofs.Common.{◌≡◌, ◌<◌, ℕ, ◌+◌, List, [], ◌∷◌, length, drop, get_or, Some, None, refl, sym, ap, ◌∙◌}
 use Rattle.std.proofs.Common.{arith}
 use Rattle.std.specs.Prelude.{slice_get, Option}
@@ -8,21 +8,21 @@ use Rattle.paw_game.specs.declared.parts.Entry.{Entry}
 use Rattle.paw_check.specs.declared.spots.Wanted.{Wanted}
 use Rattle.paw_check.specs.inner.Spots.{entry_wanted, spot_wanted}
 
-place_at : (w : Wanted) (tables : List (List Entry)) (ns : List ℕ) (i d : ℕ) → i < length ns
+spot_at : (w : Wanted) (tables : List (List Entry)) (ns : List ℕ) (i d : ℕ) → i < length ns
     → spot_wanted w tables (drop i ns)
     ≡ option_map_or (λ e. Some (get_or ns i d, e)) (entry_wanted w (unwrap_or (slice_get tables (get_or ns i d)) [])) (spot_wanted w tables (drop (i + 1) ns))
-place_at w tables ns i d within = ap (spot_wanted w tables) (drop_more ns i d within)
+spot_at w tables ns i d within = ap (spot_wanted w tables) (drop_more ns i d within)
 
-pub place_more : (w : Wanted) (tables : List (List Entry)) (ns : List ℕ) (i d : ℕ) → i < length ns
+pub spot_more : (w : Wanted) (tables : List (List Entry)) (ns : List ℕ) (i d : ℕ) → i < length ns
     → None ≡ entry_wanted w (unwrap_or (slice_get tables (get_or ns i d)) []) → spot_wanted w tables (drop i ns) ≡ spot_wanted w tables ns
     → spot_wanted w tables (drop (i + 1) ns) ≡ spot_wanted w tables ns
-place_more w tables ns i d within none so =
+spot_more w tables ns i d within none so =
     ap (λ found. option_map_or (λ e. Some (get_or ns i d, e)) found (spot_wanted w tables (drop (i + 1) ns))) none
-    ∙ sym (place_at w tables ns i d within) ∙ so
+    ∙ sym (spot_at w tables ns i d within) ∙ so
 
-pub place_found : (w : Wanted) (tables : List (List Entry)) (ns : List ℕ) (i d e : ℕ) → i < length ns
+pub spot_found : (w : Wanted) (tables : List (List Entry)) (ns : List ℕ) (i d e : ℕ) → i < length ns
     → Some e ≡ entry_wanted w (unwrap_or (slice_get tables (get_or ns i d)) []) → spot_wanted w tables (drop i ns) ≡ spot_wanted w tables ns
     → Some (get_or ns i d, e) ≡ spot_wanted w tables ns
-place_found w tables ns i d e within some so =
+spot_found w tables ns i d e within some so =
     ap (λ found. option_map_or (λ e. Some (get_or ns i d, e)) found (spot_wanted w tables (drop (i + 1) ns))) some
-    ∙ sym (place_at w tables ns i d within) ∙ so
+    ∙ sym (spot_at w tables ns i d within) ∙ so
