@@ -86,7 +86,8 @@ pub const TIMEOUT: u8 = 26;
 /// QUIT: asks whether to quit, and leaves the table unless the answer is yes.
 pub const QUIT: u8 = 27;
 
-/// MOVE f: takes the verb's exit from the location in flag f, where there is one.
+/// MOVE f: whether the location in flag f has an exit for the verb; where it has, flag f becomes the location that it
+/// leads to.
 pub const MOVE: u8 = 28;
 
 /// INVEN: lists what is carried and worn.

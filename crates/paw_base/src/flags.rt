@@ -78,7 +78,7 @@ pub const TIMEOUT_FLAG: u8 = 48;
 /// A flag whose bit 7 says that the last line was a timeout.
 pub const TIMED_OUT_FLAG: u8 = 49;
 
-/// Bit 7, which says in that flag whether the last line was a timeout.
+/// Bit 7 of TIMED_OUT_FLAG: whether the last line was a timeout.
 pub const TIMED_OUT_BIT: u8 = 128;
 
 /// The object that the loop over objects took last. It doesn't steer the loop.
@@ -93,7 +93,7 @@ pub const MOST_WEIGHT_FLAG: u8 = 52;
 /// A flag whose bit 6 makes lists run on one line.
 pub const LISTING_FLAG: u8 = 53;
 
-/// Bit 6, which makes lists run on one line where it is set in that flag.
+/// Bit 6 of LISTING_FLAG: whether lists run on one line.
 pub const LISTING_BIT: u8 = 64;
 
 /// The place of the object last referred to.
@@ -108,7 +108,7 @@ pub const REFERRED_CONTAINER_FLAG: u8 = 56;
 /// Whether the object last referred to may be worn: 128 if it may, 0 if not.
 pub const REFERRED_WEARABLE_FLAG: u8 = 57;
 
-/// The value of the flags of containers and of what may be worn where the object is such.
+/// What REFERRED_CONTAINER_FLAG holds for a container, and REFERRED_WEARABLE_FLAG for what may be worn.
 pub const FACT_HOLDS: u8 = 128;
 
 /// The number of the position that SAVE keeps and LOAD takes back, modulo 4.

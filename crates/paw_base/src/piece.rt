@@ -48,7 +48,7 @@ impl Piece {
         if bytes.len() > PIECE_LIMIT - self.text.len() {
             return false;
         }
-        // The memory was taken by `new`, so the text doesn't grow.
+        // The memory was taken by `new`, so there is room for these bytes.
         prove!(bytes.len() <= self.text.capacity() - self.text.len());
         self.text.extend_from_slice(bytes).unwrap();
         true

@@ -34,6 +34,7 @@ const NO_STEP: StepRow = StepRow {
 pub struct Steps {
     rows: [StepRow; STEP_LIMIT],
     count: u32,
+    // How many rows are kept at most: STEP_LIMIT, or 0 where steps are only counted.
     most: usize,
 }
 
@@ -61,7 +62,7 @@ impl Steps {
         }
     }
 
-    /// Keeps no steps from here on, and only counts them.
+    /// Forgets the steps that are kept, and from here on only counts them.
     pub fn count_only(&mut self)
         ensures value { self.new ≡ steps_only_counted self.old }
     {

@@ -77,6 +77,7 @@ pub(crate) fn print_text<T: Tables>(
 ) -> bool
     ensures puts { Puts piece.old piece.new result (printed_text (T.game tables.now) world.now text.now) }
 {
+    // Most texts have no underscore, and are printed whole.
     if text.contains(&b'_') {
         print_with_name(tables, world, piece, text)
     } else {

@@ -102,6 +102,7 @@ impl<'a> Tokens<'a> {
     }
 }
 
+// Whether a token begins with `@`.
 fn begins_with_at(token: &[u8]) -> bool
     ensures value { result ≡ begins_with_at token.now }
 {

@@ -13,8 +13,7 @@ pub(crate) const HEADER_LENGTH: usize = 128;
 /// The length of a slot: its head, its base, its piece and its change records.
 pub(crate) const SLOT_LENGTH: usize = 86_080;
 
-/// The header's bytes: the mark of a session that is made, the selector, the version, and the digests of the game and
-/// of the routines.
+/// The offset in the header of the mark of a session that is made.
 pub(crate) const MARK_AT: u64 = 0;
 
 pub(crate) const SELECTOR_AT: u64 = 1;
@@ -29,7 +28,7 @@ pub(crate) const DIGEST_LENGTH: usize = 32;
 
 pub(crate) const MADE: u8 = 0x50;
 
-/// A slot's bytes: the number of its change records, the version, the base, the piece, and the change records.
+/// The offset of the version in a slot, after the number of its change records.
 pub(crate) const SLOT_VERSION_AT: usize = 2;
 
 /// The offset of the base in a slot.

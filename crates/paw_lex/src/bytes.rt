@@ -22,6 +22,7 @@ pub fn is_comment(line: &[u8]) -> bool
     line.first() == Some(&b';')
 }
 
+// Whether a byte may stand in a source: in the line of a text a tab may not.
 fn is_allowed(text: bool, byte: u8) -> bool
     ensures value { result ≡ is_allowed text byte }
 {

@@ -32,12 +32,12 @@ token_lexeme (b ∷ bs) after = record { token = Some (five_letters (b ∷ bs));
 abbrev pub separator_lexeme : ℕ → Bytes → List Lexeme
 separator_lexeme b after = if is_separator b then record { token = None; after = after } ∷ [] else []
 
--- The tokens and separators of bytes, in order, where `run` is the part of a token that stands right before them.
+-- The tokens and separators of bytes, in order, where `begun` is the part of a token that stands right before them.
 unfoldable pub lexemes_from : Token → Bytes → List Lexeme
-lexemes_from run [] = token_lexeme run []
-lexemes_from run (b ∷ bs) =
-    if is_ascii_alphanumeric b then lexemes_from (run ++ to_ascii_uppercase b ∷ []) bs
-    else token_lexeme run (b ∷ bs) ++ separator_lexeme b bs ++ lexemes_from [] bs
+lexemes_from begun [] = token_lexeme begun []
+lexemes_from begun (b ∷ bs) =
+    if is_ascii_alphanumeric b then lexemes_from (begun ++ to_ascii_uppercase b ∷ []) bs
+    else token_lexeme begun (b ∷ bs) ++ separator_lexeme b bs ++ lexemes_from [] bs
 
 -- The tokens and separators of bytes, in order. A token is a longest run of letters and digits, with small letters read
 -- as capitals; a byte that is neither in a token nor a separator is a blank.

@@ -14,8 +14,9 @@ pub(crate) struct Lexeme {
     pub(crate) end: usize,
 }
 
-/// What each byte is in a token: a digit, or a letter as a capital; 0 for a byte that ends one.
-static LETTERS: [u8; 256] = [
+/// What each byte is in a token: a digit, or a letter as a capital; 0 for a byte that ends one. It is a table because one
+/// look-up takes less than comparisons for each byte of a line.
+static LETTER_OF_BYTE: [u8; 256] = [
     0, 0, 0, 0, 0, 0, 0, 0, 0, 0, 0, 0, 0, 0, 0, 0, 0, 0, 0, 0, 0, 0, 0, 0, 0, 0, 0, 0, 0, 0, 0, 0,
     0, 0, 0, 0, 0, 0, 0, 0, 0, 0, 0, 0, 0, 0, 0, 0, 48, 49, 50, 51, 52, 53, 54, 55, 56, 57, 0, 0,
     0, 0, 0, 0, 0, 65, 66, 67, 68, 69, 70, 71, 72, 73, 74, 75, 76, 77, 78, 79, 80, 81, 82, 83, 84,
@@ -33,18 +34,19 @@ fn is_separator(byte: u8) -> bool
     matches!(byte, b'.' | b',' | b';' | b':' | b'!' | b'?' | b'"')
 }
 
+// Whether a byte may stand in a token.
 fn is_in_token(byte: u8) -> bool
     ensures value { result ≡ is_ascii_alphanumeric byte }
 {
-    LETTERS[byte as usize] != 0
+    LETTER_OF_BYTE[byte as usize] != 0
 }
 
-// What a byte is in a token: a digit, or a letter as a capital. None for a byte that ends one.
+// The letter of a byte by that table. None for a byte that ends a token.
 fn letter_of(byte: u8) -> Option<u8>
     ensures none { IfNone result (is_ascii_alphanumeric byte ≡ false) }
     ensures some { IfSome result (λ letter. (is_ascii_alphanumeric byte ≡ true) × (letter ≡ to_ascii_uppercase byte)) }
 {
-    let letter = LETTERS[byte as usize];
+    let letter = LETTER_OF_BYTE[byte as usize];
     if letter == 0 { None } else { Some(letter) }
 }
 

@@ -86,8 +86,8 @@ impl Machine {
         }
     }
 
-    /// Keeps no steps from here on, and only counts them: for a machine whose steps are shown nowhere, because keeping
-    /// them takes time.
+    /// Forgets the steps that are kept, and from here on only counts them: for a machine whose steps are shown nowhere,
+    /// because keeping them takes time.
     pub fn count_steps_only(&mut self)
         ensures value { self.new ≡ only_counting self.old }
     {
@@ -155,7 +155,7 @@ impl Machine {
             (having surroundings.new self.new) }
     {
         let reader = StoryReader { tables, routines };
-        // The innermost frame. The machine takes it back where reading leaves its table or waits.
+        // The innermost frame. The machine takes it back where it calls a table or waits.
         let mut f = self.top();
         loop {
             match reader.read_on(self, surroundings, &mut f) {

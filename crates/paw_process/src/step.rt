@@ -272,7 +272,8 @@ impl<T: Tables, F: Fn(u8, u8) -> u8> StoryReader<'_, T, F> {
         machine.set_top(after_found(found, f));
     }
 
-    // Goes on after an action of the innermost frame, as an effect other than Go says.
+    // Goes on after an action of a frame that is read in place of the innermost one, as an effect other than Go says.
+    // The machine takes the frame back only where it is read again: after a call, and after an answer.
     fn go_elsewhere(
         &self,
         machine: &mut Machine,

@@ -52,7 +52,7 @@ pub data Out : Type 0 where
 abbrev pub halts : Halt → Run → Out
 halts halt r = Stopped (Halts halt) r
 
--- Whether the last piece is closed where play ends for good: only where the game is over. Otherwise it is dropped.
+-- Whether the last piece is closed where play ends for good: only if the game is over. Otherwise it is dropped.
 abbrev pub closes_piece : Halt → Bool
 closes_piece halt.Over = true
 closes_piece _ = false

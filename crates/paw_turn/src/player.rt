@@ -108,8 +108,8 @@ impl<'a, T: Tables, F: Fn(u8, u8) -> u8> Player<'a, T, F> {
         Ok(player)
     }
 
-    /// Keeps no steps from here on, and only counts them: for a player whose steps are shown nowhere, because keeping
-    /// them takes time. All else stays as it is.
+    /// Forgets the steps that are kept, and from here on only counts them: for a player whose steps are shown nowhere,
+    /// because keeping them takes time. All else stays as it is.
     pub fn count_steps_only(&mut self)
         ensures value { self.new ≡ only_counting_player self.old }
         ensures seated { IsSeated self.old → IsSeated self.new }

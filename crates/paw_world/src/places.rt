@@ -115,7 +115,7 @@ impl Places {
             Some(o) => o as usize + 1,
         };
         // No object stands in a word past that of the last one.
-        let words = self.count as usize / 64 + 1;
-        self.sets[p as usize].least_from(from, words)
+        let word_count = self.count as usize / 64 + 1;
+        self.sets[p as usize].least_from(from, word_count)
     }
 }

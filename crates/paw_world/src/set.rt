@@ -38,15 +38,15 @@ impl ObjectSet {
         self.words[(o / 64) as usize] &= !(1 << (o % 64));
     }
 
-    /// The least member that isn't below `from`, looked for in the first words, this many of them.
-    pub fn least_from(&self, from: usize, words: usize) -> Option<u8>
+    /// The least member that isn't below `from`, among those in the first `word_count` words.
+    pub fn least_from(&self, from: usize, word_count: usize) -> Option<u8>
         requires bound { from ≤ 256 }
-        requires words { words ≤ 4 }
-        ensures least { IsLeastFrom self.now from (64 * words) result }
+        requires words { word_count ≤ 4 }
+        ensures least { IsLeastFrom self.now from (64 * word_count) result }
     {
         let mut word = from / 64;
         let mut bit = (from % 64) as u8;
-        while word < words {
+        while word < word_count {
             match lowest_from(self.words[word], bit) {
                 Some(one) => return Some(64 * word as u8 + one),
                 None => {

@@ -416,7 +416,7 @@ impl World {
 
     // A weight together with that of all objects at a place, at most 255.
     #[cycle(weigh)]
-    #[inline(never)] // so that to weigh an object with no contents, as most are, takes no call
+    #[inline(never)] // so that weighing an object with no contents takes no call; most have none
     fn weight_with(&self, own: u8, p: u8, levels: u8) -> u8
         ensures value { result ≡ weight_with self.now levels own p }
     {

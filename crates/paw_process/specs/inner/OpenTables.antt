@@ -87,7 +87,7 @@ pub record IsWaiting (p : Prompt) (m : OpenTables) : Type 0 where
 abbrev pub new_machine : ℕ → OpenTables
 new_machine most = record { frames = []; turning = None; waiting = None; left = READ_LIMIT; steps = no_steps most }
 
--- The machine counts its steps but keeps none, from here on.
+-- The machine forgets the steps that it kept, and from here on only counts them.
 abbrev pub only_counting : OpenTables → OpenTables
 only_counting m = record m { steps = steps_only_counted m.steps }
 

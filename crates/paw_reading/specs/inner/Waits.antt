@@ -120,5 +120,5 @@ ReadingsAreBounded =
 -- Going on from where a run stands as it may, within the bounds, stays within them.
 abbrev pub GoingOnIsBounded : Type 0
 GoingOnIsBounded =
-    (g : Story) (seed n : ℕ) (p : Prompt) (path : List Frame) (r : Run) → ValidStory g → All IsLine r.events →
+    (g : Story) (seed : Seed) (n : ℕ) (p : Prompt) (path : List Frame) (r : Run) → ValidStory g → All IsLine r.events →
     StandsRightly g.game p path r → IsBounded seed n r → StopsBounded seed n (going_on_from g p path r)

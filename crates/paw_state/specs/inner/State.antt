@@ -35,9 +35,9 @@ state_of w m p at events piece = state_with w (machine_kept m) p at events piece
 -- The state of a run is that of the parts that it shows.
 abbrev pub StateOfParts : Type 0
 StateOfParts =
-    (lines : ℕ) (at : Prompt) (m : OpenTables) (r : Run) → r.turning ≡ m.turning →
-    state_at lines at (reverse m.frames) r
-    ≡ state_of r.world m (record { bytes = r.pending; earlier = r.earlier }) at lines (length (last_piece r.pieces))
+    (line_count : ℕ) (at : Prompt) (m : OpenTables) (r : Run) → r.turning ≡ m.turning →
+    state_at line_count at (reverse m.frames) r
+    ≡ state_of r.world m (record { bytes = r.pending; earlier = r.earlier }) at line_count (length (last_piece r.pieces))
 
 -- The state of these fields.
 abbrev pub state_in : GameLists → Fields → State

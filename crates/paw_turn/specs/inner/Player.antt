@@ -142,7 +142,7 @@ pub record IsSeated {F : Type 0} (p : PlayerView F) : Type 0 where
   pub machine : StandsClosed p.last p.machine
   pub rightly : IsStanding p.last → StandRightly p.game (prompt_at p.last) p.world p.machine p.pending
 
--- The player counts its steps but keeps none, from here on.
+-- The player forgets the steps that it kept, and from here on only counts them.
 abbrev pub only_counting_player : {F : Type 0} → PlayerView F → PlayerView F
 only_counting_player p = record p { machine = only_counting p.machine }
 

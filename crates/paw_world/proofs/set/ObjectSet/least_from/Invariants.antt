@@ -11,4 +11,4 @@ invariant-loop-word l = record {
 }
 
 abbrev pub decreases-loop-word : goal.decreases-loop-word
-decreases-loop-word l = l.words - l.word
+decreases-loop-word l = l.word_count - l.word
