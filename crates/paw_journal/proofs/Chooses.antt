@@ -6,6 +6,7 @@ use Rattle.paw_stage.specs.Stage.{Standing, with_disk}
 use Rattle.paw_stage.specs.Stage.{InWrite, InSync}
 use Rattle.paw_journal.specs.declared.layout.Slot.{Slot}
 use Rattle.paw_journal.specs.declared.layout.Slot.TheVariants as which
+use Rattle.paw_journal.specs.declared.layout.TheConstants.{GAME_AT, ROUTINES_AT, DIGEST_LENGTH}
 use Rattle.paw_journal.specs.Session.{recover, recover_by, slot_in_use, kept_digests, slot, session_length, header_length}
 use Rattle.paw_journal.specs.Session.{slot_length}
 use Rattle.paw_journal.specs.inner.Writes.{IsWithin, chosen_session}
@@ -76,8 +77,8 @@ in_choice k s m low long h o = elim o [
 
 -- All but the selector is as it was.
 pub chosen_digests : (k : ℕ) (old : List ℕ) → length old ≡ session_length → kept_digests (chosen_session k old) ≡ kept_digests old
-chosen_digests k old long = both_digests _ _ _ _ (stretch_past 32 32 1 (k ∷ []) old (omega arith) (omega arith))
-    (stretch_past 64 32 1 (k ∷ []) old (omega arith) (omega arith))
+chosen_digests k old long = both_digests _ _ _ _ (stretch_past GAME_AT DIGEST_LENGTH 1 (k ∷ []) old (omega arith) (omega arith))
+    (stretch_past ROUTINES_AT DIGEST_LENGTH 1 (k ∷ []) old (omega arith) (omega arith))
 
 pub chosen_slot : (k j : ℕ) (old : List ℕ) → length old ≡ session_length → slot j (chosen_session k old) ≡ slot j old
 chosen_slot k j old long = stretch_past (header_length + slot_length * j) slot_length 1 (k ∷ []) old (omega arith) (omega arith)

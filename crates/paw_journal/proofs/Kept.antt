@@ -271,7 +271,7 @@ exact_behind n c was state bytes piece old e d few is =
 pub drafts_whole : (kept : Option SlotState) (state bytes : List ℕ) → bytes ≡ state → length state ≡ base_length →
     ((piece : List ℕ) → 4224 + length piece ≤ most_written kept state piece) →
     ((old : List ℕ) → kept_slot old ≡ kept → takes_changes state old ≡ false) →
-    Drafts kept state bytes (record { at = 64; records = 0 })
+    Drafts kept state bytes (record { at = BASE_AT; records = 0 })
 drafts_whole kept state bytes e n most takes = record {
   inside = omega (arith, ap length e);
   exact = λ old piece is. exact_base state bytes piece old e (takes old is);
@@ -298,18 +298,18 @@ drafts_behind n c was state bytes t l few = record {
 
 -- Where there is no state, or there are too many changes, the base is written whole.
 pub drafts_base : (state bytes : List ℕ) → bytes ≡ state → length state ≡ base_length →
-    Drafts None state bytes (record { at = 64; records = 0 })
+    Drafts None state bytes (record { at = BASE_AT; records = 0 })
 drafts_base state bytes e n = drafts_whole None state bytes e n (λ piece. omega arith)
     (λ old is. takes_none (is_current old) (has_state old) (nat_le (records_with state old) most_changes)
     (record { records = two_byte_number 0 old; state = slot_state old }) is)
 
 pub drafts_whole_as : (state bytes : List ℕ) (kept : Option SlotState) (draft : CommitDraft) → bytes ≡ state →
-    length state ≡ base_length → kept ≡ None → draft ≡ record { at = 64; records = 0 } → Drafts kept state bytes draft
+    length state ≡ base_length → kept ≡ None → draft ≡ record { at = BASE_AT; records = 0 } → Drafts kept state bytes draft
 drafts_whole_as state bytes kept draft e n is at = rw (is, at) (drafts_base state bytes e n)
 
 pub drafts_many : (kept : SlotState) (s m : ℕ) (state records bytes : List ℕ) (draft : CommitDraft) →
     ChangesInto kept.state state records → s ≡ kept.records → m ≡ length records → base_length < s + m / 4 → bytes ≡ state →
-    length state ≡ base_length → draft ≡ record { at = 64; records = 0 } → Drafts (Some kept) state bytes draft
+    length state ≡ base_length → draft ≡ record { at = BASE_AT; records = 0 } → Drafts (Some kept) state bytes draft
 drafts_many kept s m state records bytes draft t e f many b l at =
     let d : differing kept.state state ≡ m / 4 = omega (arith, t.many) in
     rw at (drafts_whole (Some kept) state bytes b l (λ piece. most kept.records s (m / 4) (differing kept.state state) (length piece) d e many)

@@ -1,6 +1,6 @@
 -- A session that is being made, and what a crash leaves of it.
-use Rattle.std.proofs.Common.{◌≡◌, ℕ, suc, ◌+◌, ◌≤◌, ◌<◌, max, false, List, [], ◌∷◌, ◌++◌, length, take, drop, refl}
-use Rattle.std.proofs.Common.{sym, ap, subst, ◌∙◌, arith, get_or, inl}
+use Rattle.std.proofs.Common.{◌≡◌, ℕ, suc, ◌+◌, ◌-◌, ◌≤◌, ◌<◌, max, false, List, [], ◌∷◌, ◌++◌, length, take, drop}
+use Rattle.std.proofs.Common.{refl, sym, ap, subst, ◌∙◌, arith, get_or, inl}
 use Rattle.std.proofs.Common.{inr, ◌⊎◌, append_assoc}
 use Rattle.std.specs.Prelude.{replicate, Result, Ok}
 use Rattle.std.proofs.lemmas.Bool.{cases_eq}
@@ -12,6 +12,7 @@ use Rattle.paw_stage.specs.Disk.{Range, Disk, is_dirty, IsInWrite, put_at, stabl
 use Rattle.paw_stage.specs.Stage.{Standing, with_disk, with_written}
 use Rattle.paw_stage.specs.Stage.{InWrite, InSync}
 use Rattle.paw_base.specs.declared.layout.TheConstants.{VERSION}
+use Rattle.paw_journal.specs.declared.layout.TheConstants.{HEADER_LENGTH, GAME_AT, ROUTINES_AT, DIGEST_LENGTH}
 use Rattle.paw_journal.specs.Session.{Digests, IsUnmade, recover, session_mark, zeros, made_mark, session_length}
 use Rattle.paw_journal.specs.Session.{made_header}
 use Rattle.paw_journal.specs.inner.Session.{digests_of}
@@ -96,14 +97,14 @@ length_zeros n = length-replicate n 0
 
 -- Both digests have 32 bytes.
 abbrev pub AreLong : Digests → Type 0
-AreLong digests = (length digests.game ≡ 32) × (length digests.routines ≡ 32)
+AreLong digests = (length digests.game ≡ DIGEST_LENGTH) × (length digests.routines ≡ DIGEST_LENGTH)
 
-pub length_header : (first : ℕ) (digests : Digests) → AreLong digests → length (made_header first digests) ≡ 128
+pub length_header : (first : ℕ) (digests : Digests) → AreLong digests → length (made_header first digests) ≡ HEADER_LENGTH
 length_header first digests n = header (first ∷ 0 ∷ VERSION ∷ zeros 29) digests.game digests.routines (zeros 32)
     (omega (arith, length_zeros 29)) n.0 n.1 (length_zeros 32)
   where
-    header : (head game routines behind : List ℕ) → length head ≡ 32 → length game ≡ 32 → length routines ≡ 32 →
-        length behind ≡ 32 → length (head ++ game ++ routines ++ behind) ≡ 128
+    header : (head game routines behind : List ℕ) → length head ≡ GAME_AT → length game ≡ DIGEST_LENGTH →
+        length routines ≡ DIGEST_LENGTH → length behind ≡ 32 → length (head ++ game ++ routines ++ behind) ≡ HEADER_LENGTH
     header head game routines behind h n m b = omega (
       arith,
       length-append (head ++ game ++ routines) behind,
@@ -118,29 +119,31 @@ put_over at a b c new n m =
     ∙ ap (λ x. a ++ new ++ x) (drop_at (a ++ b) c (at + length new) (omega (arith, length-append a b)))
 
 -- The digests written into a header that has none.
-pub header_is : (game routines : List ℕ) → length game ≡ 32 → length routines ≡ 32 →
-    put_at 64 routines (put_at 32 game (0 ∷ 0 ∷ VERSION ∷ replicate 125 0)) ≡ made_header 0 (digests_of game routines)
+pub header_is : (game routines : List ℕ) → length game ≡ DIGEST_LENGTH → length routines ≡ DIGEST_LENGTH →
+    put_at ROUTINES_AT routines (put_at GAME_AT game (0 ∷ 0 ∷ VERSION ∷ replicate 125 0)) ≡ made_header 0 (digests_of game routines)
 unfolding zeros
-header_is game routines n m = over (0 ∷ 0 ∷ VERSION ∷ replicate 29 0) (replicate 32 0) (replicate 32 0) (replicate 32 0) refl refl n m
+header_is game routines n m =
+    over (0 ∷ 0 ∷ VERSION ∷ replicate 29 0) (replicate DIGEST_LENGTH 0) (replicate DIGEST_LENGTH 0) (replicate 32 0) refl refl n m
   where
-    over : (head one two behind : List ℕ) → length head ≡ 32 → length one ≡ 32 → length game ≡ 32 → length routines ≡ length two →
-        put_at 64 routines (put_at 32 game (head ++ one ++ two ++ behind)) ≡ head ++ game ++ routines ++ behind
+    over : (head one two behind : List ℕ) → length head ≡ GAME_AT → length one ≡ DIGEST_LENGTH → length game ≡ DIGEST_LENGTH →
+        length routines ≡ length two →
+        put_at ROUTINES_AT routines (put_at GAME_AT game (head ++ one ++ two ++ behind)) ≡ head ++ game ++ routines ++ behind
     over head one two behind h o n m =
-        ap (λ x. put_at 64 routines (put_at 32 game x)) (append_assoc (head ++ one) two behind)
-        ∙ (ap (put_at 64 routines) (put_over 32 head one (two ++ behind) game h (n ∙ sym o))
-        ∙ (ap (put_at 64 routines) (sym (append_assoc (head ++ game) two behind))
-        ∙ put_over 64 (head ++ game) two behind routines (omega (arith, length-append head game)) m))
+        ap (λ x. put_at ROUTINES_AT routines (put_at GAME_AT game x)) (append_assoc (head ++ one) two behind)
+        ∙ (ap (put_at ROUTINES_AT routines) (put_over GAME_AT head one (two ++ behind) game h (n ∙ sym o))
+        ∙ (ap (put_at ROUTINES_AT routines) (sym (append_assoc (head ++ game) two behind))
+        ∙ put_over ROUTINES_AT (head ++ game) two behind routines (omega (arith, length-append head game)) m))
 
 -- The header without its first byte is written after that byte.
 pub header_written : (digests : Digests) (header old : List ℕ) → AreLong digests → header ≡ made_header 0 digests →
-    old ≡ 0 ∷ [] → put_at 1 (take 127 (drop 1 header)) old ≡ made_header 0 digests
+    old ≡ 0 ∷ [] → put_at 1 (take (HEADER_LENGTH - 1) (drop 1 header)) old ≡ made_header 0 digests
 header_written digests header old n e o =
-    let l : length (drop 1 (made_header 0 digests)) ≤ 127 =
+    let l : length (drop 1 (made_header 0 digests)) ≤ HEADER_LENGTH - 1 =
     omega (arith, length-drop 1 (made_header 0 digests), length_header 0 digests n) in
-    ap (λ x. put_at 1 (take 127 (drop 1 header)) x) o
-    ∙ (put_end 1 (take 127 (drop 1 header)) (0 ∷ []) refl
-    ∙ (ap (λ h. 0 ∷ take 127 (drop 1 h)) e
-    ∙ ap (λ x. 0 ∷ x) (take_all 127 (drop 1 (made_header 0 digests)) l)))
+    ap (λ x. put_at 1 (take (HEADER_LENGTH - 1) (drop 1 header)) x) o
+    ∙ (put_end 1 (take (HEADER_LENGTH - 1) (drop 1 header)) (0 ∷ []) refl
+    ∙ (ap (λ h. 0 ∷ take (HEADER_LENGTH - 1) (drop 1 h)) e
+    ∙ ap (λ x. 0 ∷ x) (take_all (HEADER_LENGTH - 1) (drop 1 (made_header 0 digests)) l)))
 
 -- While the mark is written a crash leaves no session, or the one that is marked.
 pub marking : (old : List ℕ) (d : Disk) → length old ≡ session_length → IsWithin 0 1 old d →

@@ -3,6 +3,7 @@ use Rattle.std.proofs.Common.{◌≡◌, ◌≢◌, ℕ, ◌+◌, ◌*◌, ◌�
 use Rattle.std.proofs.Common.{get_or, ◌⊎◌, inl, inr}
 use Rattle.std.specs.Prelude.{if◌then◌else◌, ◌==◌, ◌&&◌}
 use Rattle.std.proofs.lemmas.Bool.Decides.{nat_tests}
+use Rattle.paw_journal.specs.declared.layout.TheConstants.{GAME_AT, ROUTINES_AT, DIGEST_LENGTH}
 use Rattle.paw_journal.specs.declared.refusal.SessionPart.TheVariants as part
 use Rattle.paw_journal.specs.Session.{Recovered, Unmade, Damaged, Shown, IsUnmade, recover, recover_by, slot_shows}
 use Rattle.paw_journal.specs.Session.{slot, slot_in_use, session_mark, version}
@@ -23,10 +24,11 @@ both_digests g h r s e f = ap (λ x. digests_of x r) e ∙ ap (digests_of h) f
 
 -- So bytes 32 to 95 alone say whose session it is.
 pub same_digests : (a b : List ℕ) → length a ≡ length b →
-    ((i : ℕ) → 32 ≤ i → i < 96 → get_or a i 0 ≡ get_or b i 0) → kept_digests a ≡ kept_digests b
-same_digests a b n same = both_digests (stretch 32 32 a) (stretch 32 32 b) (stretch 64 32 a) (stretch 64 32 b)
-    (stretch_same 32 32 a b n (λ i low high. same i low (omega arith)))
-    (stretch_same 64 32 a b n (λ i low high. same i (omega arith) high))
+    ((i : ℕ) → GAME_AT ≤ i → i < ROUTINES_AT + DIGEST_LENGTH → get_or a i 0 ≡ get_or b i 0) → kept_digests a ≡ kept_digests b
+same_digests a b n same = both_digests (stretch GAME_AT DIGEST_LENGTH a) (stretch GAME_AT DIGEST_LENGTH b)
+    (stretch ROUTINES_AT DIGEST_LENGTH a) (stretch ROUTINES_AT DIGEST_LENGTH b)
+    (stretch_same GAME_AT DIGEST_LENGTH a b n (λ i low high. same i low (omega arith)))
+    (stretch_same ROUTINES_AT DIGEST_LENGTH a b n (λ i low high. same i (omega arith) high))
 
 -- These parts alone decide what bytes stand for.
 pub recover_by_parts : (k : ℕ) (a b : List ℕ) → length a ≡ length b → session_mark a ≡ session_mark b → version a ≡ version b →

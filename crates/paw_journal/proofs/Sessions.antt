@@ -16,11 +16,11 @@ use Rattle.paw_journal.specs.inner.Journal.{IsAtRest, KeptIn}
 use Rattle.paw_journal.specs.inner.Room.{Room, kept_slot, with_slot_kept, KeepsSlots, slot_number}
 use Rattle.paw_journal.specs.Session.{Digests, Recovered, Shown, IsUnmade, recover, slot_shows, slot, stretch, base}
 use Rattle.paw_journal.specs.Session.{slot_in_use, kept_digests, piece_length, state_length}
-use Rattle.paw_journal.specs.Session.{session_length, slot_length, zeros, made_mark}
+use Rattle.paw_journal.specs.Session.{session_length, header_length, slot_length, zeros, made_mark}
 use Rattle.paw_journal.specs.Session.{made_header, made_slot, made_session}
 use Rattle.paw_journal.specs.inner.Store.{ChangesStoreOnly, InStore, CrashLeavesSuch, IsOldOrNew}
 use Rattle.paw_journal.specs.inner.Writes.{Introduces, MakesSession}
-use Rattle.paw_journal.specs.declared.layout.TheConstants.{BASE_AT, PIECE_AT}
+use Rattle.paw_journal.specs.declared.layout.TheConstants.{GAME_AT, ROUTINES_AT, DIGEST_LENGTH, BASE_AT, PIECE_AT}
 use Rattle.paw_base.specs.declared.layout.TheConstants.{VERSION}
 use Rattle.paw_base.specs.declared.limits.TheConstants.{PIECE_LIMIT}
 use Rattle.paw_journal.specs.Session.{base_length}
@@ -30,17 +30,18 @@ use Rattle.paw_journal.proofs.Kept.{IsKept, kept_is, kept_shows}
 use Rattle.paw_journal.proofs.Slots.{state_stays, piece_stays}
 use Rattle.paw_journal.proofs.Moved.{in_later}
 
-length_head : length (0 ∷ 0 ∷ VERSION ∷ zeros 61) ≡ 64
+length_head : length (0 ∷ 0 ∷ VERSION ∷ zeros 61) ≡ BASE_AT
 length_head = omega (arith, length_zeros 61)
 
 pub length_slot : (state piece : List ℕ) → length state ≡ base_length → length piece ≤ PIECE_LIMIT →
     length (made_slot state piece) ≡ slot_length
 length_slot state piece n few =
-    slots (0 ∷ 0 ∷ VERSION ∷ zeros 61) state piece (zeros (81920 - length piece)) length_head n few (length_zeros (81920 - length piece))
+    slots (0 ∷ 0 ∷ VERSION ∷ zeros 61) state piece (zeros (slot_length - PIECE_AT - length piece)) length_head n few
+    (length_zeros (slot_length - PIECE_AT - length piece))
   where
-    slots : (head state piece behind : List ℕ) → length head ≡ 64 → length state ≡ base_length
+    slots : (head state piece behind : List ℕ) → length head ≡ BASE_AT → length state ≡ base_length
         → length piece ≤ PIECE_LIMIT →
-        length behind ≡ 81920 - length piece → length (head ++ state ++ piece ++ behind) ≡ slot_length
+        length behind ≡ slot_length - PIECE_AT - length piece → length (head ++ state ++ piece ++ behind) ≡ slot_length
     slots head state piece behind h n few b =
         omega (
           arith,
@@ -59,17 +60,19 @@ regroup a b c d = simp append_assoc
 
 made_base : (state piece : List ℕ) → length state ≡ base_length → base (made_slot state piece) ≡ state
 made_base state piece n =
-    ap (λ l. take base_length (drop BASE_AT l)) (regroup (0 ∷ 0 ∷ VERSION ∷ zeros 61) state piece (zeros (81920 - length piece)))
-    ∙ (ap (take base_length) (drop_at (0 ∷ 0 ∷ VERSION ∷ zeros 61) _ 64 length_head) ∙ take_at state _ base_length n)
+    ap (λ l. take base_length (drop BASE_AT l))
+    (regroup (0 ∷ 0 ∷ VERSION ∷ zeros 61) state piece (zeros (slot_length - PIECE_AT - length piece)))
+    ∙ (ap (take base_length) (drop_at (0 ∷ 0 ∷ VERSION ∷ zeros 61) _ BASE_AT length_head) ∙ take_at state _ base_length n)
 
 made_piece : (state piece : List ℕ) → length state ≡ base_length →
     stretch PIECE_AT (length piece) (made_slot state piece) ≡ piece
 made_piece state piece n =
-    ap (λ l. take (length piece) (drop PIECE_AT l)) (append_assoc (0 ∷ 0 ∷ VERSION ∷ zeros 61 ++ state) piece (zeros (81920 - length piece)))
+    ap (λ l. take (length piece) (drop PIECE_AT l))
+    (append_assoc (0 ∷ 0 ∷ VERSION ∷ zeros 61 ++ state) piece (zeros (slot_length - PIECE_AT - length piece)))
     ∙ (ap (take (length piece)) (drop_at (0 ∷ 0 ∷ VERSION ∷ zeros 61 ++ state) _ PIECE_AT
     (head (0 ∷ 0 ∷ VERSION ∷ zeros 61) state length_head n)) ∙ take_at piece _ (length piece) refl)
   where
-    head : (z state : List ℕ) → length z ≡ 64 → length state ≡ base_length → length (z ++ state) ≡ PIECE_AT
+    head : (z state : List ℕ) → length z ≡ BASE_AT → length state ≡ base_length → length (z ++ state) ≡ PIECE_AT
     head z state h n = omega (arith, length-append z state)
 
 -- A slot that is made has its state, and shows it with its piece.
@@ -87,14 +90,14 @@ made_slot_shows digests state piece n names =
 made_slot_zero : (digests : Digests) (slots behind : List ℕ) → AreLong digests → length slots ≡ slot_length →
     slot 0 (made_header made_mark digests ++ slots ++ behind) ≡ slots
 made_slot_zero digests slots behind n l =
-    ap (λ x. take slot_length (drop 128 x)) (append_assoc (made_header made_mark digests) slots behind)
-    ∙ (ap (take slot_length) (drop_at (made_header made_mark digests) (slots ++ behind) 128
+    ap (λ x. take slot_length (drop header_length x)) (append_assoc (made_header made_mark digests) slots behind)
+    ∙ (ap (take slot_length) (drop_at (made_header made_mark digests) (slots ++ behind) header_length
     (length_header made_mark digests n)) ∙ take_at slots behind slot_length l)
 
 made_slot_one : (digests : Digests) (first slots : List ℕ) → AreLong digests → length first ≡ slot_length →
     length slots ≡ slot_length → slot 1 (made_header made_mark digests ++ first ++ slots) ≡ slots
 made_slot_one digests first slots n l m =
-    ap (take slot_length) (drop_at (made_header made_mark digests ++ first) slots 86208
+    ap (take slot_length) (drop_at (made_header made_mark digests ++ first) slots (header_length + slot_length)
     (omega (arith, length-append (made_header made_mark digests) first, length_header made_mark digests n)))
     ∙ take_all slot_length slots (omega arith)
 
@@ -104,23 +107,25 @@ made_digests digests slots behind n =
     (of_game (made_mark ∷ 0 ∷ VERSION ∷ zeros 29) digests.game digests.routines (zeros 32) slots behind head n.0)
     (of_routines (made_mark ∷ 0 ∷ VERSION ∷ zeros 29) digests.game digests.routines (zeros 32) slots behind head n.0 n.1)
   where
-    head : length (made_mark ∷ 0 ∷ VERSION ∷ zeros 29) ≡ 32
+    head : length (made_mark ∷ 0 ∷ VERSION ∷ zeros 29) ≡ GAME_AT
     head = omega (arith, length_zeros 29)
 
     regroup : (a b c d e : List ℕ) → a ++ b ++ c ++ d ++ e ≡ a ++ (b ++ (c ++ (d ++ e)))
     regroup a b c d e = simp append_assoc
 
-    of_game : (h g r z s t : List ℕ) → length h ≡ 32 → length g ≡ 32 → stretch 32 32 (h ++ g ++ r ++ z ++ s ++ t) ≡ g
+    of_game : (h g r z s t : List ℕ) → length h ≡ GAME_AT → length g ≡ DIGEST_LENGTH →
+        stretch GAME_AT DIGEST_LENGTH (h ++ g ++ r ++ z ++ s ++ t) ≡ g
     of_game h g r z s t k l =
-        ap (λ x. take 32 (drop 32 (x ++ t))) (regroup h g r z s)
-        ∙ (ap (λ x. take 32 (drop 32 x)) (append_assoc h (g ++ (r ++ (z ++ s))) t)
-        ∙ (ap (take 32) (drop_at h _ 32 k) ∙ (ap (take 32) (append_assoc g (r ++ (z ++ s)) t) ∙ take_at g _ 32 l)))
+        ap (λ x. take DIGEST_LENGTH (drop GAME_AT (x ++ t))) (regroup h g r z s)
+        ∙ (ap (λ x. take DIGEST_LENGTH (drop GAME_AT x)) (append_assoc h (g ++ (r ++ (z ++ s))) t)
+        ∙ (ap (take DIGEST_LENGTH) (drop_at h _ GAME_AT k)
+        ∙ (ap (take DIGEST_LENGTH) (append_assoc g (r ++ (z ++ s)) t) ∙ take_at g _ DIGEST_LENGTH l)))
 
-    of_routines : (h g r z s t : List ℕ) → length h ≡ 32 → length g ≡ 32 → length r ≡ 32 →
-        stretch 64 32 (h ++ g ++ r ++ z ++ s ++ t) ≡ r
+    of_routines : (h g r z s t : List ℕ) → length h ≡ GAME_AT → length g ≡ DIGEST_LENGTH → length r ≡ DIGEST_LENGTH →
+        stretch ROUTINES_AT DIGEST_LENGTH (h ++ g ++ r ++ z ++ s ++ t) ≡ r
     of_routines h g r z s t k l m =
-        ap (λ x. take 32 (drop 64 x)) (regroup (h ++ g) r z s t)
-        ∙ (ap (take 32) (drop_at (h ++ g) _ 64 (omega (arith, length-append h g))) ∙ take_at r _ 32 m)
+        ap (λ x. take DIGEST_LENGTH (drop ROUTINES_AT x)) (regroup (h ++ g) r z s t)
+        ∙ (ap (take DIGEST_LENGTH) (drop_at (h ++ g) _ ROUTINES_AT (omega (arith, length-append h g))) ∙ take_at r _ DIGEST_LENGTH m)
 
 made_long : (digests : Digests) (slots : List ℕ) → AreLong digests → length slots ≡ slot_length →
     length (made_header made_mark digests ++ slots ++ slots) ≡ session_length
@@ -201,13 +206,13 @@ same_digest kept found ne f e = (bytes_eq-Decides kept found).0 (same ne _ f e)
     same ne false f e = absurd (cc (f, e))
 
 -- So is one that stands for routines that were measured, or for none.
-pub measured : (kept : List ℕ) (ne : Bool) → ne ≡ true → ne ≡ not (bytes_eq kept (replicate 32 0)) → kept ≢ zeros 32
+pub measured : (kept : List ℕ) (ne : Bool) → ne ≡ true → ne ≡ not (bytes_eq kept (replicate DIGEST_LENGTH 0)) → kept ≢ zeros DIGEST_LENGTH
 unfolding zeros
-measured kept ne t e = other_digest kept (replicate 32 0) ne t e
+measured kept ne t e = other_digest kept (replicate DIGEST_LENGTH 0) ne t e
 
-pub unmeasured : (kept : List ℕ) (ne : Bool) → ne ≡ false → ne ≡ not (bytes_eq kept (replicate 32 0)) → kept ≡ zeros 32
+pub unmeasured : (kept : List ℕ) (ne : Bool) → ne ≡ false → ne ≡ not (bytes_eq kept (replicate DIGEST_LENGTH 0)) → kept ≡ zeros DIGEST_LENGTH
 unfolding zeros
-unmeasured kept ne f e = same_digest kept (replicate 32 0) ne f e
+unmeasured kept ne f e = same_digest kept (replicate DIGEST_LENGTH 0) ne f e
 
 -- The session is kept where it was found.
 pub found_keeps : (w : Slot) (digests : Digests) (room : Room) (s t : Standing) → IsAtRest s → t ≡ s →
@@ -247,7 +252,7 @@ shown_stays digests r o kept two three four s e f =
     s ∙ (ap (λ l. Shown digests (take state_length l) two.piece) (sym st) ∙ ap (Shown digests (take state_length four.state)) (sym p))
 
 -- A piece is short if a state gives its length.
-pub short_piece : (state piece : List ℕ) → ((i : ℕ) → get_or state i 0 < 256) → piece_length state ≡ length piece → length piece ≤ 65535
+pub short_piece : (state piece : List ℕ) → ((i : ℕ) → get_or state i 0 < 256) → piece_length state ≡ length piece → length piece ≤ PIECE_LIMIT
 short_piece state piece bytes e = omega (arith, bytes PIECE_LENGTH_AT, bytes (PIECE_LENGTH_AT + 1))
 
 -- What is laid out, once it is marked, is the session.

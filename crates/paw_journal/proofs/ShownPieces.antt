@@ -66,7 +66,7 @@ shown_whole bytes digests state piece e =
 
 -- And the piece is as long as the state says.
 pub shown_long : (bytes : List ℕ) (digests : Digests) (state piece : List ℕ) → recover bytes ≡ Shown digests state piece →
-    piece_length state ≤ 81920 → length piece ≡ piece_length state
+    piece_length state ≤ slot_length - PIECE_AT → length piece ≡ piece_length state
 shown_long bytes digests state piece e few =
     let h = of_chosen bytes digests state piece e in
     let s = slot (slot_in_use bytes) bytes in
@@ -77,7 +77,7 @@ shown_long bytes digests state piece e few =
     ap length (sym h.2) ∙ (length-take-le (piece_length (slot_state s)) (drop PIECE_AT s) (there _ _ _ _ (length-drop PIECE_AT s) h.3 n few)
     ∙ sym n)
   where
-    there : (k d l m : ℕ) → d ≡ l - PIECE_AT → l ≡ slot_length → m ≡ k → m ≤ 81920 → k ≤ d
+    there : (k d l m : ℕ) → d ≡ l - PIECE_AT → l ≡ slot_length → m ≡ k → m ≤ slot_length - PIECE_AT → k ≤ d
     there k d l m e f n few = omega arith
 
 -- So is a piece that stands beside a buffer whose first bytes are the state.

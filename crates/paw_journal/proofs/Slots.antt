@@ -144,7 +144,7 @@ room_for_body r s piece f g e few = omega (
 pub room_behind : (q r s : Room) (state piece : List ℕ) (n : ℕ) → s.slot ≡ 0 ∷ 0 ∷ VERSION ∷ [] → s.state ≡ state →
     s.piece ≡ piece → r ≡ record s { slot = s.slot ++ zeros 61 } → length state ≡ base_length
     → length piece ≤ PIECE_LIMIT →
-    q ≡ record r { slot = r.slot ++ r.state ++ r.piece } → n ≡ length piece → length q.slot + (81920 - n) ≤ slot_length
+    q ≡ record r { slot = r.slot ++ r.state ++ r.piece } → n ≡ length piece → length q.slot + (slot_length - PIECE_AT - n) ≤ slot_length
 room_behind q r s state piece n a b d e long few f k =
     omega (
       arith,
