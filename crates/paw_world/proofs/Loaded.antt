@@ -3,6 +3,7 @@ use Rattle.std.proofs.Common.{◌≡◌, ℕ, suc, ◌+◌, ◌<◌, List, ◌++
 use Rattle.std.proofs.Common.{add-one, length-append, length-drop}
 use Rattle.std.specs.Option.{option_map_or}
 use Rattle.std.proofs.lemmas.List.{length-take-le}
+use Rattle.paw_base.specs.declared.limits.TheConstants.{FLAG_COUNT}
 use Rattle.paw_base.specs.declared.parts.ObjectFacts.{ObjectFacts}
 use Rattle.paw_world.specs.World.{World, Position, saved_position_loaded, at_position, IsPosition, IsSavedFor}
 use Rattle.paw_world.specs.inner.World.{IsStored}
@@ -13,7 +14,7 @@ saved_for objects saved q is alike = rw is at alike
 -- The position has as many places, and the flags are as many as before.
 pub parts_loaded : (facts : List ObjectFacts) (flags places : List ℕ) (saved : Option Position)
     (kept : List (Option Position)) (q : Position) (n : ℕ) (front moved : List ℕ) → IsStored facts flags places saved kept → saved ≡ Some q
-    → n < 256 → front ≡ take (n + 1) q.flags → moved ≡ q.places
+    → n < FLAG_COUNT → front ≡ take (n + 1) q.flags → moved ≡ q.places
     → IsStored facts (front ++ drop (n + 1) flags) moved saved kept
 parts_loaded facts flags places saved kept q n front moved parts is small first all =
     let alike = saved_for (length places) saved q is parts.saved_alike in

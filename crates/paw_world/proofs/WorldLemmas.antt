@@ -11,6 +11,7 @@ use Rattle.std.proofs.lemmas.Bool.Decides.{nat_tests}
 use Rattle.paw_base.specs.declared.parts.ObjectFacts.{ObjectFacts}
 use Rattle.paw_base.specs.declared.places.TheConstants.{CARRIED_PLACE}
 use Rattle.paw_base.specs.declared.flags.TheConstants.{CARRIED_FLAG}
+use Rattle.paw_base.specs.declared.limits.TheConstants.{OBJECT_LIMIT, FLAG_COUNT, POSITION_COUNT}
 use Rattle.paw_world.specs.World.{World, Position, flag, with_flag, place, with_place, flags_with, first_carried}
 use Rattle.paw_world.specs.World.{opening_places}
 use Rattle.paw_world.specs.World.{with_objects_returned, starting_world, world_restarted, let_go, taken_up, object_moved, position_saved}
@@ -21,7 +22,7 @@ use Rattle.paw_world.specs.inner.World.{taken_back, kept_position_loaded, with_k
 use Rattle.paw_world.proofs.Kept.{kept_with, kept_alike, none_kept}
 
 -- ---- a flag that was given a value
-pub flag-with_flag_same : (w : World) (f x : ℕ) → IsWorld w → f < 256 → flag (with_flag w f x) f ≡ x
+pub flag-with_flag_same : (w : World) (f x : ℕ) → IsWorld w → f < FLAG_COUNT → flag (with_flag w f x) f ≡ x
 flag-with_flag_same w f x sound small = get_or-set_same w.flags f x 0 (omega (arith, sound.flags))
 
 pub flag-with_flag_other : (w : World) (f x g : ℕ) → g ≢ f → flag (with_flag w f x) g ≡ flag w g
@@ -71,7 +72,7 @@ pub IsWorld-ramsaved : (w : World) → IsWorld w → IsWorld (position_saved w)
 IsWorld-ramsaved w sound =
     record { objects = sound.objects; facts = sound.facts; flags = sound.flags; saved = record { flags = sound.flags; places = refl }; kept = sound.kept }
 
-loaded : (w : World) (n : ℕ) (saved : Option Position) → n < 256 → IsSavedFor (length w.places) saved → IsWorld w
+loaded : (w : World) (n : ℕ) (saved : Option Position) → n < FLAG_COUNT → IsSavedFor (length w.places) saved → IsWorld w
     → IsWorld (option_map_or (at_position w n) saved w)
 loaded w n None small alike sound = sound
 loaded w n (Some q) small alike sound =
@@ -84,7 +85,7 @@ loaded w n (Some q) small alike sound =
       kept = sound.kept;
     })
 
-pub IsWorld-ramloaded : (w : World) (n : ℕ) → n < 256 → IsWorld w → IsWorld (saved_position_loaded w n)
+pub IsWorld-ramloaded : (w : World) (n : ℕ) → n < FLAG_COUNT → IsWorld w → IsWorld (saved_position_loaded w n)
 IsWorld-ramloaded w n small sound = loaded w n w.saved small sound.saved sound
 
 pub IsWorld-with_kept : (w : World) (n : ℕ) (q : Position) → IsPosition (length w.places) q → IsWorld w → IsWorld (with_kept w n q)
@@ -104,17 +105,17 @@ placed w None alike sound = sound
 placed w (Some q) alike sound = same_count (record w { flags = q.flags }) q.places alike.places
     (record { objects = sound.objects; facts = sound.facts; flags = alike.flags; saved = sound.saved; kept = sound.kept })
 
-pub IsWorld-recalled : (w : World) (n : ℕ) → n < 4 → IsWorld w → IsWorld (kept_position_loaded w n)
+pub IsWorld-recalled : (w : World) (n : ℕ) → n < POSITION_COUNT → IsWorld w → IsWorld (kept_position_loaded w n)
 IsWorld-recalled w n few sound = placed w (kept_position w n) (kept_alike (length w.places) w.kept n few sound.kept) sound
 
 pub IsWorld-drawn_on : (w : World) (n : ℕ) → IsWorld w → IsWorld (drawn_on w n)
 IsWorld-drawn_on w n sound = record { objects = sound.objects; facts = sound.facts; flags = sound.flags; saved = sound.saved; kept = sound.kept }
 
-length-flags_with : (carried : ℕ) → length (flags_with carried) ≡ 256
+length-flags_with : (carried : ℕ) → length (flags_with carried) ≡ FLAG_COUNT
 unfolding flags_with
 length-flags_with carried = refl
 
-pub IsWorld-opened : (facts : List ObjectFacts) (locations seed : ℕ) → length facts ≤ 255 → IsWorld (starting_world facts locations seed)
+pub IsWorld-opened : (facts : List ObjectFacts) (locations seed : ℕ) → length facts ≤ OBJECT_LIMIT → IsWorld (starting_world facts locations seed)
 IsWorld-opened facts locations seed few = record {
   objects = omega (arith, length-map facts (λ (f : ObjectFacts). f.start));
   facts = sym (length-map facts (λ (f : ObjectFacts). f.start));
