@@ -56,7 +56,7 @@ objects_all ws locations (t ∷ ts) (f ∷ fs) a b =
 
 -- ---- the order of the sections
 
-no_tables : (s : Section) (d : Spelt) → InOrder s d → 3 ≤ length d.tables → AtTables d
+no_tables : (s : Section) (d : Spelt) → InOrder s d → TABLE_LEAST ≤ length d.tables → AtTables d
 no_tables section.Before d o h = let none = ap length o.tables in absurd (omega (arith, none, h))
 no_tables section.Voc d o h = let none = ap length o.tables in absurd (omega (arith, none, h))
 no_tables section.Stx d o h = let none = ap length o.tables in absurd (omega (arith, none, h))
@@ -69,7 +69,7 @@ no_tables section.Pro d o h = o
 
 -- ---- the whole game
 
-valid_game : (p : ℕ) (d : Spelt) → Keeps p d → 3 ≤ length d.tables → length d.tables ≡ p → Valid (game_of d)
+valid_game : (p : ℕ) (d : Spelt) → Keeps p d → TABLE_LEAST ≤ length d.tables → length d.tables ≡ p → Valid (game_of d)
 valid_game p d k three counted =
     let at = no_tables d.section d k.order three in
     let rows = at.rows in
@@ -114,7 +114,7 @@ whole_valid p n d g k counted h =
     (cond (nat_lt IMAGE_LIMIT (length (image (game_of d)))) (Err (fault (suc n) kind.TooBig)) (Ok (game_of d))) g h in
     let b = passes (nat_lt IMAGE_LIMIT (length (image (game_of d)))) (fault (suc n) kind.TooBig)
     (Ok (game_of d)) g a.1 in
-    let three : 3 ≤ length d.tables = grind (arith, nat_tests, a.0) in
+    let three : TABLE_LEAST ≤ length d.tables = grind (arith, nat_tests, a.0) in
     subst Valid (ok_is (game_of d) g b.1) (valid_game p d k three counted)
 
 reading_valid : (p n : ℕ) (d : Spelt) (ls : List (List ℕ)) (g : GameLists) → Keeps p d

@@ -116,34 +116,34 @@ verbs_distinct ws locations (y ∷ ys) kept =
     (verbs_apart ws locations y.verb ys alone, verbs_distinct ws locations ys p.1)
 
 -- A word's value is at most the greatest that a word may have.
-value_low : (ws : List Word) (c v : ℕ) → list_all is_word ws ≡ true → has_word ws c v ≡ true → v < 255
+value_low : (ws : List Word) (c v : ℕ) → list_all is_word ws ≡ true → has_word ws c v ≡ true → v < GREATEST_WORD + 1
 value_low [] c v all h = absurd cc
 value_low (w ∷ ws) c v all h =
     let p = and_parts (is_word w) (list_all is_word ws) all in
     let q = and_parts (is_within LEAST_WORD GREATEST_WORD w.value) (nat_le w.class PRONOUN_CLASS)
     (and_parts _ (is_within LEAST_WORD GREATEST_WORD w.value && nat_le w.class PRONOUN_CLASS) p.0).1 in
-    elim (eqb w.class c && eqb w.value v) as (λ b. (eqb w.class c && eqb w.value v) ≡ b → (b || has_word ws c v) ≡ true → v < 255) [
+    elim (eqb w.class c && eqb w.value v) as (λ b. (eqb w.class c && eqb w.value v) ≡ b → (b || has_word ws c v) ≡ true → v < GREATEST_WORD + 1) [
       | true ↦ λ e f. let same = eqb-true w.value v (and_parts (eqb w.class c) (eqb w.value v) e).1 in let low =
           leb-true w.value GREATEST_WORD
           (and_parts (nat_le LEAST_WORD w.value) (nat_le w.value GREATEST_WORD) q.0).1 in omega (arith, same, low)
       | false ↦ λ e f. value_low ws c v p.1 f
     ] refl h
 
-verb_low : (ws : List Word) (v : ℕ) → list_all is_word ws ≡ true → is_verb_value ws v ≡ true → v < 255
+verb_low : (ws : List Word) (v : ℕ) → list_all is_word ws ≡ true → is_verb_value ws v ≡ true → v < GREATEST_WORD + 1
 verb_low ws v all h =
     elim (has_word ws VERB_CLASS v) as
-    (λ b. has_word ws VERB_CLASS v ≡ b → (b || (ltb v FIRST_PLAIN_NOUN && has_word ws NOUN_CLASS v)) ≡ true → v < 255) [
+    (λ b. has_word ws VERB_CLASS v ≡ b → (b || (ltb v FIRST_PLAIN_NOUN && has_word ws NOUN_CLASS v)) ≡ true → v < GREATEST_WORD + 1) [
       | true ↦ λ e f. value_low ws VERB_CLASS v all e
       | false ↦ λ e f. value_low ws NOUN_CLASS v all (and_parts (ltb v FIRST_PLAIN_NOUN) (has_word ws NOUN_CLASS v) f).1
     ] refl h
 
 verbs_low : (ws : List Word) (locations : ℕ) (xs : List Exit) (q : ℕ) → list_all is_word ws ≡ true
-    → are_exits ws locations xs ≡ true → list_any (eqb q) (map (λ (x : Exit). x.verb) xs) ≡ true → q < 255
+    → are_exits ws locations xs ≡ true → list_any (eqb q) (map (λ (x : Exit). x.verb) xs) ≡ true → q < GREATEST_WORD + 1
 verbs_low ws locations [] q all kept h = absurd cc
 verbs_low ws locations (y ∷ ys) q all kept h =
     let p = and_parts (is_verb_value ws y.verb && (nat_lt y.to locations && not (shares y ys))) (are_exits ws locations ys) kept in
     let v = (and_parts (is_verb_value ws y.verb) (nat_lt y.to locations && not (shares y ys)) p.0).0 in
-    elim (eqb q y.verb) as (λ b. eqb q y.verb ≡ b → (b || list_any (eqb q) (map (λ (x : Exit). x.verb) ys)) ≡ true → q < 255) [
+    elim (eqb q y.verb) as (λ b. eqb q y.verb ≡ b → (b || list_any (eqb q) (map (λ (x : Exit). x.verb) ys)) ≡ true → q < GREATEST_WORD + 1) [
       | true ↦ λ e f. let same = eqb-true q y.verb e in let low = verb_low ws y.verb all v in omega (arith, same, low)
       | false ↦ λ e f. verbs_low ws locations ys q all p.1 f
     ] refl h
@@ -153,7 +153,7 @@ pub exits_few : (ws : List Word) (locations : ℕ) (xs : List Exit) → words_ar
     exits_are_valid ws locations xs ≡ true
 exits_few ws locations xs words kept =
     let all = (and_parts (list_all is_word ws) _ (and_parts (nat_le (length ws) WORD_LIMIT) _ words).1).0 in
-    let few = length-le_from_distinct_below (map (λ (x : Exit). x.verb) xs) 255 (verbs_distinct ws locations xs kept)
+    let few = length-le_from_distinct_below (map (λ (x : Exit). x.verb) xs) (GREATEST_WORD + 1) (verbs_distinct ws locations xs kept)
     (λ q h. verbs_low ws locations xs q all kept h) in
     let long = length-map xs (λ (x : Exit). x.verb) in
     both (nat_le (length xs) EXIT_LIMIT) (are_exits ws locations xs) (grind (arith, nat_tests, few, long)) kept

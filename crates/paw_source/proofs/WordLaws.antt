@@ -16,8 +16,9 @@ use Rattle.std.proofs.lemmas.Cmp.{nat_list_cmp_total}
 use Rattle.std.proofs.lemmas.Map.Text.{is_eq-slice_cmp}
 use Rattle.paw_base.specs.declared.fault.SourceKind.TheVariants as kind
 use Rattle.paw_base.specs.Condacts.{capitals}
-use Rattle.paw_base.specs.declared.limits.TheConstants.{WORD_LIMIT}
-use Rattle.paw_base.specs.declared.words.TheConstants.{VERB_CLASS, NOUN_CLASS, ANY_WORD, NO_WORD, FIRST_PLAIN_NOUN}
+use Rattle.paw_base.specs.declared.limits.TheConstants.{WORD_LENGTH, WORD_LIMIT}
+use Rattle.paw_base.specs.declared.words.TheConstants.{VERB_CLASS, NOUN_CLASS, PRONOUN_CLASS, ANY_WORD, NO_WORD}
+use Rattle.paw_base.specs.declared.words.TheConstants.{FIRST_PLAIN_NOUN}
 use Rattle.paw_game.specs.declared.parts.Word.{Word}
 use Rattle.paw_game.specs.Valid.{is_letter, is_filled, are_letters, is_word, words_rise, words_are_valid, has_word}
 use Rattle.paw_game.specs.Valid.{is_verb_value, is_word_or_none, is_wildcard}
@@ -52,11 +53,11 @@ letters_taken (suc i) (c ∷ cs) h =
     let p = and_parts (is_letter c) (list_all is_letter cs) h in
     rw p.0 (letters_taken i cs p.1)
 
-five_letters : (cs : List ℕ) → length (take 5 cs ++ replicate (5 - length cs) 32) ≡ 5
+five_letters : (cs : List ℕ) → length (take WORD_LENGTH cs ++ replicate (WORD_LENGTH - length cs) 32) ≡ WORD_LENGTH
 five_letters cs =
-    let a = length-append (take 5 cs) (replicate (5 - length cs) 32) in
-    let b = length-take 5 cs in
-    let c = length-replicate {A = ℕ} (5 - length cs) 32 in
+    let a = length-append (take WORD_LENGTH cs) (replicate (WORD_LENGTH - length cs) 32) in
+    let b = length-take WORD_LENGTH cs in
+    let c = length-replicate {A = ℕ} (WORD_LENGTH - length cs) 32 in
     omega (arith, a, b, c)
 
 upper_letter : (b : ℕ) → is_ascii_alphanumeric b ≡ true → is_letter (to_ascii_uppercase b) ≡ true
@@ -76,8 +77,9 @@ letters_kept (b ∷ bs) h =
     let first = upper_letter b p.0 in
     let five = five_letters (capitals (b ∷ bs)) in
     let long = length-map bs to_ascii_uppercase in
-    let tail = letters_filled (take 4 (capitals bs)) (5 - length (b ∷ bs)) (letters_taken 4 (capitals bs) (upper_letters bs p.1)) in
-    let same : length (letters_of (b ∷ bs)) ≡ 5 = ap (λ (n : ℕ). length (take 5 (capitals (b ∷ bs)) ++ replicate (5 - suc n) 32)) (sym long) ∙ five in
+    let tail = letters_filled (take 4 (capitals bs)) (WORD_LENGTH - length (b ∷ bs)) (letters_taken 4 (capitals bs) (upper_letters bs p.1)) in
+    let same : length (letters_of (b ∷ bs)) ≡ WORD_LENGTH =
+    ap (λ (n : ℕ). length (take WORD_LENGTH (capitals (b ∷ bs)) ++ replicate (WORD_LENGTH - suc n) 32)) (sym long) ∙ five in
     rw (same, first, tail) refl
 
 pub word_ok : (ts : List (List ℕ)) (x : List ℕ × List (List ℕ)) → word ts ≡ Ok x → are_letters x.0 ≡ true
@@ -88,7 +90,7 @@ word_ok ts x h =
       | false ↦ λ e f. absurd cc
     ] refl r.1
 
-pub class_ok : (ts : List (List ℕ)) (x : ℕ × List (List ℕ)) → class ts ≡ Ok x → nat_le x.0 6 ≡ true
+pub class_ok : (ts : List (List ℕ)) (x : ℕ × List (List ℕ)) → class ts ≡ Ok x → nat_le x.0 PRONOUN_CLASS ≡ true
 class_ok ts x h =
     let r = read_ok kind.Word (index_among class_names) ts x h in
     let within = (position-Some (is_named r.0) class_names x.0 [] r.1).0 in
