@@ -32,7 +32,7 @@ rows_at_most image rule most each (x ∷ xs) h =
 pub text_length : (text : List ℕ) → length (text_image text) ≡ 2 + length text
 text_length text = length-append (two_bytes (length text)) text
 
-text_most : (text : List ℕ) → is_text text ≡ true → length (text_image text) ≤ 4097
+text_most : (text : List ℕ) → is_text text ≡ true → length (text_image text) ≤ TEXT_LIMIT + 2
 text_most text h = omega (arith, text_length text, leb-true _ _ (and_parts (leb (length text) TEXT_LIMIT) _ h).0)
 
 pub word_length : (w : Word) → FitsWord w → length (word_image w) ≡ 7
@@ -44,7 +44,7 @@ word_most w h = omega (arith, word_length w (word_fits w h))
 pub object_length : (o : ObjectRow) → length (object_image o) ≡ length (text_image o.text) + 4
 object_length o = length-append (text_image o.text) _
 
-object_most : (ws : List Word) (locations : ℕ) (o : ObjectRow) → is_object ws locations o ≡ true → length (object_image o) ≤ 4101
+object_most : (ws : List Word) (locations : ℕ) (o : ObjectRow) → is_object ws locations o ≡ true → length (object_image o) ≤ TEXT_LIMIT + 6
 object_most ws locations o h = omega (arith, object_length o, text_most o.text (and_parts (is_text o.text) _ h).0)
 
 all_true : {A : Type 0} (xs : List A) → list_all (λ _. true) xs ≡ true
@@ -122,13 +122,13 @@ image_short g v =
       leb-true _ _ parts.words_few,
       rows_at_most word_image is_word 7 word_most g.words parts.words_keep,
       leb-true _ _ parts.system_few,
-      rows_at_most text_image is_text 4097 text_most g.system parts.system_keep,
+      rows_at_most text_image is_text (TEXT_LIMIT + 2) text_most g.system parts.system_keep,
       leb-true _ _ parts.messages_few,
-      rows_at_most text_image is_text 4097 text_most g.messages parts.messages_keep,
+      rows_at_most text_image is_text (TEXT_LIMIT + 2) text_most g.messages parts.messages_keep,
       leb-true _ _ parts.objects_few,
-      rows_at_most object_image (is_object g.words locations) 4101 (object_most g.words locations) g.objects parts.objects_keep,
+      rows_at_most object_image (is_object g.words locations) (TEXT_LIMIT + 6) (object_most g.words locations) g.objects parts.objects_keep,
       leb-true _ _ parts.locations_few,
-      rows_at_most text_image is_text 4097 text_most g.locations parts.locations_keep,
+      rows_at_most text_image is_text (TEXT_LIMIT + 2) text_most g.locations parts.locations_keep,
       parts.exits_many,
       rows_at_most exits_image (exits_are_valid g.words locations) 511 (exits_most g.words locations) g.exits parts.exits_keep,
       tables_few g parts,

@@ -11,6 +11,7 @@ use Rattle.std.proofs.lemmas.List.Elements.{All-cons, All-contains}
 use Rattle.std.proofs.lemmas.List.Sorted.{Contains-permutation, IsPermutation-sym}
 use Rattle.std.proofs.lemmas.Option.{none-some, same_Some, slice_get_within, get_or_from_slice_get, slice_get-get_or}
 use Rattle.paw_base.specs.declared.limits.TheConstants.{ENTRY_LIMIT}
+use Rattle.paw_base.specs.declared.words.TheConstants.{ANY_WORD, NO_WORD}
 use Rattle.paw_game.specs.declared.parts.Entry.{Entry}
 use Rattle.paw_game.specs.Image.{entry_image}
 use Rattle.paw_game.specs.Tables.{is_for, matches}
@@ -33,19 +34,19 @@ kept_small word small =
       | inr plain ↦ rw plain small
     ]
 
-kept_is_for_other : (word flag : ℕ) → eqb word 1 ≡ false → is_kept_for (kept_word word) flag ≡ is_for word flag
+kept_is_for_other : (word flag : ℕ) → eqb word ANY_WORD ≡ false → is_kept_for (kept_word word) flag ≡ is_for word flag
 kept_is_for_other word flag other =
-    elim (cases_eq word 255) [
+    elim (cases_eq word NO_WORD) [
       | inl none ↦ rw none refl
-      | inr plain ↦ let differs = ne_eqb word 255 plain in rw (other, differs, differs) refl
+      | inr plain ↦ let differs = ne_eqb word NO_WORD plain in rw (other, differs, differs) refl
     ]
 
 -- A word that was kept matches where the word itself does.
 kept_is_for : (word flag : ℕ) → is_kept_for (kept_word word) flag ≡ is_for word flag
 kept_is_for word flag =
-    elim (cases_eq word 1) [
+    elim (cases_eq word ANY_WORD) [
       | inl any ↦ rw any refl
-      | inr other ↦ kept_is_for_other word flag (ne_eqb word 1 other)
+      | inr other ↦ kept_is_for_other word flag (ne_eqb word ANY_WORD other)
     ]
 
 -- ---- ranks ----

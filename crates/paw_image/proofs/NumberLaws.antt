@@ -11,6 +11,7 @@ use Rattle.std.specs.Cmp.{nat_cmp_is, ranked}
 use Rattle.std.specs.Cmp.Lexicographic.{slice_cmp}
 use Rattle.std.proofs.lemmas.List.{drop-map, take-map, get_or-map, length-map, map_more, take_all}
 use Rattle.std.proofs.lemmas.List.Elements.{All-drop, All-push, All-take}
+use Rattle.paw_base.specs.declared.limits.TheConstants.{WORD_LENGTH}
 use Rattle.paw_game.specs.declared.parts.Word.{Word}
 use Rattle.paw_game.proofs.Search.{compared}
 use Rattle.paw_image.specs.inner.Images.{EachIsByte}
@@ -52,7 +53,7 @@ letters_in_order : (a b : List ℕ) → AreFiveBytes a → AreFiveBytes b → sl
 letters_in_order a b h k = in_order a b 0 (h.five ∙ sym k.five) h.bytes k.bytes
 
 -- The number of five letters, as the code writes it.
-pub five_written : (letters : List ℕ) → length letters ≡ 5
+pub five_written : (letters : List ℕ) → length letters ≡ WORD_LENGTH
     → from_be_bytes w64 (0 ∷ 0 ∷ 0 ∷ get_or letters 0 0 ∷ get_or letters 1 0 ∷ get_or letters 2 0 ∷ get_or letters 3 0 ∷ get_or letters 4 0 ∷ [])
     ≡ letters_as_number letters
 five_written [] long = absurd (omega arith)

@@ -11,6 +11,7 @@ use Rattle.paw_base.specs.declared.rows.ParamKind.{ParamKind}
 use Rattle.paw_base.specs.declared.rows.ParamKind.TheVariants as kind
 use Rattle.paw_base.specs.Condacts.{is_code, first_kind, second_kind}
 use Rattle.paw_base.specs.declared.limits.TheConstants.{TEXT_LIMIT, EXIT_LIMIT, ENTRY_LIMIT, CONDACT_LIMIT}
+use Rattle.paw_base.specs.declared.limits.TheConstants.{WEIGHT_LIMIT}
 use Rattle.paw_base.specs.declared.words.TheConstants.{NOUN_CLASS, ADJECTIVE_CLASS}
 use Rattle.paw_game.specs.declared.parts.Exit.{Exit}
 use Rattle.paw_game.specs.declared.parts.Entry.{Entry}
@@ -59,8 +60,8 @@ text_sound bytes rest fits e =
 
 -- ---- objects ----
 
-light : (w : ℕ) → leb (bit_and w 63) 63 ≡ true
-light w = le-leb (bit_and w 63) 63 (rw (and_mask w 6) (omega arith))
+light : (w : ℕ) → leb (bit_and w 63) WEIGHT_LIMIT ≡ true
+light w = le-leb (bit_and w 63) WEIGHT_LIMIT (rw (and_mask w 6) (omega arith))
 
 facts_sound : (d : ImagePreface) → SoundRow (after_facts d) leading_facts (facts_are_valid d.words d.counts.locations)
 unfolding after_facts leading_facts

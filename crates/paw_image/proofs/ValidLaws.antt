@@ -6,9 +6,9 @@ use Rattle.paw_base.specs.declared.parts.Condact.{Condact}
 use Rattle.paw_base.specs.declared.rows.ParamKind.{ParamKind}
 use Rattle.paw_base.specs.declared.rows.ParamKind.TheVariants as kind
 use Rattle.paw_base.specs.Condacts.{is_code, first_kind, second_kind}
-use Rattle.paw_base.specs.declared.limits.TheConstants.{WORD_LIMIT, SYSTEM_LIMIT, MESSAGE_LIMIT, OBJECT_LIMIT}
-use Rattle.paw_base.specs.declared.limits.TheConstants.{LOCATION_LEAST, LOCATION_LIMIT, TABLE_LEAST, TABLE_LIMIT}
-use Rattle.paw_base.specs.declared.limits.TheConstants.{TEXT_LIMIT, EXIT_LIMIT, ENTRY_LIMIT, CONDACT_LIMIT}
+use Rattle.paw_base.specs.declared.limits.TheConstants.{WORD_LENGTH, WORD_LIMIT, SYSTEM_LIMIT, MESSAGE_LIMIT}
+use Rattle.paw_base.specs.declared.limits.TheConstants.{OBJECT_LIMIT, LOCATION_LEAST, LOCATION_LIMIT, TABLE_LEAST}
+use Rattle.paw_base.specs.declared.limits.TheConstants.{TABLE_LIMIT, TEXT_LIMIT, EXIT_LIMIT, ENTRY_LIMIT, CONDACT_LIMIT}
 use Rattle.paw_base.specs.declared.limits.TheConstants.{WEIGHT_LIMIT}
 use Rattle.paw_base.specs.declared.words.TheConstants.{NOUN_CLASS, ADJECTIVE_CLASS}
 use Rattle.paw_game.specs.declared.parts.Word.{Word}
@@ -29,9 +29,9 @@ all_give : {A : Type 0} (p : A → Bool) (P : A → Type 0) → ((x : A) → p x
 all_give p P gives [] e = tt
 all_give p P gives (x ∷ xs) e = let both = and_parts (p x) (list_all p xs) e in (gives x both.0, all_give p P gives xs both.1)
 
-pub letters_fit : (letters : List ℕ) → are_letters letters ≡ true → length letters ≡ 5
+pub letters_fit : (letters : List ℕ) → are_letters letters ≡ true → length letters ≡ WORD_LENGTH
 letters_fit [] e = absurd cc
-letters_fit (c ∷ cs) e = eqb-true _ _ (and_parts (eqb (length (c ∷ cs)) 5) _ e).0
+letters_fit (c ∷ cs) e = eqb-true _ _ (and_parts (eqb (length (c ∷ cs)) WORD_LENGTH) _ e).0
 
 pub word_fits : (w : Word) → is_word w ≡ true → FitsWord w
 word_fits w e = letters_fit w.letters (and_parts (are_letters w.letters) _ e).0
