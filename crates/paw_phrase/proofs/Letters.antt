@@ -5,6 +5,7 @@ use Rattle.std.proofs.Common.{arith, length-append, append_assoc, add-one}
 use Rattle.std.specs.Char.{to_ascii_uppercase}
 use Rattle.std.proofs.Math.Seq.{take-suc}
 use Rattle.std.proofs.lemmas.List.{length-take-le, length-map, map-append, take_all, take-append-le, set_at}
+use Rattle.paw_base.specs.declared.limits.TheConstants.{WORD_LENGTH}
 use Rattle.paw_phrase.specs.Phrase.{five_letters}
 
 -- The first n bytes, with small letters read as capitals.
@@ -22,22 +23,23 @@ letter_at : (run filling : List ℕ) (letter x : ℕ) → (run ++ letter ∷ [])
 letter_at run filling letter x = append_assoc run (letter ∷ []) filling ∙ sym (set_at run x filling letter (length run) refl)
 
 -- A letter among the first five is kept.
-five_letters-kept : (run : List ℕ) (letter : ℕ) → length run < 5 → five_letters (run ++ letter ∷ []) ≡ set (five_letters run) (length run) letter
+five_letters-kept : (run : List ℕ) (letter : ℕ) → length run < WORD_LENGTH → five_letters (run ++ letter ∷ []) ≡ set (five_letters run) (length run) letter
 five_letters-kept run letter h =
-    let whole : take 5 (run ++ letter ∷ []) ≡ run ++ letter ∷ [] = take_all 5 (run ++ letter ∷ []) (omega (arith, length-append run (letter ∷ []))) in
-    let short : take 5 run ≡ run = take_all 5 run (omega arith) in
-    let spaces : 5 - length run ≡ suc (4 - length run) = omega arith in
-    let fewer : 5 - length (run ++ letter ∷ []) ≡ 4 - length run = omega (arith, length-append run (letter ∷ [])) in
+    let whole : take WORD_LENGTH (run ++ letter ∷ []) ≡ run ++ letter ∷ [] =
+    take_all WORD_LENGTH (run ++ letter ∷ []) (omega (arith, length-append run (letter ∷ []))) in
+    let short : take WORD_LENGTH run ≡ run = take_all WORD_LENGTH run (omega arith) in
+    let spaces : WORD_LENGTH - length run ≡ suc (4 - length run) = omega arith in
+    let fewer : WORD_LENGTH - length (run ++ letter ∷ []) ≡ 4 - length run = omega (arith, length-append run (letter ∷ [])) in
     rw (whole, fewer, short, spaces) (letter_at run (replicate (4 - length run) 32) letter 32)
 
 -- Any other letter is not.
-five_letters-cut : (run : List ℕ) (letter : ℕ) → 5 ≤ length run → five_letters (run ++ letter ∷ []) ≡ five_letters run
+five_letters-cut : (run : List ℕ) (letter : ℕ) → WORD_LENGTH ≤ length run → five_letters (run ++ letter ∷ []) ≡ five_letters run
 five_letters-cut run letter h =
-    let cut : take 5 (run ++ letter ∷ []) ≡ take 5 run = take-append-le 5 run (letter ∷ []) h in
-    let none : 5 - length (run ++ letter ∷ []) ≡ 5 - length run = omega (arith, length-append run (letter ∷ [])) in
+    let cut : take WORD_LENGTH (run ++ letter ∷ []) ≡ take WORD_LENGTH run = take-append-le WORD_LENGTH run (letter ∷ []) h in
+    let none : WORD_LENGTH - length (run ++ letter ∷ []) ≡ WORD_LENGTH - length run = omega (arith, length-append run (letter ∷ [])) in
     rw (cut, none) refl
 
-pub letter_kept : (bytes : List ℕ) (n : ℕ) → n < length bytes → n < 5
+pub letter_kept : (bytes : List ℕ) (n : ℕ) → n < length bytes → n < WORD_LENGTH
     → set (five_letters (letters_of n bytes)) n (to_ascii_uppercase (get_or bytes n 0)) ≡ five_letters (letters_of (n + 1) bytes)
 letter_kept bytes n h five =
     let run = letters_of n bytes in
@@ -46,7 +48,7 @@ letter_kept bytes n h five =
     let kept : five_letters (run ++ letter ∷ []) ≡ set (five_letters run) (length run) letter = five_letters-kept run letter (omega arith) in
     rw add-one (sym (ap five_letters (letters_of-suc n bytes h) ∙ kept ∙ ap (λ k. set (five_letters run) k letter) long))
 
-pub letter_cut : (bytes : List ℕ) (n : ℕ) → n < length bytes → 5 ≤ n → five_letters (letters_of n bytes) ≡ five_letters (letters_of (n + 1) bytes)
+pub letter_cut : (bytes : List ℕ) (n : ℕ) → n < length bytes → WORD_LENGTH ≤ n → five_letters (letters_of n bytes) ≡ five_letters (letters_of (n + 1) bytes)
 letter_cut bytes n h five =
     let run = letters_of n bytes in
     let letter = to_ascii_uppercase (get_or bytes n 0) in

@@ -6,7 +6,8 @@ use Rattle.std.specs.Option.{option_map, option_map_or}
 use Rattle.std.specs.Str.{bytes_eq}
 use Rattle.std.proofs.lemmas.Bool.{and_parts, leb-true}
 use Rattle.paw_base.specs.declared.limits.TheConstants.{WORD_LIMIT}
-use Rattle.paw_base.specs.declared.words.TheConstants.{LEAST_WORD, GREATEST_WORD, PRONOUN_CLASS}
+use Rattle.paw_base.specs.declared.words.TheConstants.{ADJECTIVE_CLASS, PREPOSITION_CLASS, PRONOUN_CLASS, NO_WORD}
+use Rattle.paw_base.specs.declared.words.TheConstants.{LEAST_WORD, GREATEST_WORD, FIRST_PLAIN_NOUN}
 use Rattle.paw_game.specs.declared.parts.Word.{Word}
 use Rattle.paw_game.specs.Game.{GameLists}
 use Rattle.paw_game.specs.Valid.{are_letters, is_within, is_word, words_rise, Valid}
@@ -34,7 +35,7 @@ either P true s t h k = h
 either P false s t h k = k
 
 or_value-byte : (old value : ℕ) → old < 256 → value < 256 → or_value old value < 256
-or_value-byte old value h k = elim (eqb old 255) as (λ b. cond b value old < 256) [ true ↦ k | false ↦ h ]
+or_value-byte old value h k = elim (eqb old NO_WORD) as (λ b. cond b value old < 256) [ true ↦ k | false ↦ h ]
 
 blank-bytes : (n a : ℕ) → n < 256 → a < 256 → AreBytes (blank n a)
 blank-bytes n a h k = record {
@@ -78,14 +79,15 @@ with_word-bytes v class s h k =
     let verb : AreBytes (record s { verb = or_value s.verb v }) = assumption in
     let adverb : AreBytes (record s { adverb = or_value s.adverb v }) = assumption in
     let preposition : AreBytes (record s { preposition = or_value s.preposition v }) = assumption in
-    let pronoun = either AreBytes (eqb class 6) (with_pronoun s) s (with_pronoun-bytes s k) k in
-    let others = either AreBytes (eqb class 3) _ _ (with_adjective-bytes v s h k) (either AreBytes (eqb class 4) _ _ preposition pronoun) in
+    let pronoun = either AreBytes (eqb class PRONOUN_CLASS) (with_pronoun s) s (with_pronoun-bytes s k) k in
+    let others = either AreBytes (eqb class ADJECTIVE_CLASS) _ _ (with_adjective-bytes v s h k)
+    (either AreBytes (eqb class PREPOSITION_CLASS) _ _ preposition pronoun) in
     either AreBytes _ _ _ verb (either AreBytes _ _ _ adverb (either AreBytes _ _ _ (with_noun-bytes v s h k) others))
 
 with_verb-bytes : (e : ℕ) (s : Sentence) → e < 256 → AreBytes s → AreBytes (with_verb e s)
 with_verb-bytes e s h k =
     let stands_for : (b : Bool) → cond b s.noun e < 256 = λ b. elim b as (λ b. cond b s.noun e < 256) [ true ↦ k.noun | false ↦ h ] in
-    let kept = or_value-byte s.verb _ k.verb (stands_for (ltb s.noun 20)) in
+    let kept = or_value-byte s.verb _ k.verb (stands_for (ltb s.noun FIRST_PLAIN_NOUN)) in
     assumption
 
 with_meaning-bytes : (s : Sentence) → AreBytes s → AreBytes (with_new_pronoun s)
