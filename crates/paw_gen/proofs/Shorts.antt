@@ -43,12 +43,12 @@ word_short w h =
     let five : length w.letters ≡ WORD_LENGTH = letters_five w.letters kept.0 in
     le_true (length (word_image w)) 7 (omega (arith, five, length-append w.letters (w.value ∷ w.class ∷ [])))
 
-text_short : (bytes : List ℕ) → is_text bytes ≡ true → length (text_image bytes) ≤ 4097
+text_short : (bytes : List ℕ) → is_text bytes ≡ true → length (text_image bytes) ≤ TEXT_LIMIT + 2
 text_short bytes h =
     let few : length bytes ≤ TEXT_LIMIT = le_from (length bytes) TEXT_LIMIT (and_parts (nat_le (length bytes) TEXT_LIMIT) (is_printed true bytes) h).0 in
     omega (arith, few, length-append (two_bytes (length bytes)) bytes)
 
-object_short : (o : ObjectRow) → is_text o.text ≡ true → length (object_image o) ≤ 4101
+object_short : (o : ObjectRow) → is_text o.text ≡ true → length (object_image o) ≤ TEXT_LIMIT + 6
 object_short o h =
     omega (
       arith,
@@ -75,8 +75,10 @@ all_words_short (w ∷ ws) h =
 
 -- The parts together, for at most 109 objects and 219 locations.
 limited : (all head words system none objects locations exits tables things places : ℕ)
-    → all ≡ head + words + system + none + objects + locations + exits + tables → head ≡ 17 → words ≤ 7 * (8 + things) → system ≤ 4097 * 54 → none ≡ 0
-    → objects ≤ 4101 * things → locations ≤ 4097 * places → exits ≤ 5 * places → tables ≡ 39 → things ≤ 109 → places ≤ 219 → all ≤ IMAGE_LIMIT
+    → all ≡ head + words + system + none + objects + locations + exits + tables → head ≡ 17 → words ≤ 7 * (8 + things)
+    → system ≤ (TEXT_LIMIT + 2) * 54 → none ≡ 0
+    → objects ≤ (TEXT_LIMIT + 6) * things → locations ≤ (TEXT_LIMIT + 2) * places → exits ≤ 5 * places → tables ≡ 39
+    → things ≤ 109 → places ≤ 219 → all ≤ IMAGE_LIMIT
 limited all head words system none objects locations exits tables things places a b c d e f g h i j k = omega arith
 
 -- Rows of which each is that short.
@@ -106,8 +108,8 @@ parts_size g =
 
 -- A game whose parts have at most these numbers of bytes.
 limited_game : (g : GameLists) (things places : ℕ) → length (flat_map word_image g.words) ≤ 7 * (8 + things)
-    → length (flat_map text_image g.system) ≤ 4097 * 54 → length (flat_map text_image g.messages) ≡ 0
-    → length (flat_map object_image g.objects) ≤ 4101 * things → length (flat_map text_image g.locations) ≤ 4097 * places
+    → length (flat_map text_image g.system) ≤ (TEXT_LIMIT + 2) * 54 → length (flat_map text_image g.messages) ≡ 0
+    → length (flat_map object_image g.objects) ≤ (TEXT_LIMIT + 6) * things → length (flat_map text_image g.locations) ≤ (TEXT_LIMIT + 2) * places
     → length (flat_map exits_image g.exits) ≤ 5 * places → length (flat_map table_image g.tables) ≡ 39
     → things ≤ 109 → places ≤ 219 → length (image g) ≤ IMAGE_LIMIT
 limited_game g things places words system none objects locations exits tables few fewer =
@@ -120,13 +122,13 @@ pub trial_short : (n : ℕ) → length (image (trial_game n)) ≤ IMAGE_LIMIT
 unfolding trial_game
 trial_short n =
     let words : length (flat_map word_image (words_of n)) ≤ 7 * (8 + object_count n) = words_short n in
-    let system : length (flat_map text_image (rows 54 system_text)) ≤ 4097 * 54 =
-    rows_short text_image system_text 4097 54 (λ k low. text_short (system_text k) (all_at is_text system_text 54 k system_texts low)) in
-    let objects : length (flat_map object_image (rows (object_count n) (trial_object (location_count n)))) ≤ 4101 * object_count n =
-    rows_short object_image (trial_object (location_count n)) 4101 (object_count n)
+    let system : length (flat_map text_image (rows 54 system_text)) ≤ (TEXT_LIMIT + 2) * 54 =
+    rows_short text_image system_text (TEXT_LIMIT + 2) 54 (λ k low. text_short (system_text k) (all_at is_text system_text 54 k system_texts low)) in
+    let objects : length (flat_map object_image (rows (object_count n) (trial_object (location_count n)))) ≤ (TEXT_LIMIT + 6) * object_count n =
+    rows_short object_image (trial_object (location_count n)) (TEXT_LIMIT + 6) (object_count n)
     (λ k low. object_short (trial_object (location_count n) k) (all_at is_text trial_object_text 109 k object_texts (omega (arith, low)))) in
-    let locations : length (flat_map text_image (rows (location_count n) trial_location_text)) ≤ 4097 * location_count n =
-    rows_short text_image trial_location_text 4097 (location_count n)
+    let locations : length (flat_map text_image (rows (location_count n) trial_location_text)) ≤ (TEXT_LIMIT + 2) * location_count n =
+    rows_short text_image trial_location_text (TEXT_LIMIT + 2) (location_count n)
     (λ k low. text_short (trial_location_text k) (all_at is_text trial_location_text 219 k location_texts (omega (arith, low)))) in
     let exits : length (flat_map exits_image (rows (location_count n) (ring_exits (location_count n)))) ≤ 5 * location_count n =
     rows_short exits_image (ring_exits (location_count n)) 5 (location_count n) (λ k low. omega arith) in
