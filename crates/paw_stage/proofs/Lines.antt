@@ -12,7 +12,7 @@ take_cut line n e = elim (below_or (length line)) [
   | inr high ↦ let all : n ≡ LINE_LIMIT = omega arith in ap (λ k. take k line) all
 ]
   where
-    below_or : (k : ℕ) → (k ≤ 255) ⊎ (255 ≤ k)
+    below_or : (k : ℕ) → (k ≤ LINE_LIMIT) ⊎ (LINE_LIMIT ≤ k)
     below_or k = grind arith
 
 pub is_cut : (line bytes rest : List ℕ) (n : ℕ) → n ≡ min (length line) LINE_LIMIT → bytes ≡ take n line
