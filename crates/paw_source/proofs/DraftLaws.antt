@@ -8,8 +8,8 @@ use Rattle.std.proofs.lemmas.Bool.{eqb-false}
 use Rattle.std.proofs.lemmas.Bool.Decides.{nat_tests}
 use Rattle.std.proofs.lemmas.List.{length-append, length-set, length-replicate}
 use Rattle.std.proofs.lemmas.List.Folds.{list_all-append}
-use Rattle.paw_base.specs.declared.limits.TheConstants.{SYSTEM_LIMIT, MESSAGE_LIMIT, OBJECT_LIMIT, LOCATION_LIMIT}
-use Rattle.paw_base.specs.declared.limits.TheConstants.{TABLE_LIMIT}
+use Rattle.paw_base.specs.declared.limits.TheConstants.{SYSTEM_LIMIT, MESSAGE_LIMIT, OBJECT_LIMIT, LOCATION_LEAST}
+use Rattle.paw_base.specs.declared.limits.TheConstants.{LOCATION_LIMIT, TABLE_LIMIT}
 use Rattle.paw_base.specs.declared.fault.SourceKind.{SourceKind}
 use Rattle.paw_base.specs.declared.fault.SourceKind.TheVariants as kind
 use Rattle.paw_base.specs.declared.parts.ObjectFacts.{ObjectFacts}
@@ -60,20 +60,20 @@ NoRows d = AreNone d.exits d.facts d.tables
 pub record BeforeObjects (ls : List (List ℕ)) (fs : List ObjectFacts) (ts : List (List Entry)) : Type 0 where
   pub facts : fs ≡ []
   pub tables : ts ≡ []
-  pub locations : 1 ≤ length ls
+  pub locations : LOCATION_LEAST ≤ length ls
 
 abbrev pub AtExits : Spelt → Type 0
 AtExits d = BeforeObjects d.locations d.facts d.tables
 
 pub record BeforeTables (ls : List (List ℕ)) (ts : List (List Entry)) : Type 0 where
   pub tables : ts ≡ []
-  pub locations : 1 ≤ length ls
+  pub locations : LOCATION_LEAST ≤ length ls
 
 abbrev pub AtObjects : Spelt → Type 0
 AtObjects d = BeforeTables d.locations d.tables
 
 pub record WithRows (ns ls : List (List ℕ)) (fs : List ObjectFacts) : Type 0 where
-  pub locations : 1 ≤ length ls
+  pub locations : LOCATION_LEAST ≤ length ls
   pub rows : length ns ≤ length fs
 
 abbrev pub AtTables : Spelt → Type 0
@@ -292,7 +292,7 @@ con_keeps p d e ts k none h =
 
 -- What a section has to bring for a table to begin.
 pub record Ready (d : Spelt) : Type 0 where
-  pub locations : 1 ≤ length d.locations
+  pub locations : LOCATION_LEAST ≤ length d.locations
   pub rows : lacks_rows d ≡ false → length d.names ≤ length d.facts
 
 pro_keeps : (p : ℕ) (d e : Spelt) (ts : List (List ℕ)) → Keeps p d → Ready d → pro_header d ts ≡ Ok e → Keeps p e
