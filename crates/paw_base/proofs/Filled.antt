@@ -10,6 +10,7 @@ use Rattle.std.proofs.lemmas.List.{map-append, drop-replicate}
 use Rattle.std.proofs.Math.ListN.{length-map}
 use Rattle.std.proofs.Math.Numerals.{one-add}
 use Rattle.std.proofs.Math.Seq.{take-append_seam}
+use Rattle.paw_base.specs.Bytes.{Name}
 use Rattle.paw_base.specs.Condacts.{capitals}
 use Rattle.paw_base.specs.inner.Condacts.{filled_up, before_space, is_plain}
 
@@ -21,7 +22,7 @@ split_plain true true h = cc
 split_plain true false h = refl
 split_plain false spaced h = cc
 
-pub has_space-plain : (name : List ℕ) → is_plain name ≡ true → has_space name ≡ false
+pub has_space-plain : (name : Name) → is_plain name ≡ true → has_space name ≡ false
 has_space-plain name h = split_plain (nat_le (length name) 8) (has_space name) h
 
 -- ---- a name is what stands before the first space
@@ -34,13 +35,13 @@ prefix_len-spaces : (n : ℕ) → prefix_len (λ byte. not (byte == 32)) (replic
 prefix_len-spaces zero = refl
 prefix_len-spaces (suc n) = refl
 
-prefix_len-filled : (name : List ℕ) (n : ℕ) → has_space name ≡ false → prefix_len (λ byte. not (byte == 32)) (name ++ replicate n 32) ≡ length name
+prefix_len-filled : (name : Name) (n : ℕ) → has_space name ≡ false → prefix_len (λ byte. not (byte == 32)) (name ++ replicate n 32) ≡ length name
 prefix_len-filled [] n h = prefix_len-spaces n
 prefix_len-filled (x ∷ xs) n h =
     let two = neither (x == 32) (has_space xs) h in
     rw (two.0, prefix_len-filled xs n two.1, one-add (length xs)) refl
 
-pub before_space-filled_up : (name : List ℕ) → has_space name ≡ false → before_space (filled_up name) ≡ name
+pub before_space-filled_up : (name : Name) → has_space name ≡ false → before_space (filled_up name) ≡ name
 before_space-filled_up name h =
     rw (prefix_len-filled name (8 - length name) h) (take-append_seam name (replicate (8 - length name) 32))
 
@@ -58,18 +59,18 @@ bytes_eq-filled_up a b ha hb =
 capital_is_space : (x : ℕ) → (to_ascii_uppercase x == 32) ≡ (x == 32)
 capital_is_space x = grind (arith, nat_tests)
 
-has_space-capitals : (name : List ℕ) → has_space (capitals name) ≡ has_space name
+has_space-capitals : (name : Name) → has_space (capitals name) ≡ has_space name
 has_space-capitals [] = refl
 has_space-capitals (x ∷ xs) = rw (capital_is_space x, has_space-capitals xs) refl
 
-pub is_plain-capitals : (name : List ℕ) → is_plain (capitals name) ≡ is_plain name
+pub is_plain-capitals : (name : Name) → is_plain (capitals name) ≡ is_plain name
 is_plain-capitals name = rw (length-map name to_ascii_uppercase, has_space-capitals name) refl
 
 capitals-spaces : (n : ℕ) → capitals (replicate n 32) ≡ replicate n 32
 capitals-spaces zero = refl
 capitals-spaces (suc n) = ap (λ xs. 32 ∷ xs) (capitals-spaces n)
 
-pub capitals-filled_up : (name : List ℕ) → capitals (name ++ drop (length name) (replicate 8 32)) ≡ filled_up (capitals name)
+pub capitals-filled_up : (name : Name) → capitals (name ++ drop (length name) (replicate 8 32)) ≡ filled_up (capitals name)
 capitals-filled_up name =
     rw (
       drop-replicate {X = ℕ} (length name) 8 32,
@@ -80,7 +81,7 @@ capitals-filled_up name =
 
 -- ---- as the code does it
 
-pub is_plain_from : (name : List ℕ) → length name ≤ 8 → has_space name ≡ false → is_plain name ≡ true
+pub is_plain_from : (name : Name) → length name ≤ 8 → has_space name ≡ false → is_plain name ≡ true
 is_plain_from name short none = grind (arith, nat_tests)
 
 pub filled_in_code : (name copied filled : List ℕ) → copied ≡ name

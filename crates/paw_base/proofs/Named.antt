@@ -7,6 +7,7 @@ use Rattle.std.proofs.lemmas.Bool.Decides.{Decides-eqb}
 use Rattle.std.proofs.lemmas.Slice.Eq.{bytes_eq-Decides}
 use Rattle.std.proofs.lemmas.List.Quantifiers.{position-Some}
 use Rattle.std.proofs.Math.ListN.{length-map}
+use Rattle.paw_base.specs.Bytes.{Name}
 use Rattle.paw_base.proofs.Filled.{has_space, has_space-plain, bytes_eq-filled_up, is_plain-capitals}
 use Rattle.paw_base.proofs.Table.{held, CONDACTS_are, length-condact_lines, within_code, below, each_plain, plain_is}
 use Rattle.paw_base.proofs.Table.{line_plain, is_plain-name_of, HasName-name_of}
@@ -35,13 +36,13 @@ code_with-name_of : (code : ℕ) → IsPlainCode code → code_with (name_of cod
 unfolding is_own
 code_with-name_of code h = own_from (code_with (name_of code)) code (each_plain is_own own_names code h)
 
-pub code_named_only : (code : ℕ) (name : List ℕ) → HasName code name → code_named name ≡ Some code
+pub code_named_only : (code : ℕ) (name : Name) → HasName code name → code_named name ≡ Some code
 code_named_only code name h = ap code_with (sym h.1) ∙ code_with-name_of code h.0
 
 pub code_named-name_of : (code : ℕ) → IsPlainCode code → code_named (name_of code) ≡ Some code
 code_named-name_of code h = code_named_only code (name_of code) (HasName-name_of code h)
 
-pub code_named_found : (name : List ℕ) (code : ℕ) → code_named name ≡ Some code → HasName code name
+pub code_named_found : (name : Name) (code : ℕ) → code_named name ≡ Some code → HasName code name
 unfolding plain_line
 code_named_found name code e =
     let p = position-Some (λ line. bytes_eq line.name (capitals name)) condact_lines code no_line e in
@@ -61,7 +62,7 @@ condact_lines_plain : plain_lines condact_lines ≡ true
 unfolding condact_lines plain_lines
 condact_lines_plain = refl
 
-prefix_len-held : (name : List ℕ) (lines : List CondactLine) → has_space name ≡ false → plain_lines lines ≡ true
+prefix_len-held : (name : Name) (lines : List CondactLine) → has_space name ≡ false → plain_lines lines ≡ true
     → prefix_len (λ row. not (bytes_eq row.0 (filled_up name))) (map held lines) ≡ prefix_len (λ line. not (bytes_eq line.name name)) lines
 unfolding plain_lines
 prefix_len-held name [] h all = refl
@@ -69,7 +70,7 @@ prefix_len-held name (line ∷ lines) h all =
     let two = both (is_plain line.name) (plain_lines lines) all in
     rw (bytes_eq-filled_up line.name name (has_space-plain line.name two.0) h, prefix_len-held name lines h two.1) refl
 
-pub code_of_filled_up : (name : List ℕ) → is_plain name ≡ true → position (λ row. bytes_eq row.0 (filled_up (capitals name))) CONDACTS ≡ code_named name
+pub code_of_filled_up : (name : Name) → is_plain name ≡ true → position (λ row. bytes_eq row.0 (filled_up (capitals name))) CONDACTS ≡ code_named name
 code_of_filled_up name h =
     let none = has_space-plain (capitals name) (is_plain-capitals name ∙ h) in
     ap (λ rows. position (λ row. bytes_eq row.0 (filled_up (capitals name))) rows) CONDACTS_are
@@ -79,12 +80,12 @@ none_unless : (found : Option ℕ) → ((code : ℕ) → found ≡ Some code →
 none_unless None h = refl
 none_unless (Some code) h = absurd (h code refl)
 
-has_no_code : (name : List ℕ) → is_plain name ≡ false → (code : ℕ) → code_named name ≡ Some code → ⊥
+has_no_code : (name : Name) → is_plain name ≡ false → (code : ℕ) → code_named name ≡ Some code → ⊥
 has_no_code name h code e =
     let has = code_named_found name code e in
     let plain : is_plain (capitals name) ≡ true = subst (λ (s : List ℕ). is_plain s ≡ true) has.1 (is_plain-name_of code (plain_is code has.0)) in
     let capital = is_plain-capitals name in
     cc
 
-pub no_code : (name : List ℕ) → is_plain name ≡ false → code_named name ≡ None
+pub no_code : (name : Name) → is_plain name ≡ false → code_named name ≡ None
 no_code name h = none_unless (code_named name) (has_no_code name h)

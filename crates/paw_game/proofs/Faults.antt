@@ -8,6 +8,7 @@ use Rattle.std.specs.Ordering.{is_lt, nat_cmp}
 use Rattle.std.specs.Cmp.Lexicographic.{slice_cmp}
 use Rattle.std.proofs.lemmas.Bool.{cases_Bool, and_parts, false≢true, leb-true}
 use Rattle.std.proofs.lemmas.Bool.Decides.{nat_tests}
+use Rattle.paw_base.specs.Bytes.{Letters}
 use Rattle.paw_base.specs.declared.limits.TheConstants.{WORD_LIMIT, SYSTEM_LIMIT, MESSAGE_LIMIT, OBJECT_LIMIT}
 use Rattle.paw_base.specs.declared.limits.TheConstants.{LOCATION_LEAST, LOCATION_LIMIT, TABLE_LEAST, TABLE_LIMIT}
 use Rattle.paw_game.specs.declared.parts.Word.{Word}
@@ -76,7 +77,7 @@ unfolding rise_after
 rise_after-is w [] = refl
 rise_after-is w (v ∷ ws) = ap (λ b. is_lt (slice_cmp nat_cmp w.letters v.letters) && b) (rise_after-is v ws)
 
-no_letters_stand_below : (letters : List ℕ) → are_letters letters ≡ true → is_lt (slice_cmp nat_cmp [] letters) ≡ true
+no_letters_stand_below : (letters : Letters) → are_letters letters ≡ true → is_lt (slice_cmp nat_cmp [] letters) ≡ true
 no_letters_stand_below [] h = absurd (false≢true h)
 no_letters_stand_below (c ∷ cs) h = refl
 

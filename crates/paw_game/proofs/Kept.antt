@@ -9,6 +9,7 @@ use Rattle.std.specs.Option.{option_copied, option_map, unwrap_or}
 use Rattle.std.proofs.lemmas.Option.{none-some, same_Some, slice_get_within, slice_get_past}
 use Rattle.std.proofs.lemmas.Bool.{and_from, and_parts, cases_lt, leb-true, ltb-true}
 use Rattle.std.proofs.lemmas.Bool.Decides.{nat_tests}
+use Rattle.paw_base.specs.Bytes.{Bytes}
 use Rattle.paw_base.specs.Condacts.{is_code, first_kind, second_kind}
 use Rattle.paw_base.specs.inner.Condacts.{IsCode}
 use Rattle.paw_base.specs.declared.limits.TheConstants.{SYSTEM_LIMIT, MESSAGE_LIMIT, OBJECT_LIMIT, LOCATION_LEAST}
@@ -117,7 +118,7 @@ text-short t h = leb-true (length t) TEXT_LIMIT (first_of_and _ _ h)
 printed_byte : (b : ℕ) → IsTrue (is_text_byte b) → b < 256
 printed_byte b h = grind (arith, nat_tests)
 
-printed-bytes : (first : Bool) (bs : List ℕ) (k d : ℕ) → IsTrue (is_printed first bs) → k < length bs → slice_index_or bs k d < 256
+printed-bytes : (first : Bool) (bs : Bytes) (k d : ℕ) → IsTrue (is_printed first bs) → k < length bs → slice_index_or bs k d < 256
 printed-bytes first [] k d h l = absurd (omega arith)
 printed-bytes first (b ∷ bs) zero d h l =
     printed_byte b (first_of_and (is_text_byte b) _ (first_of_and _ (is_printed (b == 10) bs) h))

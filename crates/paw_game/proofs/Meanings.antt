@@ -5,6 +5,7 @@ use Rattle.std.specs.List.{list_all}
 use Rattle.std.specs.Str.{bytes_eq}
 use Rattle.std.proofs.lemmas.Bool.{leb-true}
 use Rattle.std.proofs.lemmas.Option.{none-some, same_Some}
+use Rattle.paw_base.specs.Bytes.{Letters}
 use Rattle.paw_base.specs.declared.limits.TheConstants.{WORD_LIMIT}
 use Rattle.paw_base.specs.declared.words.TheConstants.{PRONOUN_CLASS, LEAST_WORD, GREATEST_WORD}
 use Rattle.paw_game.specs.declared.parts.Word.{Word}
@@ -18,13 +19,13 @@ word_step : (b : Bool) (here w : Word) (later : Option Word) → IsTrue (is_word
 word_step true here w later h k e = rw (← same_Some here w e) h
 word_step false here w later h k e = k e
 
-word_in : (letters : List ℕ) (ws : List Word) (w : Word) → IsTrue (list_all is_word ws) → word_of letters ws ≡ Some w → IsTrue (is_word w)
+word_in : (letters : Letters) (ws : List Word) (w : Word) → IsTrue (list_all is_word ws) → word_of letters ws ≡ Some w → IsTrue (is_word w)
 word_in letters [] w h e = absurd (none-some w e)
 word_in letters (x ∷ xs) w h e =
     word_step (bytes_eq x.letters letters) x w (word_of letters xs) (first_of_and (is_word x) _ h)
     (word_in letters xs w (second_of_and (is_word x) _ h)) e
 
-pub word_kept : (g : GameLists) → Valid g → (letters : List ℕ) (w : Word) → word_of letters g.words ≡ Some w → IsTrue (is_word w)
+pub word_kept : (g : GameLists) → Valid g → (letters : Letters) (w : Word) → word_of letters g.words ≡ Some w → IsTrue (is_word w)
 word_kept g v letters w e = word_in letters g.words w (first_of_and _ (words_rise g.words) (second_of_and (nat_le (length g.words) WORD_LIMIT) _ v.words)) e
 
 -- What a word means: a value from 2 to 254, and a class up to 6.
@@ -33,7 +34,7 @@ pub record IsMeaning (m : ℕ × ℕ) : Type 0 where
   pub high : m.0 ≤ GREATEST_WORD
   pub class : m.1 ≤ PRONOUN_CLASS
 
-pub meaning_kept : (g : GameLists) → Valid g → (letters : List ℕ) (m : ℕ × ℕ) → word_at g letters ≡ Some m → IsMeaning m
+pub meaning_kept : (g : GameLists) → Valid g → (letters : Letters) (m : ℕ × ℕ) → word_at g letters ≡ Some m → IsMeaning m
 meaning_kept g v letters m e =
     let at = option_map-Some {B = ℕ × ℕ} (λ (w : Word). (w.value, w.class)) (word_of letters g.words) m e in
     let kept = second_of_and (are_letters at.0.letters) _ (word_kept g v letters at.0 at.1) in

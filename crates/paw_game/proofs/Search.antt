@@ -15,6 +15,7 @@ use Rattle.std.proofs.lemmas.Cmp.{alike_right, nat_list_cmp_total}
 use Rattle.std.proofs.lemmas.List.Recursion.{found_at, found_nowhere}
 use Rattle.std.proofs.lemmas.List.Sorted.{searchable_from_sorted}
 use Rattle.std.proofs.lemmas.Map.Text.{is_eq-slice_cmp}
+use Rattle.paw_base.specs.Bytes.{Letters}
 use Rattle.paw_game.specs.declared.parts.Word.{Word}
 use Rattle.paw_game.specs.Valid.{words_rise}
 use Rattle.paw_game.specs.Tables.{word_of}
@@ -57,7 +58,7 @@ sorted ws h = λ k d low high.
     rw (nat_list_cmp_total.antisymm (get_or ws (k + 1) d).letters (get_or ws k d).letters)
     (is_lt-reverse _ (rises ws k (k + 1) d h (omega arith) high))
 
-word_found : (letters : List ℕ) (ws : List Word) (i : ℕ) (d : Word) → IsTrue (words_rise ws) → i < length ws
+word_found : (letters : Letters) (ws : List Word) (i : ℕ) (d : Word) → IsTrue (words_rise ws) → i < length ws
     → HoldsAt (λ w. compared letters w ≡ Equal) ws i → Some (get_or ws i d) ≡ word_of letters ws
 word_found letters ws i d h l e =
     sym (found_at (word_of letters) (λ w. bytes_eq w.letters letters) Some None refl (λ _ _. refl) ws i d l
@@ -65,7 +66,7 @@ word_found letters ws i d h l e =
     ∙ ap is_eq (sym (alike_right nat_list_cmp_total (get_or ws i d).letters letters (get_or ws k d).letters (e d)) ∙ rises ws k i d h below l))
     (sym (is_eq-slice_cmp (get_or ws i d).letters letters) ∙ ap is_eq (e d)))
 
-word_missing : (letters : List ℕ) (ws : List Word) (i : ℕ) → IsTrue (words_rise ws) → IsBinarySearchResult (compared letters) ws (Err i)
+word_missing : (letters : Letters) (ws : List Word) (i : ℕ) → IsTrue (words_rise ws) → IsBinarySearchResult (compared letters) ws (Err i)
     → word_of letters ws ≡ None
 word_missing letters ws i h e =
     let cut = e (searchable_from_sorted nat_list_cmp_total (λ w. w.letters) ws letters (sorted ws h)) in
@@ -75,13 +76,13 @@ word_missing letters ws i h e =
     ∙ elim (cases_lt k i) [ inl below ↦ ap is_eq (cut.0 k d (omega arith) below) | inr from ↦ ap is_eq (cut.1 k d from l) ])
 
 -- What a search by halving found is the word with these letters.
-pub found_is : (letters : List ℕ) (ws : List Word) (r : Result ℕ ℕ) (i : ℕ) (d : Word) → IsTrue (words_rise ws) → IsSearchInRange r (length ws)
+pub found_is : (letters : Letters) (ws : List Word) (r : Result ℕ ℕ) (i : ℕ) (d : Word) → IsTrue (words_rise ws) → IsSearchInRange r (length ws)
     → IsBinarySearchResult (compared letters) ws r → Some i ≡ result_ok r → Some (get_or ws i d) ≡ word_of letters ws
 found_is letters ws (Ok j) i d h l e is = rw (same_Some i j is) (word_found letters ws j d h l e)
 found_is letters ws (Err j) i d h l e is = absurd (none-some i (sym is))
 
 -- Where it found nothing there is no such word.
-pub missing_is : (letters : List ℕ) (ws : List Word) (r : Result ℕ ℕ) → IsTrue (words_rise ws) → IsBinarySearchResult (compared letters) ws r
+pub missing_is : (letters : Letters) (ws : List Word) (r : Result ℕ ℕ) → IsTrue (words_rise ws) → IsBinarySearchResult (compared letters) ws r
     → None ≡ result_ok r → word_of letters ws ≡ None
 missing_is letters ws (Ok j) h e is = absurd (none-some j is)
 missing_is letters ws (Err j) h e is = word_missing letters ws j h e

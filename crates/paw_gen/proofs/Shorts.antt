@@ -4,6 +4,7 @@ use Rattle.std.proofs.Common.{length-append}
 use Rattle.std.specs.Prelude.{◌==◌, ◌&&◌, nat_le}
 use Rattle.std.specs.List.{list_all, flat_map}
 use Rattle.std.proofs.lemmas.Bool.{and_parts}
+use Rattle.paw_base.specs.Bytes.{Bytes, Letters}
 use Rattle.paw_base.specs.Condacts.{condact_lines, plain_line, line_of, is_indirect}
 use Rattle.paw_base.specs.declared.limits.TheConstants.{IMAGE_LIMIT, WORD_LENGTH, TEXT_LIMIT}
 use Rattle.paw_base.specs.declared.words.TheConstants.{PRONOUN_CLASS, LEAST_WORD, GREATEST_WORD}
@@ -32,7 +33,7 @@ flat_short bytes most (x ∷ xs) h =
     let joined : length (bytes x ++ flat_map bytes xs) ≡ length (bytes x) + length (flat_map bytes xs) = length-append (bytes x) (flat_map bytes xs) in
     grind arith
 
-letters_five : (letters : List ℕ) → are_letters letters ≡ true → length letters ≡ WORD_LENGTH
+letters_five : (letters : Letters) → are_letters letters ≡ true → length letters ≡ WORD_LENGTH
 letters_five [] h = absurd cc
 letters_five (c ∷ cs) h =
     eq_from (length (c ∷ cs)) WORD_LENGTH (and_parts (length (c ∷ cs) == WORD_LENGTH) (is_letter c && is_filled cs) h).0
@@ -43,7 +44,7 @@ word_short w h =
     let five : length w.letters ≡ WORD_LENGTH = letters_five w.letters kept.0 in
     le_true (length (word_image w)) 7 (omega (arith, five, length-append w.letters (w.value ∷ w.class ∷ [])))
 
-text_short : (bytes : List ℕ) → is_text bytes ≡ true → length (text_image bytes) ≤ TEXT_LIMIT + 2
+text_short : (bytes : Bytes) → is_text bytes ≡ true → length (text_image bytes) ≤ TEXT_LIMIT + 2
 text_short bytes h =
     let few : length bytes ≤ TEXT_LIMIT = le_from (length bytes) TEXT_LIMIT (and_parts (nat_le (length bytes) TEXT_LIMIT) (is_printed true bytes) h).0 in
     omega (arith, few, length-append (two_bytes (length bytes)) bytes)

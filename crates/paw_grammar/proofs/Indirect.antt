@@ -3,6 +3,7 @@ use Rattle.std.proofs.Common.{◌≡◌, ℕ, ◌+◌, ◌-◌, Bool, true, fals
 use Rattle.std.proofs.Common.{◌∙◌, arith}
 use Rattle.std.specs.Option.{ok_or}
 use Rattle.std.proofs.lemmas.Bool.{and_from, or_left, or_right, le-leb}
+use Rattle.paw_base.specs.Bytes.{Name, Tokens}
 use Rattle.paw_base.specs.declared.fault.SourceKind.{SourceKind}
 use Rattle.paw_base.specs.declared.fault.SourceKind.TheVariants as fault
 use Rattle.paw_base.specs.declared.rows.ParamKind.TheVariants.{Flag}
@@ -17,7 +18,7 @@ use Rattle.paw_grammar.specs.declared.bounds.Bounds.{Bounds}
 use Rattle.paw_grammar.specs.Condacts.{parameter, is_indirect_before, first_parameter, code_of, condact}
 
 -- A name gives a plain code.
-pub named_plain : (name : List ℕ) (code : ℕ) → ok_or (code_named name) fault.Condact ≡ Ok code → IsPlainCode code
+pub named_plain : (name : Name) (code : ℕ) → ok_or (code_named name) fault.Condact ≡ Ok code → IsPlainCode code
 named_plain name code h =
     elim (code_named name) as (λ o. code_named name ≡ o → ok_or o fault.Condact ≡ Ok code → IsPlainCode code) [
       | None ↦ λ e f. absurd cc
@@ -28,7 +29,7 @@ named_plain name code h =
     ] refl h
 
 -- A condact that is read part by part.
-pub condact_made : (bounds : Bounds) (ws : List Word) (name : List ℕ) (ts : List (List ℕ)) (plain : ℕ) (indirect : Bool)
+pub condact_made : (bounds : Bounds) (ws : List Word) (name : Name) (ts : Tokens) (plain : ℕ) (indirect : Bool)
     (a b : ℕ × List (List ℕ)) → code_named name ≡ Some plain → is_indirect_before plain ts ≡ indirect
     → first_parameter bounds ws indirect (first_kind plain) ts ≡ Ok a → parameter bounds ws (second_kind plain) a.1 ≡ Ok b
     → condact bounds ws name ts ≡ Ok (record { code = code_of indirect plain; a = a.0; b = b.0 }, b.1)

@@ -5,6 +5,7 @@ use Rattle.std.proofs.Common.{Result, Ok, Err, refl, sym, ap, subst, ◌∙◌, 
 use Rattle.std.proofs.lemmas.List.{append-nil}
 use Rattle.std.specs.Option.{ok_or}
 use Rattle.std.proofs.lemmas.Bool.{and_parts}
+use Rattle.paw_base.specs.Bytes.{Name, Tokens}
 use Rattle.paw_base.specs.declared.fault.SourceKind.{SourceKind}
 use Rattle.paw_base.specs.declared.fault.SourceKind.TheVariants as fault
 use Rattle.paw_base.specs.declared.parts.Condact.{Condact}
@@ -30,25 +31,25 @@ use Rattle.paw_grammar.specs.Condacts.{condact, condacts_in, with_more_condacts}
 -- ---- each parameter that is there takes one token
 
 -- Before the rest stand n tokens, none or one.
-data Takes (n : ℕ) (ts rest : List (List ℕ)) : Type 0 where
+data Takes (n : ℕ) (ts rest : Tokens) : Type 0 where
   none : n ≡ 0 → ts ≡ rest → Takes n ts rest
   one : (t : List ℕ) → n ≡ 1 → ts ≡ t ∷ rest → Takes n ts rest
 
-takes_meaning : {A : Type 0} (k : SourceKind) (meaning : List ℕ → Option A) (ts rest : List (List ℕ)) (x : A)
+takes_meaning : {A : Type 0} (k : SourceKind) (meaning : List ℕ → Option A) (ts rest : Tokens) (x : A)
     → read_by k meaning ts ≡ Ok (x, rest) → Takes 1 ts rest
 takes_meaning {A} k meaning ts rest x e = let m = meant k meaning ts (x, rest) e in one m.first refl m.all
 
-takes_number : (rule : ℕ → Bool) (k : SourceKind) (meaning : List ℕ → Option ℕ) (ts rest : List (List ℕ)) (x : ℕ)
+takes_number : (rule : ℕ → Bool) (k : SourceKind) (meaning : List ℕ → Option ℕ) (ts rest : Tokens) (x : ℕ)
     → (read_by k meaning ts >>= in_range rule) ≡ Ok (x, rest) → Takes 1 ts rest
 takes_number rule k meaning ts rest x e = takes_meaning k meaning ts rest x (ranged rule (read_by k meaning ts) (x, rest) e).is
 
-takes_table : (tables : ℕ) (ts rest : List (List ℕ)) (x : ℕ) → table tables ts ≡ Ok (x, rest) → Takes 1 ts rest
+takes_table : (tables : ℕ) (ts rest : Tokens) (x : ℕ) → table tables ts ≡ Ok (x, rest) → Takes 1 ts rest
 takes_table tables ts rest x e =
     let b = bound (number_below tables ts) (λ n. Ok (min n.0 255, n.1)) (x, rest) e in
     let same = (pair_parts (min b.value.0 255) x b.value.1 rest b.goes_on).1 in
     takes_number (λ n. nat_lt n tables) fault.Number number ts rest b.value.0 (b.is ∙ ap (λ (us : List (List ℕ)). Ok (b.value.0, us)) same)
 
-takes : (bounds : Bounds) (ws : List Word) (k : ParamKind) (ts rest : List (List ℕ)) (x : ℕ)
+takes : (bounds : Bounds) (ws : List Word) (k : ParamKind) (ts rest : Tokens) (x : ℕ)
     → parameter bounds ws k ts ≡ Ok (x, rest) → Takes (param_count k) ts rest
 takes bounds ws kind.Absent ts rest x e = none refl (pair_parts 0 x ts rest e).1
 takes bounds ws kind.Location ts rest x e = takes_number (λ n. nat_lt n bounds.locations) fault.Number number ts rest x e
@@ -66,7 +67,7 @@ takes bounds ws kind.Noun ts rest x e =
 takes bounds ws kind.Adjective ts rest x e = takes_meaning fault.Word (or_none (λ t. in_class ADJECTIVE_CLASS (declared_word ws t))) ts rest x e
 takes bounds ws kind.Preposition ts rest x e = takes_meaning fault.Word (or_none (λ t. in_class PREPOSITION_CLASS (declared_word ws t))) ts rest x e
 
-takes_first : (bounds : Bounds) (ws : List Word) (code : ℕ) (indirect : Bool) (ts rest : List (List ℕ)) (x : ℕ)
+takes_first : (bounds : Bounds) (ws : List Word) (code : ℕ) (indirect : Bool) (ts rest : Tokens) (x : ℕ)
     → (indirect ≡ true → may_be_indirect code ≡ true)
     → first_parameter bounds ws indirect (first_kind code) ts ≡ Ok (x, rest)
     → Takes (param_count (first_kind (code_of indirect code))) ts rest
@@ -78,7 +79,7 @@ takes_first bounds ws code false ts rest x may e = takes bounds ws (first_kind c
 -- ---- a condact takes as many tokens as it has parameters
 
 -- The tokens rest are left of ts after n parameters.
-pub record Left (bounds : Bounds) (ws : List Word) (n : ℕ) (ts rest : List (List ℕ)) : Type 0 where
+pub record Left (bounds : Bounds) (ws : List Word) (n : ℕ) (ts rest : Tokens) : Type 0 where
   pub same : condacts_in bounds ws n ts ≡ condacts_in bounds ws 0 rest
   pub shorter : length rest ≤ length ts
 
@@ -97,7 +98,7 @@ abbrev with_first : Bounds → List Word → List (List ℕ) → ℕ → Reads C
 with_first bounds ws ts code =
     first_parameter bounds ws (is_indirect_before code ts) (first_kind code) ts >>= with_second bounds ws (is_indirect_before code ts) code
 
-pub skips : (bounds : Bounds) (ws : List Word) (name : List ℕ) (ts rest : List (List ℕ)) (c : Condact)
+pub skips : (bounds : Bounds) (ws : List Word) (name : Name) (ts rest : Tokens) (c : Condact)
     → condact bounds ws name ts ≡ Ok (c, rest) → Left bounds ws (params_of c.code) ts rest
 unfolding condact
 skips bounds ws name ts rest c e =
@@ -124,7 +125,7 @@ skips bounds ws name ts rest c e =
 -- ---- the loop over the condacts
 
 -- One condact more.
-one_more : (bounds : Bounds) (ws : List Word) (cs : List Condact) (name : List ℕ) (ts rest : List (List ℕ))
+one_more : (bounds : Bounds) (ws : List Word) (cs : List Condact) (name : Name) (ts rest : Tokens)
     (c : Condact) → condact bounds ws name ts ≡ Ok (c, rest)
     → with_more_condacts cs (condacts_in bounds ws 0 (name ∷ ts)) ≡ with_more_condacts (cs ++ c ∷ []) (condacts_in bounds ws 0 rest)
 unfolding condacts_in
@@ -136,21 +137,21 @@ one_more bounds ws cs name ts rest c e =
     ])
 
 -- A condact with a fault.
-one_fault : (bounds : Bounds) (ws : List Word) (cs : List Condact) (name : List ℕ) (ts : List (List ℕ))
+one_fault : (bounds : Bounds) (ws : List Word) (cs : List Condact) (name : Name) (ts : Tokens)
     (k : SourceKind) → condact bounds ws name ts ≡ Err k
     → with_more_condacts cs (condacts_in bounds ws 0 (name ∷ ts)) ≡ Err k
 unfolding condacts_in
 one_fault bounds ws cs name ts k e = rw e refl
 
-pub fails_here : (bounds : Bounds) (ws : List Word) (cs : List Condact) (name : List ℕ) (ts old : List (List ℕ))
+pub fails_here : (bounds : Bounds) (ws : List Word) (cs : List Condact) (name : Name) (ts old : Tokens)
     (whole : Result (List Condact) SourceKind) (e : ReadError SourceKind) → old ≡ name ∷ ts
     → with_more_condacts cs (condacts_in bounds ws 0 old) ≡ whole → Fails e (condact bounds ws name ts) → Fails e whole
 fails_here bounds ws cs name ts old whole unread.Memory next invariant fails = tt
 fails_here bounds ws cs name ts old whole (unread.Fault k) next invariant fails =
     sym invariant ∙ ap (λ (x : List (List ℕ)). with_more_condacts cs (condacts_in bounds ws 0 x)) next ∙ one_fault bounds ws cs name ts k fails
 
-pub goes_on : (bounds : Bounds) (ws : List Word) (cs more : List Condact) (name : List ℕ)
-    (ts old rest : List (List ℕ)) (c : Condact) (whole : Result (List Condact) SourceKind) → old ≡ name ∷ ts
+pub goes_on : (bounds : Bounds) (ws : List Word) (cs more : List Condact) (name : Name)
+    (ts old rest : Tokens) (c : Condact) (whole : Result (List Condact) SourceKind) → old ≡ name ∷ ts
     → with_more_condacts cs (condacts_in bounds ws 0 old) ≡ whole → condact bounds ws name ts ≡ Ok (c, rest)
     → more ≡ cs ++ c ∷ [] → with_more_condacts more (condacts_in bounds ws 0 rest) ≡ whole
 goes_on bounds ws cs more name ts old rest c whole next invariant is pushed =

@@ -2,6 +2,7 @@
 use Rattle.std.proofs.Common.{◌≡◌, ℕ, Bool, true, false, cond, List, [], ◌∷◌, Option, Some, None, Result, Ok, Err, refl}
 use Rattle.std.proofs.Common.{sym, ap, ◌∙◌}
 use Rattle.std.specs.Option.{ok_or}
+use Rattle.paw_base.specs.Bytes.{Tokens}
 use Rattle.paw_base.specs.declared.fault.SourceKind.{SourceKind}
 use Rattle.paw_base.specs.declared.fault.SourceKind.TheVariants as fault
 use Rattle.paw_read_error.specs.Bind.{◌>>=◌}
@@ -26,12 +27,12 @@ pub pair_parts : {A B : Type 0} (a c : A) (b d : B) → ◌≡◌ {A = Result (A
 pair_parts {A} {B} a c b d e = let f : ◌≡◌ {A = A × B} (a, b) (c, d) = cc in (ap (λ x. x.0) f, ap (λ x. x.1) f)
 
 -- The first token means the value, and the others are left.
-pub record Meant {A : Type 0} (meaning : List ℕ → Option A) (ts : List (List ℕ)) (x : A × List (List ℕ)) : Type 0 where
+pub record Meant {A : Type 0} (meaning : List ℕ → Option A) (ts : Tokens) (x : A × List (List ℕ)) : Type 0 where
   pub first : List ℕ
   pub all : ts ≡ first ∷ x.1
   pub means : meaning first ≡ Some x.0
 
-pub meant : {A : Type 0} (k : SourceKind) (meaning : List ℕ → Option A) (ts : List (List ℕ)) (x : A × List (List ℕ))
+pub meant : {A : Type 0} (k : SourceKind) (meaning : List ℕ → Option A) (ts : Tokens) (x : A × List (List ℕ))
     → read_by k meaning ts ≡ Ok x → Meant meaning ts x
 meant {A} k meaning [] x e = absurd cc
 meant {A} k meaning (t ∷ ts) x e =

@@ -6,6 +6,7 @@ use Rattle.std.specs.Prelude.{codes, if◌then◌else◌}
 use Rattle.std.specs.Str.{bytes_eq}
 use Rattle.std.proofs.lemmas.List.{append-nil, length-append}
 use Rattle.std.proofs.lemmas.Slice.Eq.{bytes_eq-Decides}
+use Rattle.paw_base.specs.Bytes.{Lines, Text, Texts, Name, Seed}
 use Rattle.paw_base.specs.declared.limits.TheConstants.{EVENT_LIMIT}
 use Rattle.paw_effects.specs.Story.{Story}
 use Rattle.paw_effects.specs.declared.act.Prompt.{Prompt}
@@ -28,7 +29,7 @@ use Rattle.paw_host.specs.Laws.{EachPlaysAlone, PiecesAreAnswered}
 
 -- ---- one name among others ----
 
-session_first : (g : Story) (seed : ℕ) (sessions : Sessions) (name : List ℕ) (o : Option Request) (later : List (Option (List ℕ))) →
+session_first : (g : Story) (seed : Seed) (sessions : Sessions) (name : Name) (o : Option Request) (later : List (Option (List ℕ))) →
     session_after g seed (sessions_with g seed sessions o name) later ≡ session_after g seed (sessions name) (asked_first name o later)
 unfolding session_after
 session_first g seed sessions name None later = refl
@@ -41,7 +42,7 @@ session_first g seed sessions name (Some r) later =
       | false ↦ λ t. refl
     ] refl
 
-session_alone : (g : Story) (seed : ℕ) (sessions : Sessions) (name : List ℕ) (lines : List (List ℕ)) →
+session_alone : (g : Story) (seed : Seed) (sessions : Sessions) (name : Name) (lines : Lines) →
     sessions_after g seed sessions lines name ≡ session_after g seed (sessions name) (asked_of name lines)
 unfolding sessions_after session_after asked_of
 session_alone g seed sessions name [] = refl
@@ -49,7 +50,7 @@ session_alone g seed sessions name (line ∷ lines) =
     session_alone g seed (sessions_with g seed sessions (request_of line)) name lines
     ∙ session_first g seed sessions name (request_of line) (asked_of name lines)
 
-answers_first : (g : Story) (seed : ℕ) (sessions : Sessions) (name : List ℕ) (o : Option Request) (later : List (Option (List ℕ))) →
+answers_first : (g : Story) (seed : Seed) (sessions : Sessions) (name : Name) (o : Option Request) (later : List (Option (List ℕ))) →
     answered_first g seed sessions name o (answers_of g seed (sessions_with g seed sessions o name) later)
     ≡ answers_of g seed (sessions name) (asked_first name o later)
 unfolding answers_of
@@ -65,7 +66,7 @@ answers_first g seed sessions name (Some r) later =
       | false ↦ λ t. refl
     ] refl
 
-answers_alone : (g : Story) (seed : ℕ) (sessions : Sessions) (name : List ℕ) (lines : List (List ℕ)) →
+answers_alone : (g : Story) (seed : Seed) (sessions : Sessions) (name : Name) (lines : Lines) →
     answered_to g seed sessions name lines ≡ answers_of g seed (sessions name) (asked_of name lines)
 unfolding answered_to answers_of asked_of
 answers_alone g seed sessions name [] = refl
@@ -78,38 +79,38 @@ each_plays_alone = record { session = session_alone; answers = answers_alone }
 
 -- ---- readings that wait ----
 
-waits_by : (g : Story) (fs : List (List ℕ)) (e : Ending) (p : Prompt) (path : List Frame) (r : Run) → ending_followed g fs e ≡ WaitsAt p path r →
+waits_by : (g : Story) (fs : Lines) (e : Ending) (p : Prompt) (path : List Frame) (r : Run) → ending_followed g fs e ≡ WaitsAt p path r →
     (q : Prompt) × (at : List Frame) × (s : Run) × (e ≡ WaitsAt q at s)
 waits_by g fs (WaitsAt q at s) p path r h = (q, at, s, refl)
 waits_by g fs (Halted halt s) p path r h = cc
 waits_by g fs Unended p path r h = cc
 
 -- Where the reading of more lines waits, that of some does.
-waits_before : (g : Story) (seed : ℕ) (es fs : List (List ℕ)) (p : Prompt) (path : List Frame) (r : Run) → reading g seed (es ++ fs) ≡ WaitsAt p path r →
+waits_before : (g : Story) (seed : Seed) (es fs : Lines) (p : Prompt) (path : List Frame) (r : Run) → reading g seed (es ++ fs) ≡ WaitsAt p path r →
     (q : Prompt) × (at : List Frame) × (s : Run) × (reading g seed es ≡ WaitsAt q at s)
 waits_before g seed es fs p path r h = waits_by g fs (reading g seed es) p path r (sym (going_on_is_reading g seed es fs) ∙ h)
 
 -- ---- one piece for each text ----
 
-last_more : (pieces : List (List ℕ)) (piece : List ℕ) → last_piece (pieces ++ piece ∷ []) ≡ piece
+last_more : (pieces : Texts) (piece : Text) → last_piece (pieces ++ piece ∷ []) ≡ piece
 last_more [] piece = refl
 last_more (x ∷ []) piece = refl
 last_more (x ∷ y ∷ pieces) piece = last_more (y ∷ pieces) piece
 
-one_piece : (pieces : List (List ℕ)) → length pieces ≡ 1 → pieces ≡ last_piece pieces ∷ []
+one_piece : (pieces : Texts) → length pieces ≡ 1 → pieces ≡ last_piece pieces ∷ []
 one_piece [] h = absurd (omega (arith, h))
 one_piece (x ∷ []) h = refl
 one_piece (x ∷ y ∷ pieces) h = absurd (omega (arith, h))
 
 -- A reading that waits has one piece for each line, and one before them.
-pieces_count : (g : Story) (seed : ℕ) (es : List (List ℕ)) (p : Prompt) (path : List Frame) (r : Run) → reading g seed es ≡ WaitsAt p path r →
+pieces_count : (g : Story) (seed : Seed) (es : Lines) (p : Prompt) (path : List Frame) (r : Run) → reading g seed es ≡ WaitsAt p path r →
     length r.pieces ≡ suc (length es)
 pieces_count g seed es p path r h =
     let counted : Counted (length es) (WaitsAt p path r) = subst (Counted (length es)) h (pieces_of_lines g seed es) in
     let none : length r.events ≡ 0 = ap length counted.0 in
     omega (arith, counted.1, none)
 
-past_by : (pieces : List (List ℕ)) (e x : Ending) (p : Prompt) (path : List Frame) (r : Run) (traces : List (List Step)) →
+past_by : (pieces : Texts) (e x : Ending) (p : Prompt) (path : List Frame) (r : Run) (traces : List (List Step)) →
     e ≡ ending_with_past pieces traces x → e ≡ WaitsAt p path r →
     (more : List (List ℕ)) × (r.pieces ≡ pieces ++ more)
 past_by pieces e (WaitsAt q at s) p path r traces h k =
@@ -121,7 +122,7 @@ past_by pieces e Unended p path r traces h k =
     let clash : WaitsAt p path r ≡ ending_with_past pieces traces Unended = sym k ∙ h in cc
 
 -- With one line more the reading has one piece more, the last one.
-one_more : (g : Story) (seed : ℕ) (es : List (List ℕ)) (text : List ℕ) (p q : Prompt) (path at : List Frame) (r s : Run) →
+one_more : (g : Story) (seed : Seed) (es : Lines) (text : Text) (p q : Prompt) (path at : List Frame) (r s : Run) →
     reading g seed es ≡ WaitsAt p path r →
     reading g seed (es ++ text ∷ []) ≡ WaitsAt q at s → s.pieces ≡ r.pieces ++ last_piece s.pieces ∷ []
 one_more g seed es text p q path at r s h k =
@@ -136,7 +137,7 @@ one_more g seed es text p q path at r s h k =
 
 -- ---- texts that were all taken ----
 
-taken_by : (seed : ℕ) (es : List (List ℕ)) (text : List ℕ) (e : Ending) (over full : Bool) →
+taken_by : (seed : Seed) (es : Lines) (text : Text) (e : Ending) (over full : Bool) →
     ((if over then record { body = codes "over"; session = At seed es } else if full then record { body = codes "full"; session = At seed es }
     else gone_on (At seed es) (At seed (es ++ text ∷ [])) e).session ≡ At seed es)
     ⊎ (◌≡◌ {A = Answer} (if over then record { body = codes "over"; session = At seed es }
@@ -151,17 +152,17 @@ taken_by seed es text (Halted (halt.TooDeep table) r) false false = inl refl
 taken_by seed es text Unended false false = inr refl
 
 -- A text isn't taken, or its piece is the answer.
-answered_by : (g : Story) (seed : ℕ) (es : List (List ℕ)) (text : List ℕ) → ((answer g seed (At seed es) (Some text)).session ≡ At seed es)
+answered_by : (g : Story) (seed : Seed) (es : Lines) (text : Text) → ((answer g seed (At seed es) (Some text)).session ≡ At seed es)
     ⊎ (answer g seed (At seed es) (Some text)
     ≡ record { body = last_piece (pieces_of (reading g seed (es ++ text ∷ []))); session = At seed (es ++ text ∷ []) })
 unfolding answer
 answered_by g seed es text = taken_by seed es text (reading g seed (es ++ text ∷ [])) (is_over (reading g seed es)) (nat_le EVENT_LIMIT (length es))
 
-same_lines : (seed : ℕ) (es fs : List (List ℕ)) → At seed es ≡ At seed fs → es ≡ fs
+same_lines : (seed : Seed) (es fs : Lines) → At seed es ≡ At seed fs → es ≡ fs
 same_lines seed es fs h = cc
 
 -- No more lines than texts are taken.
-at_most : (g : Story) (seed : ℕ) (es texts lines : List (List ℕ)) → session_after g seed (At seed es) (map Some texts) ≡ At seed lines →
+at_most : (g : Story) (seed : Seed) (es texts lines : List (List ℕ)) → session_after g seed (At seed es) (map Some texts) ≡ At seed lines →
     length lines ≤ length es + length texts
 unfolding session_after
 at_most g seed es [] lines h = let same = ap length (same_lines seed es lines h) in omega (arith, same)
@@ -173,7 +174,7 @@ at_most g seed es (text ∷ texts) lines h = elim (answered_by g seed es text) [
 ]
 
 -- A text that was taken has a piece of its own.
-text_piece : (g : Story) (seed : ℕ) (es texts : List (List ℕ)) (text : List ℕ) (p : Prompt) (path : List Frame) (r : Run) →
+text_piece : (g : Story) (seed : Seed) (es texts : List (List ℕ)) (text : Text) (p : Prompt) (path : List Frame) (r : Run) →
     reading g seed ((es ++ text ∷ []) ++ texts) ≡ WaitsAt p path r →
     pieces_of (reading g seed (es ++ text ∷ [])) ≡ pieces_of (reading g seed es) ++ last_piece (pieces_of (reading g seed (es ++ text ∷ []))) ∷ []
 text_piece g seed es texts text p path r h =
@@ -181,7 +182,7 @@ text_piece g seed es texts text p path r h =
     let before = waits_before g seed es (text ∷ []) here.0 here.1 here.2 here.3 in
     rw (here.3, before.3) (one_more g seed es text before.0 here.0 before.1 here.1 before.2 here.2 before.3 here.3)
 
-answered_later : (g : Story) (seed : ℕ) (es texts : List (List ℕ)) (p : Prompt) (path : List Frame) (r : Run) →
+answered_later : (g : Story) (seed : Seed) (es texts : List (List ℕ)) (p : Prompt) (path : List Frame) (r : Run) →
     session_after g seed (At seed es) (map Some texts) ≡ At seed (es ++ texts) → reading g seed (es ++ texts) ≡ WaitsAt p path r →
     pieces_of (reading g seed (es ++ texts)) ≡ pieces_of (reading g seed es) ++ answers_of g seed (At seed es) (map Some texts)
 unfolding session_after answers_of
@@ -204,12 +205,12 @@ answered_later g seed es (text ∷ texts) p path r h k = elim (answered_by g see
 ]
 
 -- The game is begun by the name alone.
-begins : (g : Story) (seed : ℕ) (p : Prompt) (path : List Frame) (r : Run) → reading g seed [] ≡ WaitsAt p path r →
+begins : (g : Story) (seed : Seed) (p : Prompt) (path : List Frame) (r : Run) → reading g seed [] ≡ WaitsAt p path r →
     answer g seed Absent None ≡ record { body = last_piece r.pieces; session = At seed [] }
 unfolding answer
 begins g seed p path r h = ap (λ e. gone_on Absent (At seed []) e) h
 
-answered_all : (g : Story) (seed : ℕ) (texts : List (List ℕ)) (p : Prompt) (path : List Frame) (r : Run) →
+answered_all : (g : Story) (seed : Seed) (texts : Texts) (p : Prompt) (path : List Frame) (r : Run) →
     session_after g seed Absent (None ∷ map Some texts) ≡ At seed texts → reading g seed texts ≡ WaitsAt p path r →
     answers_of g seed Absent (None ∷ map Some texts) ≡ pieces_of (reading g seed texts)
 unfolding session_after answers_of

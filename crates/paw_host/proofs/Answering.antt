@@ -3,6 +3,7 @@ use Rattle.std.proofs.Common.{◌≡◌, ◌⊎◌, inl, inr, ℕ, List, [], ◌
 use Rattle.std.proofs.Common.{length}
 use Rattle.std.proofs.Common.{append_assoc, nat_le, Option, Some, None}
 use Rattle.std.specs.Prelude.{codes, if◌then◌else◌}
+use Rattle.paw_base.specs.Bytes.{Bytes, Lines, Text, Seed}
 use Rattle.paw_base.specs.declared.limits.TheConstants.{EVENT_LIMIT}
 use Rattle.paw_effects.specs.Story.{Story}
 use Rattle.paw_reading.specs.declared.frames.Halt.TheVariants as halt
@@ -18,7 +19,7 @@ use Rattle.paw_host.specs.inner.Answers.{Answers, InFile, LeftOf, LeftOfBeginnin
 
 -- ---- sessions that are begun ----
 
-answer_absent : (g : Story) (seed : ℕ) (text : Option (List ℕ)) → answer g seed Absent text
+answer_absent : (g : Story) (seed : Seed) (text : Option (List ℕ)) → answer g seed Absent text
     ≡ begun_with_text g text (begun_answer g seed).body (begun_answer g seed).session
 unfolding answer
 answer_absent g seed text = refl
@@ -31,7 +32,7 @@ with_absent g (Some text) body (At seed es) e = cc
 with_absent g (Some text) body (Refused bytes) e = refl
 
 -- The game isn't begun.
-pub not_begun : (g : Story) (seed : ℕ) (text : Option (List ℕ)) (before after bytes : List ℕ) → (begun_answer g seed).session ≡ Absent →
+pub not_begun : (g : Story) (seed : Seed) (text : Option (List ℕ)) (before after bytes : List ℕ) → (begun_answer g seed).session ≡ Absent →
     after ≡ before ++ (begun_answer g seed).body → bytes ≡ [] → Answers g (answer g seed Absent text) before after bytes
 not_begun g seed text before after bytes none grown empty =
     rw (answer_absent g seed text, with_absent g text (begun_answer g seed).body (begun_answer g seed).session none) (record {
@@ -40,20 +41,20 @@ not_begun g seed text before after bytes none grown empty =
     })
 
 -- It is, and no text is taken.
-pub just_begun : (g : Story) (seed : ℕ) (before after bytes : List ℕ) → (begun_answer g seed).session ≡ At seed [] →
+pub just_begun : (g : Story) (seed : Seed) (before after bytes : List ℕ) → (begun_answer g seed).session ≡ At seed [] →
     after ≡ before ++ (begun_answer g seed).body → Stands g seed [] bytes → Answers g (answer g seed Absent None) before after bytes
 just_begun g seed before after bytes at grown stands = rw (answer_absent g seed None) (record {
   body = grown;
   stores = subst (λ s. Stores g s bytes) (sym at) stands;
 })
 
-begun_takes : (g : Story) (seed : ℕ) (text : List ℕ) → (begun_answer g seed).session ≡ At seed [] →
+begun_takes : (g : Story) (seed : Seed) (text : Text) → (begun_answer g seed).session ≡ At seed [] →
     answer g seed Absent (Some text)
     ≡ record { body = (begun_answer g seed).body ++ (answer_taking g seed [] text).body; session = (answer_taking g seed [] text).session }
 begun_takes g seed text at = answer_absent g seed (Some text) ∙ ap (begun_with_text g (Some text) (begun_answer g seed).body) at
 
 -- It is, and takes a text.
-pub begun_then : (g : Story) (seed : ℕ) (text before mid after bytes : List ℕ) → (begun_answer g seed).session ≡ At seed [] →
+pub begun_then : (g : Story) (seed : Seed) (text before mid after bytes : List ℕ) → (begun_answer g seed).session ≡ At seed [] →
     mid ≡ before ++ (begun_answer g seed).body → Answers g (answer_taking g seed [] text) mid after bytes →
     Answers g (answer g seed Absent (Some text)) before after bytes
 begun_then g seed text before mid after bytes at grown a = rw (begun_takes g seed text at) (record {
@@ -63,14 +64,14 @@ begun_then g seed text before mid after bytes at grown a = rw (begun_takes g see
 
 -- ---- what a crash leaves of them meanwhile ----
 
-gone_at : (seed : ℕ) (a b : List (List ℕ)) (e : Ending) → (o : List (List ℕ)) × ((gone_on (At seed a) (At seed b) e).session ≡ At seed o)
+gone_at : (seed : Seed) (a b : List (List ℕ)) (e : Ending) → (o : List (List ℕ)) × ((gone_on (At seed a) (At seed b) e).session ≡ At seed o)
 gone_at seed a b (WaitsAt p path r) = (b, refl)
 gone_at seed a b (Halted halt.Over r) = (b, refl)
 gone_at seed a b (Halted (halt.Spent kind) r) = (a, refl)
 gone_at seed a b (Halted (halt.TooDeep table) r) = (a, refl)
 gone_at seed a b Unended = (b, refl)
 
-taken_by : (seed : ℕ) (es : List (List ℕ)) (text : List ℕ) (e : Ending) (over full : Bool) → (o : List (List ℕ)) ×
+taken_by : (seed : Seed) (es : Lines) (text : Text) (e : Ending) (over full : Bool) → (o : List (List ℕ)) ×
     ((if over then record { body = codes "over"; session = At seed es } else if full then record { body = codes "full"; session = At seed es }
     else gone_on (At seed es) (At seed (es ++ text ∷ [])) e).session ≡ At seed o)
 taken_by seed es text e true full = (es, refl)
@@ -78,22 +79,22 @@ taken_by seed es text e false true = (es, refl)
 taken_by seed es text e false false = gone_at seed es (es ++ text ∷ []) e
 
 -- A text leaves a session.
-taken_at : (g : Story) (seed : ℕ) (es : List (List ℕ)) (text : List ℕ) → (o : List (List ℕ)) × ((answer_taking g seed es text).session ≡ At seed o)
+taken_at : (g : Story) (seed : Seed) (es : Lines) (text : Text) → (o : List (List ℕ)) × ((answer_taking g seed es text).session ≡ At seed o)
 taken_at g seed es text =
     taken_by seed es text (reading g seed (es ++ text ∷ [])) (is_over (reading g seed es)) (nat_le EVENT_LIMIT (length es))
 
-answer_at : (g : Story) (seed : ℕ) (text : Option (List ℕ)) → (begun_answer g seed).session ≡ At seed [] →
+answer_at : (g : Story) (seed : Seed) (text : Option (List ℕ)) → (begun_answer g seed).session ≡ At seed [] →
     (o : List (List ℕ)) × ((answer g seed Absent text).session ≡ At seed o)
 answer_at g seed None at = ([], ap (λ (a : Answer). a.session) (answer_absent g seed None) ∙ at)
 answer_at g seed (Some text) at =
     let t = taken_at g seed [] text in (t.0, ap (λ (a : Answer). a.session) (begun_takes g seed text at) ∙ t.1)
 
-making_by : (g : Story) (seed : ℕ) (s : NamedSession) (o : List (List ℕ)) (bytes : List ℕ) → s ≡ At seed o → IsUnmade (recover bytes) ⊎ Stands g seed [] bytes →
+making_by : (g : Story) (seed : Seed) (s : NamedSession) (o : List (List ℕ)) (bytes : Bytes) → s ≡ At seed o → IsUnmade (recover bytes) ⊎ Stands g seed [] bytes →
     LeftOfMaking g seed Absent s bytes
 making_by g seed s o bytes e h = subst (λ x. LeftOfMaking g seed Absent x bytes) (sym e) h
 
 -- While the game is begun.
-pub in_new_begun : (g : Story) (seed : ℕ) (text : Option (List ℕ)) (old m : Standing) → InFile (LeftOfBeginning g seed) old m →
+pub in_new_begun : (g : Story) (seed : Seed) (text : Option (List ℕ)) (old m : Standing) → InFile (LeftOfBeginning g seed) old m →
     InFile (LeftOf g seed Absent (answer g seed Absent text).session) old m
 in_new_begun g seed text old m i = record {
   asked = i.asked;
@@ -117,7 +118,7 @@ in_file_from Left old mid m b i = record {
 }
 
 -- While it takes a text.
-pub in_new_taking : (g : Story) (seed : ℕ) (text : List ℕ) (old mid : Standing) (m : Standing) → (begun_answer g seed).session ≡ At seed [] →
+pub in_new_taking : (g : Story) (seed : Seed) (text : Text) (old mid : Standing) (m : Standing) → (begun_answer g seed).session ≡ At seed [] →
     ChangesStoreOnly old mid →
     InFile (StoresEither g (At seed []) (answer_taking g seed [] text).session) mid m →
     InFile (LeftOf g seed Absent (answer g seed Absent (Some text)).session) old m

@@ -3,6 +3,7 @@ use Rattle.std.proofs.Common.{◌≡◌, inl, inr, ℕ, ◌<◌, ◌^◌, List, 
 use Rattle.std.proofs.Common.{length, nat_le, Option, Some, None}
 use Rattle.std.specs.Prelude.{codes, if◌then◌else◌}
 use Rattle.std.proofs.lemmas.List.Elements.{All-append, All-cons, All-nil}
+use Rattle.paw_base.specs.Bytes.{Lines, Text, Seed}
 use Rattle.paw_base.specs.declared.limits.TheConstants.{EVENT_LIMIT}
 use Rattle.paw_effects.specs.Story.{Story}
 use Rattle.paw_reading.specs.Bounds.{IsLine, ValidStory}
@@ -22,7 +23,7 @@ abbrev pub IfLine : Option (List ℕ) → Type 0
 IfLine None = Unit {0}
 IfLine (Some text) = IsLine text
 
-one_more : (g : Story) (own : ℕ) (es : List (List ℕ)) (text : List ℕ) → IsPlayedWith g own es → IsLine text → IsPlayedWith g own (es ++ text ∷ [])
+one_more : (g : Story) (own : ℕ) (es : Lines) (text : Text) → IsPlayedWith g own es → IsLine text → IsPlayedWith g own (es ++ text ∷ [])
 one_more g own es text p l =
     record { valid = p.valid; fits = p.fits; lines = All-append IsLine es (text ∷ []) p.lines (All-cons IsLine text [] l (All-nil IsLine)) }
 
@@ -33,7 +34,7 @@ gone_may g old new (Halted (halt.Spent kind) r) a b = a
 gone_may g old new (Halted (halt.TooDeep table) r) a b = a
 gone_may g old new Unended a b = b
 
-taken_may_by : (g : Story) (own : ℕ) (es : List (List ℕ)) (text : List ℕ) (e : Ending) (over full : Bool) → IsPlayedWith g own es →
+taken_may_by : (g : Story) (own : ℕ) (es : Lines) (text : Text) (e : Ending) (over full : Bool) → IsPlayedWith g own es →
     IsPlayedWith g own (es ++ text ∷ []) →
     MayBe g (if over then record { body = codes "over"; session = At own es } else if full then record { body = codes "full"; session = At own es }
     else gone_on (At own es) (At own (es ++ text ∷ [])) e).session
@@ -41,7 +42,7 @@ taken_may_by g own es text e true full a b = a
 taken_may_by g own es text e false true a b = a
 taken_may_by g own es text e false false a b = gone_may g (At own es) (At own (es ++ text ∷ [])) e a b
 
-taken_may : (g : Story) (own : ℕ) (es : List (List ℕ)) (text : List ℕ) → IsPlayedWith g own es → IsLine text → MayBe g (answer_taking g own es text).session
+taken_may : (g : Story) (own : ℕ) (es : Lines) (text : Text) → IsPlayedWith g own es → IsLine text → MayBe g (answer_taking g own es text).session
 taken_may g own es text p l =
     taken_may_by g own es text (reading g own (es ++ text ∷ [])) (is_over (reading g own es)) (nat_le EVENT_LIMIT (length es)) p (one_more g own es text p l)
 
@@ -52,7 +53,7 @@ begun_may g (Some text) body (At own es) p l = taken_may g own es text p l
 begun_may g (Some text) body (Refused bytes) p l = tt
 
 -- What a session becomes that may be.
-pub answer_may : (g : Story) (seed : ℕ) (before : NamedSession) (text : Option (List ℕ)) → ValidStory g → seed < 2 ^ 64 → IfLine text → MayBe g before →
+pub answer_may : (g : Story) (seed : Seed) (before : NamedSession) (text : Option (List ℕ)) → ValidStory g → seed < 2 ^ 64 → IfLine text → MayBe g before →
     MayBe g (answer g seed before text).session
 unfolding answer
 answer_may g seed Absent text valid small l p =
@@ -63,7 +64,7 @@ answer_may g seed (At own es) (Some text) valid small l p = taken_may g own es t
 answer_may g seed (Refused bytes) text valid small l p = tt
 
 -- What all sessions become.
-pub all_may : (g : Story) (seed : ℕ) (sessions : Sessions) (request : Option Request) → ValidStory g → seed < 2 ^ 64 →
+pub all_may : (g : Story) (seed : Seed) (sessions : Sessions) (request : Option Request) → ValidStory g → seed < 2 ^ 64 →
     ((r : Request) → request ≡ Some r → (is_name r.name ≡ true) × IfLine r.text) → AllMay g sessions → AllMay g (sessions_with g seed sessions request)
 all_may g seed sessions None valid small lines may = may
 all_may g seed sessions (Some r) valid small lines may = λ name is. elim (same_or_not name r.name) [

@@ -3,6 +3,7 @@ use Rattle.std.proofs.Common.{◌≡◌, ◌⊎◌, inl, inr, ℕ, zero, suc, �
 use Rattle.std.proofs.Common.{take}
 use Rattle.std.specs.Prelude.{All}
 use Rattle.std.proofs.lemmas.List.Elements.{All-nil, All-head, All-tail, All-take}
+use Rattle.paw_base.specs.Bytes.{Bytes, Lines, Text, Name, Seed}
 use Rattle.paw_effects.specs.Story.{Story}
 use Rattle.paw_effects.specs.Standing.{AreBytes}
 use Rattle.paw_reading.specs.Bounds.{IsLine, ValidStory}
@@ -19,7 +20,7 @@ use Rattle.paw_host.proofs.Hosting.{asks_line}
 use Rattle.paw_host.proofs.Reaching.{not_shown}
 
 -- Whatever lines were taken, each session may be.
-may_after : (g : Story) (seed : ℕ) (first : Sessions) (lines : List (List ℕ)) → ValidStory g → seed < 2 ^ 64 → All AreBytes lines → AllMay g first →
+may_after : (g : Story) (seed : Seed) (first : Sessions) (lines : Lines) → ValidStory g → seed < 2 ^ 64 → All AreBytes lines → AllMay g first →
     AllMay g (sessions_after g seed first lines)
 unfolding sessions_after
 may_after g seed first [] valid small bytes may = may
@@ -27,14 +28,14 @@ may_after g seed first (line ∷ lines) valid small bytes may =
     may_after g seed (sessions_with g seed first (request_of line)) lines valid small (All-tail AreBytes line lines bytes)
     (all_may g seed first (request_of line) valid small (asks_line line (All-head AreBytes line lines bytes)) may)
 
-may_before : (g : Story) (seed : ℕ) (first : Sessions) (lines : List (List ℕ)) (n : ℕ) → ValidStory g → seed < 2 ^ 64 → All AreBytes lines → AllMay g first →
+may_before : (g : Story) (seed : Seed) (first : Sessions) (lines : Lines) (n : ℕ) → ValidStory g → seed < 2 ^ 64 → All AreBytes lines → AllMay g first →
     AllMay g (sessions_after g seed first (before_last lines n))
 may_before g seed first lines zero valid small bytes may = may_after g seed first [] valid small (All-nil AreBytes) may
 may_before g seed first lines (suc n) valid small bytes may =
     may_after g seed first (take n lines) valid small (All-take AreBytes n lines bytes) may
 
 -- What a crash leaves while the last of n lines is at work.
-left_at : (g : Story) (seed : ℕ) (first : Sessions) (lines : List (List ℕ)) (n : ℕ) (text : List ℕ) (m : Standing) → IsUpToDate g seed first lines n text m →
+left_at : (g : Story) (seed : Seed) (first : Sessions) (lines : Lines) (n : ℕ) (text : Text) (m : Standing) → IsUpToDate g seed first lines n text m →
     EachLeft g seed (sessions_after g seed first (before_last lines n)) (sessions_after g seed first (take n lines)) m
 unfolding sessions_after
 left_at g seed first lines zero text m k = λ name is bytes may. inl (k.1 name is bytes may)
@@ -44,13 +45,13 @@ left_at g seed first lines (suc n) text m k = k.0
 abbrev Found : Story → ℕ → NamedSession → NamedSession → List ℕ → NamedSession → Type 0
 Found g seed before after bytes s = MayBe g s × Stores g s bytes × AfterCrash seed before after s
 
-half : (g : Story) (seed own : ℕ) (lines : List (List ℕ)) (bytes : List ℕ) → IsUnmade (recover bytes) →
+half : (g : Story) (seed : Seed) (own : ℕ) (lines : Lines) (bytes : Bytes) → IsUnmade (recover bytes) →
     (s : NamedSession) × Found g seed Absent (At own lines) bytes s
 half g seed own lines [] h = (Absent, (tt, refl, as_before))
 half g seed own lines (b ∷ bytes) h =
     (Refused (b ∷ bytes), (tt, (refl, (λ e. cc, λ some. not_shown (recover (b ∷ bytes)) _ _ _ h some.shows.shown)), half_made (b ∷ bytes) refl tt))
 
-in_making : (g : Story) (seed : ℕ) (before after : NamedSession) (bytes : List ℕ) → ValidStory g → seed < 2 ^ 64 → LeftOfMaking g seed before after bytes →
+in_making : (g : Story) (seed : Seed) (before after : NamedSession) (bytes : Bytes) → ValidStory g → seed < 2 ^ 64 → LeftOfMaking g seed before after bytes →
     (s : NamedSession) × Found g seed before after bytes s
 in_making g seed Absent (At own lines) bytes valid small (inl h) = half g seed own lines bytes h
 in_making g seed Absent (At own lines) bytes valid small (inr h) =
@@ -60,7 +61,7 @@ in_making g seed Absent (Refused kept) bytes valid small h = absurd h
 in_making g seed (At own lines) after bytes valid small h = absurd h
 in_making g seed (Refused kept) after bytes valid small h = absurd h
 
-found : (g : Story) (seed : ℕ) (before after : NamedSession) (bytes : List ℕ) (Attached : Type 0) → ValidStory g → seed < 2 ^ 64 → MayBe g before →
+found : (g : Story) (seed : Seed) (before after : NamedSession) (bytes : Bytes) (Attached : Type 0) → ValidStory g → seed < 2 ^ 64 → MayBe g before →
     MayBe g after →
     Stores g before bytes ⊎ (Attached × (Stores g after bytes ⊎ LeftOfMaking g seed before after bytes)) → (s : NamedSession)
     × Found g seed before after bytes s
@@ -88,7 +89,7 @@ may_be_begun_again g seed first old next m valid small b i left lines =
     after : Sessions
     after = sessions_after g seed first (take i.taken old.lines)
 
-    one : (name : List ℕ) → is_name name ≡ true → (s : NamedSession) × Found g seed (before name) (after name) (file_bytes next (store_name name)) s
+    one : (name : Name) → is_name name ≡ true → (s : NamedSession) × Found g seed (before name) (after name) (file_bytes next (store_name name)) s
     one name is = found g seed (before name) (after name) (file_bytes next (store_name name)) (m.attached ≡ Some (store_name name)) valid small
         (may_before g seed first old.lines i.taken valid small b.lines b.may name is)
         (may_after g seed first (take i.taken old.lines) valid small (All-take AreBytes i.taken old.lines b.lines) b.may name is)
@@ -97,6 +98,6 @@ may_be_begun_again g seed first old next m valid small b i left lines =
     again : Sessions
     again name = chosen (is_name name) (λ is. (one name is).0)
 
-    each : (name : List ℕ) → is_name name ≡ true → Found g seed (before name) (after name) (file_bytes next (store_name name)) (again name)
+    each : (name : Name) → is_name name ≡ true → Found g seed (before name) (after name) (file_bytes next (store_name name)) (again name)
     each name is = chosen_is (is_name name) (λ t. (one name t).0) (Found g seed (before name) (after name) (file_bytes next (store_name name)))
         (λ t. (one name t).1) is

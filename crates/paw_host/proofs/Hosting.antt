@@ -5,6 +5,7 @@ use Rattle.std.proofs.Common.{refl, sym, ap, ◌∙◌, subst, length, take, dro
 use Rattle.std.specs.Prelude.{All, position, IfSome, if◌then◌else◌}
 use Rattle.std.proofs.lemmas.List.{append-nil, take-append-drop, length-drop, length-take}
 use Rattle.std.proofs.lemmas.List.Elements.{All-drop, All-take, All-head}
+use Rattle.paw_base.specs.Bytes.{Bytes, Line, Lines, Text, Seed}
 use Rattle.paw_base.specs.declared.limits.TheConstants.{LINE_LIMIT}
 use Rattle.paw_effects.specs.Story.{Story}
 use Rattle.paw_effects.specs.Standing.{AreBytes}
@@ -41,16 +42,16 @@ all_left g sessions s stores settled holds name is bytes may =
 -- ---- what a line asks for ----
 
 -- What the first bytes of a line ask for is what the line does.
-pub cut_request : (line into given : List ℕ) (n : ℕ) → IsCut line into n → given ≡ take n into → request_in given ≡ request_of line
+pub cut_request : (line into given : Bytes) (n : ℕ) → IsCut line into n → given ≡ take n into → request_in given ≡ request_of line
 unfolding request_of
 cut_request line into given n cut e = ap request_in (e ∙ cut.same)
 
-text_line : (line : List ℕ) (at : Option ℕ) → length line ≤ LINE_LIMIT → AreBytes line → IfLine (split_at line at).text
+text_line : (line : Line) (at : Option ℕ) → length line ≤ LINE_LIMIT → AreBytes line → IfLine (split_at line at).text
 text_line line None short bytes = tt
 text_line line (Some at) short bytes =
     record { short = omega (arith, length-drop (at + 1) line, short); bytes = All-drop (λ b. b < 256) (at + 1) line bytes }
 
-request_line : (line : List ℕ) (named : Bool) → is_name (line_split line).name ≡ named → length line ≤ LINE_LIMIT → AreBytes line → (r : Request) →
+request_line : (line : Line) (named : Bool) → is_name (line_split line).name ≡ named → length line ≤ LINE_LIMIT → AreBytes line → (r : Request) →
     (if named then Some (line_split line) else None) ≡ Some r → (is_name r.name ≡ true) × IfLine r.text
 request_line line true is short bytes r e =
     let same : line_split line ≡ r = cc in
@@ -58,19 +59,19 @@ request_line line true is short bytes r e =
 request_line line false is short bytes r e = cc
 
 -- A name, and a text that is a line.
-pub asks_line : (line : List ℕ) → AreBytes line → (r : Request) → request_of line ≡ Some r → (is_name r.name ≡ true) × IfLine r.text
+pub asks_line : (line : Line) → AreBytes line → (r : Request) → request_of line ≡ Some r → (is_name r.name ≡ true) × IfLine r.text
 unfolding request_of
 asks_line line bytes r e =
     request_line (take LINE_LIMIT line) (is_name (line_split (take LINE_LIMIT line)).name) refl (omega (arith, length-take LINE_LIMIT line))
     (All-take (λ b. b < 256) LINE_LIMIT line bytes) r e
 
 -- Each line that is left is made of bytes.
-line_bytes : (lines : List (List ℕ)) (n : ℕ) (line : List ℕ) (rest : List (List ℕ)) → drop n lines ≡ line ∷ rest → All AreBytes lines → AreBytes line
+line_bytes : (lines : Lines) (n : ℕ) (line : Line) (rest : List (List ℕ)) → drop n lines ≡ line ∷ rest → All AreBytes lines → AreBytes line
 line_bytes lines n line rest e all = All-head AreBytes line rest (subst (All AreBytes) e (All-drop AreBytes n lines all))
 
 -- ---- before the first line ----
 
-pub serving_first : (g : Story) (seed : ℕ) (first : Sessions) (old : Standing) → BeginsWith g first old → IsStable old.disk → IsServing g seed first old old 0
+pub serving_first : (g : Story) (seed : Seed) (first : Sessions) (old : Standing) → BeginsWith g first old → IsStable old.disk → IsServing g seed first old old 0
 unfolding sessions_after replies attached_after
 serving_first g seed first old b settled = record {
   answered = record {
@@ -89,7 +90,7 @@ serving_first g seed first old b settled = record {
 -- ---- at a prompt ----
 
 -- The replies to one line more are those before, and its own.
-grown : (g : Story) (seed : ℕ) (lines : List (List ℕ)) (n : ℕ) (at : Sessions) →
+grown : (g : Story) (seed : Seed) (lines : Lines) (n : ℕ) (at : Sessions) →
     (more : List ℕ) × (replies g seed at (take (suc n) lines) ≡ replies g seed at (take n lines) ++ more)
 unfolding replies
 grown g seed [] zero at = ([], refl)
@@ -102,7 +103,7 @@ grown g seed (l ∷ lines) (suc n) at =
           ∙ sym (append_assoc (reply_to g seed at (request_of l)) (replies g seed (sessions_with g seed at (request_of l)) (take n lines)) r.0),
     )
 
-keeps_now : (g : Story) (seed : ℕ) (first : Sessions) (start : Option (List ℕ)) (lines : List (List ℕ)) (n : ℕ) (m : Standing) → n ≤ length lines →
+keeps_now : (g : Story) (seed : Seed) (first : Sessions) (start : Option (List ℕ)) (lines : Lines) (n : ℕ) (m : Standing) → n ≤ length lines →
     m.attached ≡ attached_after start (take n lines) → AllLeft g (sessions_after g seed first (take n lines)) m →
     IsUpToDate g seed first lines n (replies g seed first (take n lines)) m
 unfolding sessions_after replies
@@ -117,7 +118,7 @@ keeps_now g seed first start lines (suc n) m there attached h =
       inr ((grown g seed lines n first, ([], append-nil (replies g seed first (take (suc n) lines)))), h),
     )
 
-at_prompt : (g : Story) (seed : ℕ) (first : Sessions) (old now : Standing) (n : ℕ) → IsServing g seed first old now n → FilesHold now →
+at_prompt : (g : Story) (seed : Seed) (first : Sessions) (old now : Standing) (n : ℕ) → IsServing g seed first old now n → FilesHold now →
     InHost g seed first old now
 at_prompt g seed first old now n s holds = record {
   taken = n;
@@ -131,12 +132,12 @@ at_prompt g seed first old now n s holds = record {
   others = s.answered.others;
 }
 
-pub still_at_prompt : (g : Story) (seed : ℕ) (first : Sessions) (old now : Standing) (n : ℕ) → IsServing g seed first old now n → FilesHold now →
+pub still_at_prompt : (g : Story) (seed : Seed) (first : Sessions) (old now : Standing) (n : ℕ) → IsServing g seed first old now n → FilesHold now →
     (m : Standing) → m ≡ now → InHost g seed first old m
 still_at_prompt g seed first old now n s holds m e = subst (InHost g seed first old) (sym e) (at_prompt g seed first old now n s holds)
 
 -- No line is left.
-pub all_answered : (g : Story) (seed : ℕ) (first : Sessions) (old now : Standing) (n : ℕ) → IsServing g seed first old now n →
+pub all_answered : (g : Story) (seed : Seed) (first : Sessions) (old now : Standing) (n : ℕ) → IsServing g seed first old now n →
     now.lines ≡ [] → n ≡ length old.lines
 all_answered g seed first old now n s none = drop_all old.lines n (sym s.answered.lines ∙ none) s.answered.there
 
@@ -146,7 +147,7 @@ nothing_attached (Some r) attached = inl refl
 
 -- ---- one line more ----
 
-module _ (g : Story) (seed : ℕ) (first : Sessions) (old now mid : Standing) (n : ℕ) (line : List ℕ) (s : IsServing g seed first old now n)
+module _ (g : Story) (seed : Seed) (first : Sessions) (old now mid : Standing) (n : ℕ) (line : Line) (s : IsServing g seed first old now n)
     (holds : FilesHold now)
     (left : now.lines ≡ line ∷ mid.lines) (took : mid ≡ record now { lines = mid.lines; asked = now.asked + 1 }) where
   abbrev before : Sessions
@@ -279,7 +280,7 @@ module _ (g : Story) (seed : ℕ) (first : Sessions) (old now mid : Standing) (n
       settled = settled;
     })
 
-  module _ (request : Option Request) (text : List ℕ) (done : Standing) (same : request ≡ request_of line)
+  module _ (request : Option Request) (text : Text) (done : Standing) (same : request ≡ request_of line)
       (does : AnswersRequest g seed before request text mid done)
       (settled : IsStable done.disk) where
     is_done : AnswersRequest g seed before (request_of line) text mid done
@@ -307,7 +308,7 @@ ends_inside clock now past since P m h at before = elim (h.nothing_else clock m 
 ]
 
 -- What the last line did, if there was one.
-pub hosts_by : (g : Story) (seed : ℕ) (first : Sessions) (old new : Standing) (n : ℕ) (o : HostOutcome) → ServesTo g seed first old new n (Some o) →
+pub hosts_by : (g : Story) (seed : Seed) (first : Sessions) (old new : Standing) (n : ℕ) (o : HostOutcome) → ServesTo g seed first old new n (Some o) →
     InHost g seed first old new → Hosts g seed first old new o
 hosts_by g seed first old new n outcome.InputEnded h i = subst (Answered g seed first old new) h.0 h.1.answered
 hosts_by g seed first old new n outcome.Usage h i = absurd h
@@ -351,7 +352,7 @@ ends_by old now new n outcome.Memory h few k among = absurd k
 ends_by old now new n (outcome.Long lines) h few k among = absurd k
 
 -- Before the first line.
-pub at_first : (g : Story) (seed : ℕ) (first : Sessions) (old : Standing) → BeginsWith g first old → IsStable old.disk → FilesHold old →
+pub at_first : (g : Story) (seed : Seed) (first : Sessions) (old : Standing) → BeginsWith g first old → IsStable old.disk → FilesHold old →
     (m : Standing) → m ≡ old → InHost g seed first old m
 at_first g seed first old b settled holds m e = still_at_prompt g seed first old old 0 (serving_first g seed first old b settled) holds m e
 
@@ -362,5 +363,5 @@ pub asked_settled : (old new : Standing) → new ≡ record old { lines = new.li
 asked_settled old new e h = subst (λ (q : Standing). IsStable q.disk) (sym e) h
 
 -- And so does a text that was shown.
-pub shown_settled : (old new : Standing) (text : List ℕ) → new ≡ with_shown text old → IsStable old.disk → IsStable new.disk
+pub shown_settled : (old new : Standing) (text : Text) → new ≡ with_shown text old → IsStable old.disk → IsStable new.disk
 shown_settled old new text e h = subst (λ (q : Standing). IsStable q.disk) (sym e) h

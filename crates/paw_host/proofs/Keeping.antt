@@ -2,6 +2,7 @@
 use Rattle.std.proofs.Common.{◌≡◌, inl, ℕ, ◌<◌, List, [], ◌++◌, refl, sym, ap, ◌∙◌, subst, length, arith, Option, Some}
 use Rattle.std.proofs.Common.{None}
 use Rattle.std.specs.Prelude.{codes}
+use Rattle.paw_base.specs.Bytes.{Bytes, Lines, Text, Seed}
 use Rattle.paw_effects.specs.Story.{Story}
 use Rattle.paw_reading.specs.Turn.{reading, pieces_of}
 use Rattle.paw_stage.specs.Disk.{IsStable}
@@ -15,7 +16,7 @@ use Rattle.paw_host.specs.Replies.{NamedSession, Absent, At, Refused, Answer, an
 use Rattle.paw_host.specs.Promise.{Stores, MayBe}
 use Rattle.paw_host.specs.inner.Answers.{Answers, InFile, StoresEither}
 
-module _ (g : Story) (seed : ℕ) (bytes : List ℕ) (some : 0 < length bytes) where
+module _ (g : Story) (seed : Seed) (bytes : Bytes) (some : 0 < length bytes) where
   no_absent : {A : Type 0} → bytes ≡ [] → A
   no_absent e = absurd (omega (arith, some, ap length e))
 
@@ -31,8 +32,8 @@ module _ (g : Story) (seed : ℕ) (bytes : List ℕ) (some : 0 < length bytes) w
   kept_refused (Refused kept) text old new may stores none grown = record { body = grown; stores = stores }
 
   -- It has one, and answers with its last piece.
-  pub kept_told : (before : NamedSession) (old new piece : List ℕ) → MayBe g before → Stores g before bytes → ShowsSome g bytes →
-      ((own : ℕ) (es : List (List ℕ)) → IsPlayedWith g own es → Stands g own es bytes → piece ≡ last_piece (pieces_of (reading g own es))) →
+  pub kept_told : (before : NamedSession) (old new piece : Bytes) → MayBe g before → Stores g before bytes → ShowsSome g bytes →
+      ((own : ℕ) (es : Lines) → IsPlayedWith g own es → Stands g own es bytes → piece ≡ last_piece (pieces_of (reading g own es))) →
       new ≡ old ++ piece → Answers g (answer g seed before None) old new bytes
   unfolding answer
   kept_told Absent old new piece may stores shows last grown = no_absent stores
@@ -41,8 +42,8 @@ module _ (g : Story) (seed : ℕ) (bytes : List ℕ) (some : 0 < length bytes) w
   kept_told (Refused kept) old new piece may stores shows last grown = no_refused kept stores shows
 
   -- It has one, which takes a text: what holds of each session that does so holds of this one.
-  pub kept_each : (P : NamedSession → Answer → Type 0) (before : NamedSession) (text : List ℕ) → MayBe g before → Stores g before bytes → ShowsSome g bytes →
-      ((own : ℕ) (es : List (List ℕ)) → IsPlayedWith g own es → Stands g own es bytes → P (At own es) (answer_taking g own es text)) →
+  pub kept_each : (P : NamedSession → Answer → Type 0) (before : NamedSession) (text : Text) → MayBe g before → Stores g before bytes → ShowsSome g bytes →
+      ((own : ℕ) (es : Lines) → IsPlayedWith g own es → Stands g own es bytes → P (At own es) (answer_taking g own es text)) →
       P before (answer g seed before (Some text))
   unfolding answer
   kept_each P Absent text may stores shows each = no_absent stores

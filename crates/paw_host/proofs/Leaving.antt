@@ -1,7 +1,8 @@
 -- What calls in a row did to the stage, and in which state the store is after them.
-use Rattle.std.proofs.Common.{◌≡◌, ℕ, List, ◌∷◌, [], Option, None, Result}
+use Rattle.std.proofs.Common.{◌≡◌, List, ◌∷◌, [], Option, None, Result}
 use Rattle.std.proofs.lemmas.Result.{on_ok_weaker}
 use Rattle.std.specs.Prelude.{OnOk}
+use Rattle.paw_base.specs.Bytes.{Name}
 use Rattle.paw_stage.specs.declared.Stage.{Ghosts}
 use Rattle.paw_stage.specs.declared.StageCall.{StageCall}
 use Rattle.paw_stage.specs.declared.StageCall.TheVariants as call
@@ -36,7 +37,7 @@ leaves_read g failed Left old new reads left = record {
 -- The store of this name is attached, and calls follow that change it alone: it is attached still, and all else is
 -- as before.
 pub leaves_attached : {S A E : Type 0} (g : Ghosts S) (first calls : List StageCall) (failed : Option StageCall) (result : Result A E)
-    (name : List ℕ) (old mid new : S) → ((c : StageCall) → IsOneOf calls c → IsOneOf answer_calls c) → FailsOnlyBy g first None old mid →
+    (name : Name) (old mid new : S) → ((c : StageCall) → IsOneOf calls c → IsOneOf answer_calls c) → FailsOnlyBy g first None old mid →
     (g.Tells old → g.standing mid ≡ with_store_opened name (g.standing old)) →
     LeavesStage g calls failed ChangesStoreOnly (λ before after. OnOk result (IsAtRest after)) mid new →
     LeavesStage g answer_calls failed (IsAside name) (λ before after. OnOk result (IsAttachedStable name after)) old new

@@ -6,6 +6,7 @@ use Rattle.std.proofs.Common.{true, take, length, arith}
 use Rattle.std.proofs.Common.{Some, codes}
 use Rattle.std.proofs.lemmas.List.{append-nil, take_all}
 use Rattle.std.specs.Prelude.{reverse}
+use Rattle.paw_base.specs.Bytes.{Bytes, Lines, Seed}
 use Rattle.paw_base.specs.declared.limits.TheConstants.{PIECE_LIMIT}
 use Rattle.sha2.specs.Sha256.{sha256}
 use Rattle.paw_game.specs.Game.{GameLists}
@@ -51,7 +52,7 @@ use Rattle.paw_host.proofs.Sitting.{kept_gone, same_digests, same_piece, same_ha
 
 -- ---- the piece before the first line ----
 
-sits_by : {F : Type 0} (g : Story) (seed : ℕ) (found : Step) (next : PlayerView F) → next.last ≡ found →
+sits_by : {F : Type 0} (g : Story) (seed : Seed) (found : Step) (next : PlayerView F) → next.last ≡ found →
     PlaysTo g (reading g seed) found next [] [] → IsStanding found → SitsAt g seed [] next
 sits_by g seed (step.Waits p) next is plays shows = record {
   whole = reading g seed;
@@ -75,7 +76,7 @@ sits_by g seed step.Ended next is plays shows = record {
 sits_by g seed (step.Spent kind) next is plays shows = absurd shows
 sits_by g seed (step.TooDeep table) next is plays shows = absurd shows
 
-module _ {F : Type 0} (g : Story) (seed : ℕ) (found : Step) (next : PlayerView F) (is : next.last ≡ found) (seated : IsSeated next)
+module _ {F : Type 0} (g : Story) (seed : Seed) (found : Step) (next : PlayerView F) (is : next.last ≡ found) (seated : IsSeated next)
     (plays : PlaysTo g (reading g seed) found next [] []) where
   pub sits : IsStanding found → SitsAt g seed [] next
   sits shows = sits_by g seed found next is plays shows
@@ -87,7 +88,7 @@ module _ {F : Type 0} (g : Story) (seed : ℕ) (found : Step) (next : PlayerView
   pub first_answer : IsStanding found → begun_answer g seed ≡ record { body = next.piece; session = At seed [] }
   first_answer shows = kept_gone (story_digests g) (seat_state 0 next) next.piece 0 _ _ _ (first_kept (story_digests g) shows)
 
-  pub first_stands : (bytes : List ℕ) → IsStanding found → recover bytes ≡ Shown (story_digests g) (seat_state 0 next) next.piece → Stands g seed [] bytes
+  pub first_stands : (bytes : Bytes) → IsStanding found → recover bytes ≡ Shown (story_digests g) (seat_state 0 next) next.piece → Stands g seed [] bytes
   first_stands bytes shows e = record {
     few = omega arith;
     digests = story_digests g;
@@ -106,7 +107,7 @@ module _ {F : Type 0} (g : Story) (seed : ℕ) (found : Step) (next : PlayerView
       ] plays e
 
   -- While the session is made.
-  pub in_beginning : (state : List ℕ) (old m : Standing) → IsStanding found → take state_length state ≡ seat_state 0 next →
+  pub in_beginning : (state : Bytes) (old m : Standing) → IsStanding found → take state_length state ≡ seat_state 0 next →
       LeavesMade (story_digests g) state next.piece old m → InFile (LeftOfBeginning g seed) old m
   in_beginning state old m shows e i = record {
     asked = i.asked;
@@ -125,13 +126,13 @@ module _ {F : Type 0} (g : Story) (seed : ℕ) (found : Step) (next : PlayerView
 -- ---- a session that is taken up ----
 
 -- A buffer begins with the bytes of a state.
-shows_kept : (digests : Digests) (bytes buffer piece : List ℕ) (st : State) →
+shows_kept : (digests : Digests) (bytes buffer piece : Bytes) (st : State) →
     recover bytes ≡ Shown digests (take state_length buffer) piece → take state_length buffer ≡ state_bytes st →
     recover bytes ≡ Shown digests (kept_bytes st) piece
 unfolding kept_bytes
 shows_kept digests bytes buffer piece st e k = e ∙ ap (λ b. Shown digests b piece) k
 
-pub read_shows : (g : GameLists) (digests : Digests) (bytes buffer piece : List ℕ) (r : Restored) →
+pub read_shows : (g : GameLists) (digests : Digests) (bytes buffer piece : Bytes) (r : Restored) →
     recover bytes ≡ session_shown digests buffer piece → IsRead g buffer r → ShowsState g digests bytes (state_read r) piece
 read_shows g digests bytes buffer piece r shown read =
     record { valid = read.valid; fits = read.fits; shown = shows_kept digests bytes buffer piece (state_read r) shown read.are }
@@ -150,15 +151,15 @@ waits_step prompt.Again p h = cc
 waits_step prompt.Key p h = cc
 waits_step prompt.Over p h = cc
 
-module _ {F : Type 0} (g : Story) (seed : ℕ) (es : List (List ℕ)) (digests : Digests) (bytes piece : List ℕ) (r : Restored) (routines : Routines F)
+module _ {F : Type 0} (g : Story) (seed : Seed) (es : Lines) (digests : Digests) (bytes piece : Bytes) (r : Restored) (routines : Routines F)
     (seat : PlayerView F)
     (played : IsPlayedWith g seed es) (stands : Stands g seed es bytes) (shows : ShowsState g.game digests bytes (state_read r) piece)
     (is : seat ≡ seat_at g.game routines r.world (only_counting r.machine) r.pending r.prompt) where
-  goes : (fs : List (List ℕ)) → going_on g (state_read r) piece fs ≡ going_on_from g r.prompt (reverse r.machine.frames) (run_at seat (piece ∷ []) [] fs)
+  goes : (fs : Lines) → going_on g (state_read r) piece fs ≡ going_on_from g r.prompt (reverse r.machine.frames) (run_at seat (piece ∷ []) [] fs)
   goes fs = goes_on_from g r.world r.machine r.pending r.prompt r.events r.piece piece fs
       ∙ ap (λ (q : PlayerView F). going_on_from g r.prompt (reverse r.machine.frames) (run_at q (piece ∷ []) [] fs)) (sym is)
 
-  goes_here : (fs : List (List ℕ)) → going_on g (state_read r) piece fs
+  goes_here : (fs : Lines) → going_on g (state_read r) piece fs
       ≡ going_on_from g r.prompt (reverse seat.machine.frames) (run_at seat (piece ∷ []) [] fs)
   goes_here fs = goes fs
       ∙ ap (λ (q : PlayerView F). going_on_from g r.prompt (reverse q.machine.frames) (run_at seat (piece ∷ []) [] fs)) (sym is)
@@ -192,10 +193,10 @@ module _ {F : Type 0} (g : Story) (seed : ℕ) (es : List (List ℕ)) (digests :
   last_shown = same_piece _ _ _ _ _ _ (sym shows.shown ∙ stands.keeps.shown)
 
 -- A player is seated with what was read of a session of the story.
-pub taken_up : {F : Type 0} (g : Story) (digests : Digests) (bytes state buffer piece : List ℕ) (r : Restored) (routines : Routines F) (seat : PlayerView F) →
+pub taken_up : {F : Type 0} (g : Story) (digests : Digests) (bytes state buffer piece : Bytes) (r : Restored) (routines : Routines F) (seat : PlayerView F) →
     recover bytes ≡ session_shown digests state piece → buffer ≡ state → IsOfStory g digests → IsRead g.game buffer r →
     piece_length buffer ≡ r.piece → seat ≡ seat_at g.game routines r.world (only_counting r.machine) r.pending r.prompt →
-    ShowsSome g bytes × ((seed : ℕ) (es : List (List ℕ)) → IsPlayedWith g seed es → Stands g seed es bytes →
+    ShowsSome g bytes × ((seed : Seed) (es : Lines) → IsPlayedWith g seed es → Stands g seed es bytes →
     SitsAt g seed es seat × (r.events ≡ length es)
     × (take PIECE_LIMIT piece ≡ last_piece (pieces_of (reading g seed es))))
 taken_up {F} g digests bytes state buffer piece r routines seat shown same belongs read told is =
@@ -214,7 +215,7 @@ taken_up {F} g digests bytes state buffer piece r routines seat shown same belon
 -- ---- a session that is refused ----
 
 -- A buffer that begins with the bytes of a state is fit.
-is_fit : (g : GameLists) (own : Digests) (bytes : List ℕ) (digests : Digests) (buffer piece q : List ℕ) (st : State) → ShowsState g own bytes st q →
+is_fit : (g : GameLists) (own : Digests) (bytes : Bytes) (digests : Digests) (buffer piece q : List ℕ) (st : State) → ShowsState g own bytes st q →
     recover bytes ≡ Shown digests (take state_length buffer) piece → Fit g buffer
 unfolding kept_bytes
 is_fit g own bytes digests buffer piece q st shows is =
@@ -224,13 +225,13 @@ is_fit g own bytes digests buffer piece q st shows is =
     same_state d s p e t q h = cc
 
 -- Bytes that a session can't be read of show none.
-pub unfit_shows_none : (g : Story) (digests : Digests) (bytes buffer piece : List ℕ) → recover bytes ≡ session_shown digests buffer piece →
+pub unfit_shows_none : (g : Story) (digests : Digests) (bytes buffer piece : Bytes) → recover bytes ≡ session_shown digests buffer piece →
     ¬ Fit g.game buffer → ¬ ShowsSome g bytes
 unfit_shows_none g digests bytes buffer piece shown unfit some =
     unfit (is_fit g.game some.digests bytes digests buffer piece some.piece some.state some.shows shown)
 
 -- Nor do those that are refused.
-pub refused_shows_none : (g : Story) (bytes : List ℕ) (e : JournalRefusal) →
+pub refused_shows_none : (g : Story) (bytes : Bytes) (e : JournalRefusal) →
     IsSessionRefused (recover bytes) (sha256 (image g.game)) (measure g.answers) e → ((c : StageCall) → e ≢ refusal.Outside c) → ¬ ShowsSome g bytes
 refused_shows_none g bytes (refusal.Unmade n mark) h other some =
     let clash : Unmade n mark ≡ Shown some.digests (kept_bytes some.state) some.piece = sym h ∙ some.shows.shown in cc

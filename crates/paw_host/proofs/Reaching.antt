@@ -3,6 +3,7 @@ use Rattle.std.proofs.Common.{◌≡◌, ◌≢◌, ◌⊎◌, inl, inr, ℕ, Li
 use Rattle.std.proofs.Common.{subst, bytes_eq, length, ◌∷◌}
 use Rattle.std.specs.Prelude.{if◌then◌else◌}
 use Rattle.std.proofs.lemmas.Slice.Eq.{bytes_eq-Decides}
+use Rattle.paw_base.specs.Bytes.{Bytes, Name, Seed}
 use Rattle.paw_stage.specs.Disk.{IsStable, stable}
 use Rattle.paw_stage.specs.Stage.{Standing, Files, file_bytes, bytes_or_none, made_if_missing, with_store_opened, Unattached}
 use Rattle.paw_stage.specs.Stage.{InAttach}
@@ -21,7 +22,7 @@ abbrev pub FilesHold : Standing → Type 0
 FilesHold s = (n : List ℕ) → s.attached ≡ Some n → file_bytes s n ≡ s.disk.bytes
 
 -- A moment at which nothing is done yet: a crash leaves of each file the bytes that it had.
-pub record IsBefore (name : List ℕ) (old m : Standing) : Type 0 where
+pub record IsBefore (name : Name) (old m : Standing) : Type 0 where
   pub asked : m.asked ≡ old.asked
   pub shown : m.shown ≡ old.shown
   pub files : (f : List ℕ) → f ≢ name → m.files f ≡ old.files f
@@ -59,7 +60,7 @@ none_left : (old : Standing) (f bytes : List ℕ) → MayBeLeft f (record old { 
 none_left old f bytes (inl h) = let no : ◌≡◌ {A = Option (List ℕ)} None (Some f) = h.0 in cc
 none_left old f bytes (inr h) = h.1
 
-module _ (old new : Standing) (name : List ℕ) (settled : IsStable old.disk) (holds : FilesHold old) where
+module _ (old new : Standing) (name : Name) (settled : IsStable old.disk) (holds : FilesHold old) where
   before_it : IsBefore name old old
   before_it = record { asked = refl; shown = refl; files = λ f ne. refl; attached = inl refl; left = rest_left old settled holds }
 
@@ -94,7 +95,7 @@ module _ (old new : Standing) (name : List ℕ) (settled : IsStable old.disk) (h
 
 -- ---- a session that is asked for something ----
 
-module _ (g : Story) (seed : ℕ) (name : List ℕ) (before after : NamedSession) (old : Standing) (stores : Stores g before (file_bytes old name)) where
+module _ (g : Story) (seed : Seed) (name : Name) (before after : NamedSession) (old : Standing) (stores : Stores g before (file_bytes old name)) where
   -- Before anything is done.
   pub answer_before : (m : Standing) → IsBefore name old m → InAnswer g seed name before after old m
   answer_before m i = record {
@@ -127,7 +128,7 @@ module _ (g : Story) (seed : ℕ) (name : List ℕ) (before after : NamedSession
       still f ne = i.files f (λ e. ne (sym (same_name name f e))) ∙ other_file old name f ne
 
 -- From a store with no bytes, of which there is no session.
-pub answer_in_new : (g : Story) (seed : ℕ) (name : List ℕ) (before after : NamedSession) (old mid : Standing) (m : Standing) →
+pub answer_in_new : (g : Story) (seed : Seed) (name : Name) (before after : NamedSession) (old mid : Standing) (m : Standing) →
     Stores g before (file_bytes old name) → before ≡ Absent → mid ≡ with_store_opened name old → InFile (LeftOf g seed Absent after) mid m →
     InAnswer g seed name before after old m
 answer_in_new g seed name before after old mid m stores none is i =
@@ -135,7 +136,7 @@ answer_in_new g seed name before after old mid m stores none is i =
     (subst (λ s. InFile (LeftOf g seed s after) (with_store_opened name old) m) (sym none) (subst (λ q. InFile (LeftOf g seed Absent after) q m) is i))
 
 -- From a store with bytes.
-pub answer_in_kept : (g : Story) (seed : ℕ) (name : List ℕ) (before after : NamedSession) (old mid : Standing) (m : Standing) →
+pub answer_in_kept : (g : Story) (seed : Seed) (name : Name) (before after : NamedSession) (old mid : Standing) (m : Standing) →
     Stores g before (file_bytes old name) → mid ≡ with_store_opened name old → InFile (StoresEither g before after) mid m →
     InAnswer g seed name before after old m
 answer_in_kept g seed name before after old mid m stores is i =
@@ -152,29 +153,29 @@ answer_in_kept g seed name before after old mid m stores is i =
 
 -- ---- what it leaves ----
 
-pub no_bytes : (bytes : List ℕ) → length bytes ≡ 0 → bytes ≡ []
+pub no_bytes : (bytes : Bytes) → length bytes ≡ 0 → bytes ≡ []
 no_bytes [] h = refl
 no_bytes (b ∷ bytes) h = cc
 
 -- No bytes are no session.
-unmade : (bytes : List ℕ) → bytes ≡ [] → IsUnmade (recover bytes)
+unmade : (bytes : Bytes) → bytes ≡ [] → IsUnmade (recover bytes)
 unfolding recover recover_by
 unmade bytes e = rw e tt
 
-pub not_shown : (r : Recovered) (d : Digests) (state piece : List ℕ) → IsUnmade r → r ≡ Shown d state piece → ⊥
+pub not_shown : (r : Recovered) (d : Digests) (state piece : Bytes) → IsUnmade r → r ≡ Shown d state piece → ⊥
 not_shown r d state piece h e = subst IsUnmade e h
 
-pub none_stored : (g : Story) (before : NamedSession) (bytes : List ℕ) → bytes ≡ [] → Stores g before bytes → before ≡ Absent
+pub none_stored : (g : Story) (before : NamedSession) (bytes : Bytes) → bytes ≡ [] → Stores g before bytes → before ≡ Absent
 none_stored g Absent bytes e h = refl
 none_stored g (At own es) bytes e h = absurd (not_shown (recover bytes) _ _ _ (unmade bytes e) h.keeps.shown)
 none_stored g (Refused kept) bytes e h = absurd (h.1.0 (sym h.0 ∙ e))
 
 -- An attach that failed.
-pub aside_unattached : (name : List ℕ) (old new : Standing) → Unattached old new → IsAside name old new
+pub aside_unattached : (name : Name) (old new : Standing) → Unattached old new → IsAside name old new
 aside_unattached name old new (inl e) = subst (IsAside name old) (sym e) (record { lines = refl; asked = refl; shown = refl; files = λ f ne. refl })
 aside_unattached name old new (inr e) = subst (IsAside name old) (sym e) (record { lines = refl; asked = refl; shown = refl; files = λ f ne. refl })
 
-module _ (name : List ℕ) (old mid new : Standing) (is : mid ≡ with_store_opened name old) (b : ChangesStoreOnly mid new) where
+module _ (name : Name) (old mid new : Standing) (is : mid ≡ with_store_opened name old) (b : ChangesStoreOnly mid new) where
   -- The store is attached still.
   pub attached_still : new.attached ≡ Some name
   attached_still = b.attached ∙ ap (λ (q : Standing). q.attached) is

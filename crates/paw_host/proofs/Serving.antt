@@ -5,6 +5,7 @@ use Rattle.std.proofs.Common.{refl, sym, ap, ◌∙◌, subst, length, take, dro
 use Rattle.std.proofs.lemmas.List.{append-nil, append_cancel_right}
 use Rattle.std.proofs.lemmas.Slice.Eq.{bytes_eq-Decides}
 use Rattle.std.specs.Prelude.{codes, if◌then◌else◌}
+use Rattle.paw_base.specs.Bytes.{Bytes, Line, Lines, Name, Seed}
 use Rattle.paw_effects.specs.Story.{Story}
 use Rattle.paw_stage.specs.Disk.{IsStable}
 use Rattle.paw_stage.specs.Stage.{Standing, file_bytes, bytes_or_none}
@@ -20,7 +21,7 @@ use Rattle.paw_host.proofs.Reaching.{FilesHold, rest_left}
 
 -- ---- lists of lines ----
 
-pub sessions_more : (g : Story) (seed : ℕ) (first : Sessions) (lines : List (List ℕ)) (n : ℕ) (line : List ℕ) (rest : List (List ℕ)) →
+pub sessions_more : (g : Story) (seed : Seed) (first : Sessions) (lines : Lines) (n : ℕ) (line : Line) (rest : List (List ℕ)) →
     drop n lines ≡ line ∷ rest →
     sessions_after g seed first (take (suc n) lines) ≡ sessions_with g seed (sessions_after g seed first (take n lines)) (request_of line)
 unfolding sessions_after
@@ -29,7 +30,7 @@ sessions_more g seed first [] (suc n) line rest h = cc
 sessions_more g seed first (l ∷ lines) zero line rest h = let e : l ≡ line = cc in ap (λ x. sessions_with g seed first (request_of x)) e
 sessions_more g seed first (l ∷ lines) (suc n) line rest h = sessions_more g seed (sessions_with g seed first (request_of l)) lines n line rest h
 
-pub replies_more : (g : Story) (seed : ℕ) (first : Sessions) (lines : List (List ℕ)) (n : ℕ) (line : List ℕ) (rest : List (List ℕ)) →
+pub replies_more : (g : Story) (seed : Seed) (first : Sessions) (lines : Lines) (n : ℕ) (line : Line) (rest : List (List ℕ)) →
     drop n lines ≡ line ∷ rest →
     replies g seed first (take (suc n) lines)
     ≡ replies g seed first (take n lines) ++ reply_to g seed (sessions_after g seed first (take n lines)) (request_of line)
@@ -45,7 +46,7 @@ replies_more g seed first (l ∷ lines) (suc n) line rest h =
     (reply_to g seed (sessions_after g seed next (take n lines)) (request_of line)))
 
 -- A file that is none of the lines' up to one more is none of those before, and not that line's.
-pub not_of_more : (lines : List (List ℕ)) (n : ℕ) (line : List ℕ) (rest : List (List ℕ)) (f : List ℕ) → drop n lines ≡ line ∷ rest →
+pub not_of_more : (lines : Lines) (n : ℕ) (line : Line) (rest : List (List ℕ)) (f : List ℕ) → drop n lines ≡ line ∷ rest →
     IsNotOf (take (suc n) lines) f → IsNotOf (take n lines) f × IsNotFor (request_of line) f
 not_of_more [] zero line rest f h k = cc
 not_of_more [] (suc n) line rest f h k = cc
@@ -57,14 +58,14 @@ drop_none zero = refl
 drop_none (suc n) = refl
 
 -- Where there are lines there is a last one.
-pub last_line : (lines : List (List ℕ)) (n : ℕ) → suc n ≤ length lines → (line : List ℕ) × (rest : List (List ℕ)) × (drop n lines ≡ line ∷ rest)
+pub last_line : (lines : Lines) (n : ℕ) → suc n ≤ length lines → (line : Line) × (rest : List (List ℕ)) × (drop n lines ≡ line ∷ rest)
 last_line [] n h = absurd (omega (arith, h))
 last_line (l ∷ lines) zero h = (l, lines, refl)
 last_line (l ∷ lines) (suc n) h = last_line lines n (omega (arith, h))
 
 -- ---- the attached store ----
 
-pub attached_more : (start : Option (List ℕ)) (lines : List (List ℕ)) (n : ℕ) (line : List ℕ) (rest : List (List ℕ)) → drop n lines ≡ line ∷ rest →
+pub attached_more : (start : Option (List ℕ)) (lines : Lines) (n : ℕ) (line : Line) (rest : List (List ℕ)) → drop n lines ≡ line ∷ rest →
     attached_after start (take (suc n) lines) ≡ attached_with (request_of line) (attached_after start (take n lines))
 unfolding attached_after
 attached_more start [] zero line rest h = cc
@@ -77,14 +78,14 @@ done_attached None start = refl
 done_attached (Some r) start = inr (inl refl)
 
 -- After lines that are done.
-pub attached_now : (start : Option (List ℕ)) (lines : List (List ℕ)) → AttachedIn start lines (attached_after start lines)
+pub attached_now : (start : Option (List ℕ)) (lines : Lines) → AttachedIn start lines (attached_after start lines)
 unfolding attached_after AttachedIn
 attached_now start [] = refl
 attached_now start (line ∷ []) = done_attached (request_of line) start
 attached_now start (line ∷ next ∷ lines) = attached_now (attached_with (request_of line) start) (next ∷ lines)
 
 -- While one more is at work.
-pub attached_in : (start : Option (List ℕ)) (lines : List (List ℕ)) (n : ℕ) (line : List ℕ) (rest : List (List ℕ)) (attached : Option (List ℕ)) →
+pub attached_in : (start : Option (List ℕ)) (lines : Lines) (n : ℕ) (line : Line) (rest : List (List ℕ)) (attached : Option (List ℕ)) →
     drop n lines ≡ line ∷ rest → MayAttach (request_of line) (attached_after start (take n lines)) attached → AttachedIn start (take (suc n) lines) attached
 unfolding attached_after AttachedIn
 attached_in start [] zero line rest attached h k = cc
@@ -105,16 +106,16 @@ same_or_not a b = elim (bytes_eq a b) as (λ t. bytes_eq a b ≡ t → (a ≡ b)
   | false ↦ λ t. inr (λ e. let yes : bytes_eq a b ≡ true = (bytes_eq-Decides a b).1 e in let no : true ≡ false = sym yes ∙ t in cc, t)
 ] refl
 
-pub its_own : (name : List ℕ) (session : NamedSession) (sessions : Sessions) → with_named_session name session sessions name ≡ session
+pub its_own : (name : Name) (session : NamedSession) (sessions : Sessions) → with_named_session name session sessions name ≡ session
 its_own name session sessions = ap (λ b. if b then session else sessions name) ((bytes_eq-Decides name name).1 refl)
 
-pub not_its_own : (name other : List ℕ) (session : NamedSession) (sessions : Sessions) → bytes_eq other name ≡ false →
+pub not_its_own : (name other : Bytes) (session : NamedSession) (sessions : Sessions) → bytes_eq other name ≡ false →
     with_named_session name session sessions other ≡ sessions other
 not_its_own name other session sessions e = ap (λ b. if b then session else sessions other) e
 
 -- ---- what a line asks for ----
 
-module _ (g : Story) (seed : ℕ) (sessions : Sessions) (old new : Standing) (stores : AllStore g sessions old) where
+module _ (g : Story) (seed : Seed) (sessions : Sessions) (old new : Standing) (stores : AllStore g sessions old) where
   -- Nothing.
   pub nothing_done : new ≡ old → IsDone g sessions None old new
   nothing_done e = subst (IsDone g sessions None old) (sym e)
@@ -144,7 +145,7 @@ module _ (g : Story) (seed : ℕ) (sessions : Sessions) (old new : Standing) (st
     }
 
 -- While it is done.
-module _ (g : Story) (seed : ℕ) (sessions : Sessions) (old : Standing) (stores : AllStore g sessions old) where
+module _ (g : Story) (seed : Seed) (sessions : Sessions) (old : Standing) (stores : AllStore g sessions old) where
   pub in_nothing : (m : Standing) → IsStable old.disk → FilesHold old → m ≡ old → InWork g seed sessions sessions None old m
   in_nothing m settled holds e = subst (InWork g seed sessions sessions None old) (sym e) (record {
     asked = refl;
@@ -174,7 +175,7 @@ module _ (g : Story) (seed : ℕ) (sessions : Sessions) (old : Standing) (stores
   }
 
 -- Once it is done.
-pub each_done : (g : Story) (seed : ℕ) (sessions : Sessions) (request : Option Request) (m : Standing) →
+pub each_done : (g : Story) (seed : Seed) (sessions : Sessions) (request : Option Request) (m : Standing) →
     ((r : Request) → request ≡ Some r → m.attached ≡ Some (store_name r.name)) → AllLeft g (sessions_with g seed sessions request) m →
     EachLeft g seed sessions (sessions_with g seed sessions request) m
 each_done g seed sessions None m attached all = λ name is bytes may. inl (all name is bytes may)
@@ -194,7 +195,7 @@ spoken name body =
     ap (λ x. 91 ∷ x) (append_assoc (name ++ codes "]\n") body (codes "\n") ∙ append_assoc name (codes "]\n") (body ++ codes "\n"))
 
 -- A session was asked for something, and the reply is made.
-pub does_request : (g : Story) (seed : ℕ) (sessions : Sessions) (old new : Standing) (r : Request) (store begun grown whole : List ℕ) →
+pub does_request : (g : Story) (seed : Seed) (sessions : Sessions) (old new : Standing) (r : Request) (store begun grown whole : List ℕ) →
     AllStore g sessions old →
     is_name r.name ≡ true → store ≡ store_name r.name → IsAside store old new → new.attached ≡ Some store → begun ≡ codes "[" ++ (r.name ++ codes "]\n") →
     Answers g (answer g seed (sessions r.name) r.text) begun grown (file_bytes new store) → whole ≡ grown ++ codes "\n" →
@@ -207,7 +208,7 @@ does_request g seed sessions old new r store begun grown whole stores named is a
 )
 
 -- While it is asked.
-pub doing_request : (g : Story) (seed : ℕ) (sessions : Sessions) (old : Standing) (r : Request) (store : List ℕ) (m : Standing) → AllStore g sessions old →
+pub doing_request : (g : Story) (seed : Seed) (sessions : Sessions) (old : Standing) (r : Request) (store : List ℕ) (m : Standing) → AllStore g sessions old →
     store ≡ store_name r.name → InAnswer g seed store (sessions r.name) (answer g seed (sessions r.name) r.text).session old m →
     Doing g seed sessions (Some r) old m
 doing_request g seed sessions old r store m stores is i =

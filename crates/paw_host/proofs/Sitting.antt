@@ -4,6 +4,7 @@ use Rattle.std.proofs.Common.{length, length-append, arith, Some, None, codes}
 use Rattle.std.proofs.lemmas.List.{append-nil}
 use Rattle.std.specs.Prelude.{reverse}
 use Rattle.std.proofs.lemmas.Bool.{lt-leb}
+use Rattle.paw_base.specs.Bytes.{Bytes, Lines, Text, Seed}
 use Rattle.paw_base.specs.declared.limits.TheConstants.{EVENT_LIMIT}
 use Rattle.paw_effects.specs.Story.{Story}
 use Rattle.paw_effects.specs.declared.act.Prompt.{Prompt}
@@ -36,7 +37,7 @@ pub same_digests : (d : Digests) (s p : List ℕ) (e : Digests) (t q : List ℕ)
 same_digests d s p e t q h = cc
 
 -- A reading that a session keeps is answered with the last piece.
-pub kept_gone : (digests : Digests) (state piece : List ℕ) (n : ℕ) (old new : NamedSession) (e : Ending) → IsKept digests n e (Shown digests state piece) →
+pub kept_gone : (digests : Digests) (state piece : Bytes) (n : ℕ) (old new : NamedSession) (e : Ending) → IsKept digests n e (Shown digests state piece) →
     gone_on old new e ≡ record { body = piece; session = new }
 kept_gone digests state piece n old new (WaitsAt p path r) k = ap (λ q. record { body = q; session = new }) (sym (same_piece _ _ _ _ _ _ k.shown))
 kept_gone digests state piece n old new (Halted halt.Over r) k = ap (λ q. record { body = q; session = new }) (sym (same_piece _ _ _ _ _ _ k.shown))
@@ -56,16 +57,16 @@ same_wait n Unended p path r h = cc
 
 -- ---- where the reading of some lines ended ----
 
-module _ {F : Type 0} {g : Story} {seed : ℕ} {es : List (List ℕ)} {seat : PlayerView F} (s : SitsAt g seed es seat) where
+module _ {F : Type 0} {g : Story} {seed : Seed} {es : Lines} {seat : PlayerView F} (s : SitsAt g seed es seat) where
   -- What a session keeps of the lines that follow, it keeps of all.
-  kept_all : (digests : Digests) (n : ℕ) (fs : List (List ℕ)) (r : Recovered) → IsKept digests n (s.whole fs) r → IsKept digests n (reading g seed (es ++ fs)) r
+  kept_all : (digests : Digests) (n : ℕ) (fs : Lines) (r : Recovered) → IsKept digests n (s.whole fs) r → IsKept digests n (reading g seed (es ++ fs)) r
   kept_all digests n fs r k = elim s.follows [
     | inl e ↦ subst (λ x. IsKept digests n x r) (e fs) k
     | inr e ↦ whole_kept digests (length es) n (length (es ++ fs)) (reading g seed (es ++ fs)) r (pieces_of_lines g seed (es ++ fs))
         (omega (arith, length-append es fs)) (subst (λ x. IsKept digests n x r) (e fs) k)
   ]
 
-  halts_all : (fs : List (List ℕ)) (halt : Halt) (r : Run) → s.whole fs ≡ Halted halt r → (q : Run) × (reading g seed (es ++ fs) ≡ Halted halt q)
+  halts_all : (fs : Lines) (halt : Halt) (r : Run) → s.whole fs ≡ Halted halt r → (q : Run) × (reading g seed (es ++ fs) ≡ Halted halt q)
   halts_all fs halt r h = elim s.follows [
     | inl e ↦ (r, sym (e fs) ∙ h)
     | inr e ↦ same_halt (length es) (reading g seed (es ++ fs)) halt r (sym (e fs) ∙ h)
@@ -83,7 +84,7 @@ module _ {F : Type 0} {g : Story} {seed : ℕ} {es : List (List ℕ)} {seat : Pl
 
   -- ---- a text ----
 
-  module _ (p : Prompt) (last : seat.last ≡ step.Waits p) (seated : IsSeated seat) (text : List ℕ) (few : length es < EVENT_LIMIT) where
+  module _ (p : Prompt) (last : seat.last ≡ step.Waits p) (seated : IsSeated seat) (text : Text) (few : length es < EVENT_LIMIT) where
     taken_is : answer_taking g seed es text ≡ gone_on (At seed es) (At seed (es ++ text ∷ [])) (reading g seed (es ++ text ∷ []))
     taken_is = rw (not_over p last seated, lt-leb EVENT_LIMIT (length es) few) refl
 
@@ -103,7 +104,7 @@ module _ {F : Type 0} {g : Story} {seed : ℕ} {es : List (List ℕ)} {seat : Pl
           ∙ kept_gone (story_digests g) (seat_state (length es + 1) next) next.piece (length es + 1) _ _ _
           (text_kept (story_digests g) (length es + 1) shows refl)
 
-      pub text_stands : (digests : Digests) (bytes : List ℕ) (events : ℕ) → IsOfStory g digests → IsStanding found → events ≡ length es + 1 →
+      pub text_stands : (digests : Digests) (bytes : Bytes) (events : ℕ) → IsOfStory g digests → IsStanding found → events ≡ length es + 1 →
           recover bytes ≡ Shown digests (seat_state events next) next.piece → Stands g seed (es ++ text ∷ []) bytes
       text_stands digests bytes events belongs shows count is_shown =
           let long : length (es ++ text ∷ []) ≡ events = length-append es (text ∷ []) ∙ sym count in

@@ -2,6 +2,7 @@
 use Rattle.std.proofs.Common.{◌≡◌, ◌≢◌, inl, inr, ℕ, ◌+◌, ◌<◌, ◌≤◌, List, [], ◌∷◌, ◌++◌, refl, sym, ap, ◌∙◌}
 use Rattle.std.proofs.Common.{length, Some}
 use Rattle.std.proofs.lemmas.Bool.{le-leb}
+use Rattle.paw_base.specs.Bytes.{Bytes, Lines, Text, Seed}
 use Rattle.paw_base.specs.declared.limits.TheConstants.{EVENT_LIMIT}
 use Rattle.paw_stage.specs.Stage.{Standing}
 use Rattle.paw_effects.specs.Story.{Story}
@@ -23,7 +24,7 @@ use Rattle.paw_host.specs.inner.Answers.{SitsAt, Answers, InFile, StoresEither, 
 use Rattle.paw_host.proofs.Sitting.{same_digests, not_over, text_answer, text_stands, text_refused}
 
 -- A store keeps the digests of the session that it stands for.
-pub digests_are : (g : Story) (seed : ℕ) (es : List (List ℕ)) (bytes state piece : List ℕ) (stands : Stands g seed es bytes) →
+pub digests_are : (g : Story) (seed : Seed) (es : Lines) (bytes state piece : Bytes) (stands : Stands g seed es bytes) →
     recover bytes ≡ Shown (kept_digests bytes) state piece → kept_digests bytes ≡ stands.digests
 digests_are g seed es bytes state piece stands kept = same_digests _ _ _ _ _ _ (sym kept ∙ stands.keeps.shown)
 
@@ -47,8 +48,8 @@ waits_by step.Ended h e = absurd (e refl)
 waits_by (step.Spent kind) h e = absurd h
 waits_by (step.TooDeep table) h e = absurd h
 
-module _ {F : Type 0} {g : Story} {seed : ℕ} {es : List (List ℕ)} {seat : PlayerView F} (s : SitsAt g seed es seat) (seated : IsSeated seat)
-    (text : List ℕ) where
+module _ {F : Type 0} {g : Story} {seed : Seed} {es : Lines} {seat : PlayerView F} (s : SitsAt g seed es seat) (seated : IsSeated seat)
+    (text : Text) where
   -- The game is over.
   pub over_answer : seat.last ≡ step.Ended → answer_taking g seed es text ≡ record { body = codes "over"; session = At seed es }
   over_answer last = rw (s.over last) refl
@@ -66,7 +67,7 @@ module _ {F : Type 0} {g : Story} {seed : ℕ} {es : List (List ℕ)} {seat : Pl
     refused_answer word e = text_refused s p last seated text few found next is then_seated plays word e
 
     -- The piece was committed.
-    pub took : (digests : Digests) (before after : List ℕ) (bytes : List ℕ) (events : ℕ) → IsOfStory g digests → IsStanding found → events ≡ length es + 1 →
+    pub took : (digests : Digests) (before after : List ℕ) (bytes : Bytes) (events : ℕ) → IsOfStory g digests → IsStanding found → events ≡ length es + 1 →
         recover bytes ≡ Shown digests (seat_state events next) next.piece → after ≡ before ++ next.piece →
         Answers g (answer_taking g seed es text) before after bytes
     took digests before after bytes events belongs shows count shown grown =
@@ -77,7 +78,7 @@ module _ {F : Type 0} {g : Story} {seed : ℕ} {es : List (List ℕ)} {seat : Pl
 
     -- Inside the commit.
     pub in_taking : (events : ℕ) (old m : Standing) → IsStanding found → events ≡ length es + 1 → Stands g seed es old.disk.bytes →
-        (state piece : List ℕ) → recover old.disk.bytes ≡ Shown (kept_digests old.disk.bytes) state piece → InCommit events next old m →
+        (state piece : Bytes) → recover old.disk.bytes ≡ Shown (kept_digests old.disk.bytes) state piece → InCommit events next old m →
         InFile (StoresEither g (At seed es) (answer_taking g seed es text).session) old m
     in_taking events old m shows count stands state piece kept i = record {
       asked = i.asked;
@@ -90,6 +91,6 @@ module _ {F : Type 0} {g : Story} {seed : ℕ} {es : List (List ℕ)} {seat : Pl
       ];
     }
       where
-        after : (bytes : List ℕ) → recover bytes ≡ Shown stands.digests (seat_state events next) next.piece →
+        after : (bytes : Bytes) → recover bytes ≡ Shown stands.digests (seat_state events next) next.piece →
             Stores g (answer_taking g seed es text).session bytes
         after bytes e = (took stands.digests [] next.piece bytes events stands.belongs shows count e refl).stores

@@ -7,6 +7,7 @@ use Rattle.std.proofs.lemmas.Bool.{cases_lt}
 use Rattle.std.proofs.lemmas.List.{length-append, get_or_append_left, take_all}
 use Rattle.std.proofs.Math.Seq.{get_or-append_seam}
 use Rattle.std.proofs.lemmas.Option.{none-some, same_Some, slice_get_within}
+use Rattle.paw_base.specs.Bytes.{Bytes}
 use Rattle.paw_base.specs.declared.parts.Condact.{Condact}
 use Rattle.paw_base.specs.declared.rows.ParamKind.{ParamKind}
 use Rattle.paw_base.specs.declared.rows.ParamKind.TheVariants as kind
@@ -35,18 +36,18 @@ bind_bind (Ok x) f g h same = same x
 bind_bind (Err left) f g h same = refl
 
 -- To pass over m rows and then over n is to pass over m + n.
-pub each_add : (pass : List ℕ → Passing) (m n : ℕ) (bytes : List ℕ) → each pass (m + n) bytes ≡ (each pass m bytes >>= each pass n)
+pub each_add : (pass : List ℕ → Passing) (m n : ℕ) (bytes : Bytes) → each pass (m + n) bytes ≡ (each pass m bytes >>= each pass n)
 unfolding each
 each_add pass zero n bytes = let k : 0 + n ≡ n = omega arith in rw k refl
 each_add pass (suc m) n bytes =
     let k : suc m + n ≡ suc (m + n) = omega arith in
     rw k (bind_bind (pass bytes) (each pass m) (each pass n) (each pass (m + n)) (λ b. each_add pass m n b))
 
-pub each_none : (pass : List ℕ → Passing) (bytes : List ℕ) → each pass 0 bytes ≡ Ok bytes
+pub each_none : (pass : List ℕ → Passing) (bytes : Bytes) → each pass 0 bytes ≡ Ok bytes
 unfolding each
 each_none pass bytes = refl
 
-pub each_more : (pass : List ℕ → Passing) (m n k : ℕ) (bytes rest : List ℕ) → k ≡ m + n → each pass m bytes ≡ Ok rest
+pub each_more : (pass : List ℕ → Passing) (m n k : ℕ) (bytes rest : Bytes) → k ≡ m + n → each pass m bytes ≡ Ok rest
     → each pass k bytes ≡ each pass n rest
 each_more pass m n k bytes rest sum e = rw (sum, each_add pass m n bytes, e) refl
 
@@ -75,12 +76,12 @@ condact_most c =
 
 -- Condacts that were passed over are read without their rules and end at the same offset, after at most three bytes
 -- each.
-pub record Walked (n : ℕ) (bytes rest : List ℕ) : Type 0 where
+pub record Walked (n : ℕ) (bytes rest : Bytes) : Type 0 where
   pub past : each past_condact n bytes ≡ Ok rest
   pub end : IsEnd bytes rest
   pub short : length bytes ≤ length rest + n * 3
 
-pub condacts_walked : (d : ImagePreface) (n : ℕ) (bytes rest : List ℕ) → IsBytes bytes → each (after_condact d) n bytes ≡ Ok rest
+pub condacts_walked : (d : ImagePreface) (n : ℕ) (bytes rest : Bytes) → IsBytes bytes → each (after_condact d) n bytes ≡ Ok rest
     → Walked n bytes rest
 unfolding each
 condacts_walked d zero bytes rest fits e =
@@ -148,7 +149,7 @@ all_milestones milestones condacts start count so_far k lt =
     (m.0, get_drop start milestones k ∙ m.1, m.2)
 
 -- The milestone after the condacts that were passed over.
-pub milestone_is : (d : ImagePreface) (n : ℕ) (bytes rest : List ℕ) → IsBytes bytes → each (after_condact d) n bytes ≡ Ok rest
+pub milestone_is : (d : ImagePreface) (n : ℕ) (bytes rest : Bytes) → IsBytes bytes → each (after_condact d) n bytes ≡ Ok rest
     → GoesOnAt n bytes (length bytes - length rest)
 milestone_is d n bytes rest fits e =
     let walked = condacts_walked d n bytes rest fits e in
@@ -203,18 +204,18 @@ milestones_at milestones (verb ∷ noun ∷ count ∷ condacts) le h =
 -- ---- as they are passed over ----
 
 -- The first fault of eight rows after some others is that of all.
-pub eights_fail : (pass : List ℕ → Passing) (i count : ℕ) (bytes rest : List ℕ) (e : ReadError ℕ) → i * 8 + 8 ≤ count
+pub eights_fail : (pass : List ℕ → Passing) (i count : ℕ) (bytes rest : Bytes) (e : ReadError ℕ) → i * 8 + 8 ≤ count
     → each pass (i * 8) bytes ≡ Ok rest → Fails e (each pass 8 rest) → Fails e (each pass count bytes)
 eights_fail pass i count bytes rest e le so_far h =
     let n = count - (i * 8 + 8) in
     let all = each_more pass (i * 8) (8 + n) count bytes rest (omega (arith, le)) so_far ∙ each_add pass 8 n rest in
     subst (λ (p : Passing). Fails e p) (sym all) (fails_next e (each pass 8 rest) (each pass n) h)
 
-pub milestone_small : (d : ImagePreface) (n : ℕ) (bytes rest : List ℕ) → IsBytes bytes → each (after_condact d) n bytes ≡ Ok rest → n ≤ 255
+pub milestone_small : (d : ImagePreface) (n : ℕ) (bytes rest : Bytes) → IsBytes bytes → each (after_condact d) n bytes ≡ Ok rest → n ≤ 255
     → length bytes - length rest < 2 ^ 16
 milestone_small d n bytes rest fits e le = omega (arith, (condacts_walked d n bytes rest fits e).short, le)
 
-byte_is : (bytes : List ℕ) (b : ℕ) (rest : List ℕ) → byte_at bytes ≡ Ok (b, rest) → bytes ≡ b ∷ rest
+byte_is : (bytes : Bytes) (b : ℕ) (rest : List ℕ) → byte_at bytes ≡ Ok (b, rest) → bytes ≡ b ∷ rest
 byte_is [] b rest e = absurd cc
 byte_is (x ∷ xs) b rest e = at_ok (λ (y : ℕ × List ℕ). x ∷ xs ≡ y.0 ∷ y.1) (x, xs) (b, rest) e refl
 

@@ -3,6 +3,7 @@ use Rattle.std.proofs.Common.{◌≡◌, ℕ, suc, ◌-◌, ◌+◌, ◌≤◌, 
 use Rattle.std.proofs.Common.{◌∙◌, append_assoc, arith}
 use Rattle.std.specs.List.{AllByRecursion}
 use Rattle.std.proofs.lemmas.List.{append-nil, map-append}
+use Rattle.paw_base.specs.Bytes.{Bytes}
 use Rattle.paw_read_error.specs.declared.read_error.ReadError.{ReadError}
 use Rattle.paw_read_error.specs.declared.read_error.ReadError.TheVariants as fault
 use Rattle.paw_read_error.specs.inner.Gives.{Fails}
@@ -12,7 +13,7 @@ use Rattle.paw_image.specs.declared.offsets.TableIndex.{TableIndex}
 
 -- ---- rows ----
 
-module _ (pass : List ℕ → Passing) (count i : ℕ) (bytes : List ℕ) (total : Passing) where
+module _ (pass : List ℕ → Passing) (count i : ℕ) (bytes : Bytes) (total : Passing) where
   pub each_goes_on : (after : List ℕ) → i < count → pass bytes ≡ Ok after → each pass (count - i) bytes ≡ total → each pass (count - (i + 1)) after ≡ total
   unfolding each
   each_goes_on after lt h so_far =
@@ -37,7 +38,7 @@ module _ (pass : List ℕ → Passing) (count i : ℕ) (bytes : List ℕ) (total
 
 -- ---- exits ----
 
-module _ (d : ImagePreface) (verbs : List ℕ) (count i : ℕ) (bytes : List ℕ) (total : Passing) where
+module _ (d : ImagePreface) (verbs : List ℕ) (count i : ℕ) (bytes : Bytes) (total : Passing) where
   pub exits_go_on : (verb : ℕ) (after : List ℕ) → i < count → checked_exit d verbs bytes ≡ Ok (verb, after) → after_exits_of d verbs (count - i) bytes ≡ total
       → after_exits_of d (verb ∷ verbs) (count - (i + 1)) after ≡ total
   unfolding after_exits_of
@@ -63,7 +64,7 @@ module _ (d : ImagePreface) (verbs : List ℕ) (count i : ℕ) (bytes : List ℕ
 
 -- ---- offsets ----
 
-module _ (pass : List ℕ → Passing) (total : ℕ) (front : List ℕ) (count i : ℕ) (bytes : List ℕ) (whole : List ℕ) where
+module _ (pass : List ℕ → Passing) (total : ℕ) (front : List ℕ) (count i : ℕ) (bytes : Bytes) (whole : List ℕ) where
   pub begins_go_on : (after : List ℕ) → i < count → pass bytes ≡ Ok after → front ++ begins pass total (count - i) bytes ≡ whole
       → (front ++ (total - length bytes) ∷ []) ++ begins pass total (count - (i + 1)) after ≡ whole
   unfolding begins
@@ -79,7 +80,7 @@ module _ (pass : List ℕ → Passing) (total : ℕ) (front : List ℕ) (count i
       let one : front ++ begins pass total (count - i) bytes ≡ front = rw k (append-nil front) in
       sym one ∙ so_far
 
-module _ (d : ImagePreface) (total : ℕ) (front : List TableIndex) (count i : ℕ) (bytes : List ℕ) (whole : List (List ℕ)) where
+module _ (d : ImagePreface) (total : ℕ) (front : List TableIndex) (count i : ℕ) (bytes : Bytes) (whole : List (List ℕ)) where
   pub tables_go_on : (t : TableIndex) (after : List ℕ) → i < count → after_table d bytes ≡ Ok after → t.entries.items ≡ entries_begin d total bytes
       → entries_of front ++ tables_begin d total (count - i) bytes ≡ whole
       → entries_of (front ++ t ∷ []) ++ tables_begin d total (count - (i + 1)) after ≡ whole

@@ -2,6 +2,7 @@
 use Rattle.std.proofs.Common.{◌≡◌, ℕ, ◌+◌, ◌-◌, ◌≤◌, Bool, List, length, drop, Ok, refl, sym, ap, subst, ◌∙◌, arith}
 use Rattle.std.specs.List.{flat_map}
 use Rattle.std.proofs.lemmas.List.{drop_at, drop-drop, length-drop, get_or-drop}
+use Rattle.paw_base.specs.Bytes.{Bytes}
 use Rattle.paw_game.specs.Image.{two_bytes, text_image, object_image, exits_image, entry_image, table_image}
 use Rattle.paw_game.specs.Valid.{is_within, is_text, is_object, exits_are_valid}
 use Rattle.paw_image.specs.inner.Milestones.{IsEnd}
@@ -17,10 +18,10 @@ use Rattle.paw_image.proofs.Stands.{SoundRow, each_sound, taken_length}
 
 -- ---- the last of all bytes ----
 
-pub end_whole : (bytes : List ℕ) → IsEnd bytes bytes
+pub end_whole : (bytes : Bytes) → IsEnd bytes bytes
 end_whole bytes = let none : length bytes - length bytes ≡ 0 = omega arith in rw none refl
 
-pub end_taken : (bytes text rest : List ℕ) → Takes bytes text rest → IsEnd bytes rest
+pub end_taken : (bytes text rest : Bytes) → Takes bytes text rest → IsEnd bytes rest
 end_taken bytes text rest t =
     let n : length bytes - length rest ≡ length text = omega (arith, taken_length bytes text rest t) in
     rw n (ap (drop (length text)) t.parts ∙ drop_at text rest (length text) refl)

@@ -7,6 +7,7 @@ use Rattle.std.proofs.lemmas.Bool.{cases_lt, ltb-false, le-ltb}
 use Rattle.std.proofs.lemmas.List.{take_at, drop_at, take-append-drop, length-append, length-take, get_or-drop}
 use Rattle.std.proofs.lemmas.List.{get_or-take, get_or_past}
 use Rattle.std.proofs.lemmas.Nat.{le_bytes_2, from_le_bytes-to_le_bytes_2}
+use Rattle.paw_base.specs.Bytes.{Bytes}
 use Rattle.paw_game.specs.Image.{two_bytes}
 use Rattle.paw_read_error.specs.Bind.{◌>>=◌}
 use Rattle.paw_image.specs.Reading.{byte_at, bytes_at, number_at}
@@ -14,10 +15,10 @@ use Rattle.paw_image.specs.Reading.{byte_at, bytes_at, number_at}
 abbrev pub IsBytes : List ℕ → Type 0
 IsBytes bytes = (i : ℕ) → get_or bytes i 0 < 256
 
-IsBytes-drop : (n : ℕ) (bytes : List ℕ) → IsBytes bytes → IsBytes (drop n bytes)
+IsBytes-drop : (n : ℕ) (bytes : Bytes) → IsBytes bytes → IsBytes (drop n bytes)
 IsBytes-drop n bytes h i = rw get_or-drop (h (n + i))
 
-IsBytes-take : (n : ℕ) (bytes : List ℕ) → IsBytes bytes → IsBytes (take n bytes)
+IsBytes-take : (n : ℕ) (bytes : Bytes) → IsBytes bytes → IsBytes (take n bytes)
 IsBytes-take n bytes h i =
     elim (cases_lt i n) [
       | inl lt ↦ rw (get_or-take n bytes i 0 lt) (h i)
@@ -52,7 +53,7 @@ kept_ok false x left y e = absurd cc
 
 -- ---- what was taken from the front ----
 
-pub record Takes (bytes text rest : List ℕ) : Type 0 where
+pub record Takes (bytes text rest : Bytes) : Type 0 where
   pub parts : bytes ≡ text ++ rest
   pub rest_fits : IsBytes rest
 
@@ -61,12 +62,12 @@ Takes-then {c = c} x y p q = record { parts = p.parts ∙ ap (λ (t : List ℕ).
 
 -- ---- bytes ----
 
-pub byte_takes : (bytes : List ℕ) (x : ℕ × List ℕ) → IsBytes bytes → byte_at bytes ≡ Ok x → Takes bytes (x.0 ∷ []) x.1 × (x.0 < 256)
+pub byte_takes : (bytes : Bytes) (x : ℕ × List ℕ) → IsBytes bytes → byte_at bytes ≡ Ok x → Takes bytes (x.0 ∷ []) x.1 × (x.0 < 256)
 byte_takes [] x fits e = absurd cc
 byte_takes (b ∷ bytes) x fits e =
     at_ok (λ (y : ℕ × List ℕ). Takes (b ∷ bytes) (y.0 ∷ []) y.1 × (y.0 < 256)) (b, bytes) x e (record { parts = refl; rest_fits = λ i. fits (suc i) }, fits 0)
 
-pub bytes_take : (n : ℕ) (bytes : List ℕ) (x : List ℕ × List ℕ) → IsBytes bytes → bytes_at n bytes ≡ Ok x → Takes bytes x.0 x.1 × (length x.0 ≡ n) × IsBytes x.0
+pub bytes_take : (n : ℕ) (bytes : Bytes) (x : List ℕ × List ℕ) → IsBytes bytes → bytes_at n bytes ≡ Ok x → Takes bytes x.0 x.1 × (length x.0 ≡ n) × IsBytes x.0
 bytes_take n bytes x fits e =
     let is_long = guard_ok (ltb (length bytes) n) _ _ x e in
     let long : n ≤ length bytes = ltb-false _ _ is_long.0 in
@@ -80,7 +81,7 @@ bytes_again n front rest len =
 
 -- ---- numbers of two bytes ----
 
-pub number_takes : (bytes : List ℕ) (x : ℕ × List ℕ) → IsBytes bytes → number_at bytes ≡ Ok x → Takes bytes (two_bytes x.0) x.1 × (x.0 < 2 ^ 16)
+pub number_takes : (bytes : Bytes) (x : ℕ × List ℕ) → IsBytes bytes → number_at bytes ≡ Ok x → Takes bytes (two_bytes x.0) x.1 × (x.0 < 2 ^ 16)
 unfolding number_at
 number_takes bytes x fits e =
     bind_then _ (bytes_at 2 bytes) _ x e (λ two two_ok e.

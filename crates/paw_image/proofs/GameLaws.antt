@@ -6,6 +6,7 @@ use Rattle.std.specs.Prelude.{if◌then◌else◌}
 use Rattle.std.specs.List.{flat_map}
 use Rattle.std.proofs.lemmas.Bool.{and_parts, eqb-true, eq-eqb}
 use Rattle.std.proofs.lemmas.List.{append-nil, nil_from_length}
+use Rattle.paw_base.specs.Bytes.{Bytes}
 use Rattle.paw_game.specs.Game.{GameLists, counts_of}
 use Rattle.paw_game.specs.Valid.{Valid}
 use Rattle.paw_game.specs.Image.{text_image, object_image, exits_image, table_image, image, version_of}
@@ -50,11 +51,11 @@ declared_is : (d : ImagePreface) (g : GameLists) → g.words ≡ d.words → len
 declared_is d g words a b c e f h = rw (words, a, b, c, e, f, h) refl
 
 -- Lists that were read.
-pub record AreTaken (d : ImagePreface) (bytes : List ℕ) (x : GameLists × List ℕ) : Type 0 where
+pub record AreTaken (d : ImagePreface) (bytes : Bytes) (x : GameLists × List ℕ) : Type 0 where
   pub parts : bytes ≡ lists_image x.0 x.1
   pub declared : length d.words ≡ d.counts.words → d ≡ declared_as d.version x.0
 
-pub lists_take : (d : ImagePreface) (bytes : List ℕ) (x : GameLists × List ℕ) → IsBytes bytes → lists_at d bytes ≡ Ok x
+pub lists_take : (d : ImagePreface) (bytes : Bytes) (x : GameLists × List ℕ) → IsBytes bytes → lists_at d bytes ≡ Ok x
     → AreTaken d bytes x
 unfolding lists_at
 lists_take d bytes x fits e =
@@ -114,7 +115,7 @@ image_is v g is =
 pub ended : (g : GameLists) (right : Bool) → right ≡ true → (if eqb (length {A = ℕ} []) 0 && right then read_ok g else Err 0) ≡ Ok g
 ended g right h = rw h refl
 
-pub all_takes : (bytes : List ℕ) (g : GameLists) → IsBytes bytes → all_of bytes ≡ Ok g → bytes ≡ image g
+pub all_takes : (bytes : Bytes) (g : GameLists) → IsBytes bytes → all_of bytes ≡ Ok g → bytes ≡ image g
 unfolding all_of
 all_takes bytes g fits e =
     bind_then _ (front bytes) _ g e (λ d d_ok e.

@@ -12,6 +12,7 @@ use Rattle.std.proofs.lemmas.List.{get_or-take, get_or-drop, get_or_default, tak
 use Rattle.std.proofs.lemmas.List.Folds.{find-append}
 use Rattle.std.proofs.lemmas.List.Recursion.{found_nowhere}
 use Rattle.std.proofs.lemmas.Slice.Eq.{bytes_eq-Decides}
+use Rattle.paw_base.specs.Bytes.{Letters}
 use Rattle.paw_game.specs.declared.parts.Word.{Word}
 use Rattle.paw_game.specs.Tables.{word_of}
 use Rattle.paw_game.specs.Valid.{words_rise}
@@ -73,7 +74,7 @@ no_word : Word
 no_word = record { letters = []; value = 0; class = 0 }
 
 -- Among words of other groups there is none with these letters.
-none_of : (letters : List ℕ) (ws : List Word) → ((k : ℕ) → k < length ws → first_group (get_or ws k no_word).letters ≡ first_group letters → ⊥)
+none_of : (letters : Letters) (ws : List Word) → ((k : ℕ) → k < length ws → first_group (get_or ws k no_word).letters ≡ first_group letters → ⊥)
     → word_of letters ws ≡ None
 none_of letters ws others =
     found_nowhere (word_of letters) (λ w. bytes_eq w.letters letters) Some None refl (λ _ _. refl) ws no_word
@@ -84,13 +85,13 @@ or_none (Some x) = refl
 or_none None = refl
 
 -- Words of other groups, before and after, make no difference.
-past_others : (letters : List ℕ) (n : ℕ) (ws : List Word) → word_of letters (take n ws) ≡ None → word_of letters ws ≡ word_of letters (drop n ws)
+past_others : (letters : Letters) (n : ℕ) (ws : List Word) → word_of letters (take n ws) ≡ None → word_of letters ws ≡ word_of letters (drop n ws)
 past_others letters n ws none =
     ap (word_of letters) (sym (take-append-drop n ws))
     ∙ find-append (λ w. bytes_eq w.letters letters) (take n ws) (drop n ws)
     ∙ ap (λ (x : Option Word). option_or x (word_of letters (drop n ws))) none
 
-before_others : (letters : List ℕ) (n : ℕ) (ws : List Word) → word_of letters (drop n ws) ≡ None → word_of letters ws ≡ word_of letters (take n ws)
+before_others : (letters : Letters) (n : ℕ) (ws : List Word) → word_of letters (drop n ws) ≡ None → word_of letters ws ≡ word_of letters (take n ws)
 before_others letters n ws none =
     ap (word_of letters) (sym (take-append-drop n ws))
     ∙ find-append (λ w. bytes_eq w.letters letters) (take n ws) (drop n ws)

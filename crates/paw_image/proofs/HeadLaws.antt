@@ -10,6 +10,7 @@ use Rattle.std.specs.Cmp.Lexicographic.{slice_cmp}
 use Rattle.std.proofs.lemmas.Bool.{and_parts, leb-true, le-leb}
 use Rattle.std.proofs.lemmas.List.{length-append}
 use Rattle.std.proofs.lemmas.Slice.Eq.{bytes_eq-Decides}
+use Rattle.paw_base.specs.Bytes.{Bytes}
 use Rattle.paw_base.specs.declared.limits.TheConstants.{WORD_LENGTH, WORD_LIMIT, SYSTEM_LIMIT, MESSAGE_LIMIT}
 use Rattle.paw_base.specs.declared.limits.TheConstants.{OBJECT_LIMIT, LOCATION_LEAST, LOCATION_LIMIT, TABLE_LEAST}
 use Rattle.paw_base.specs.declared.limits.TheConstants.{TABLE_LIMIT}
@@ -46,7 +47,7 @@ told (suc (suc (suc byte))) h =
     let high = leb-true (suc (suc (suc byte))) 2 (and_parts (leb 1 (suc (suc (suc byte)))) _ h).1 in
     absurd (omega (arith, high))
 
-version_takes : (bytes : List ℕ) (x : Version × List ℕ) → IsBytes bytes → checked_version bytes ≡ Ok x
+version_takes : (bytes : Bytes) (x : Version × List ℕ) → IsBytes bytes → checked_version bytes ≡ Ok x
     → Takes bytes (codes "PAWI" ++ version_byte x.0 ∷ []) x.1
 unfolding checked_version
 version_takes bytes x fits e =
@@ -83,14 +84,14 @@ pub record AreFew (c : Counts) : Type 0 where
   pub tables : is_within TABLE_LEAST TABLE_LIMIT c.tables ≡ true
 
 -- What follows from a number that kept its limits.
-within_then : {B : Type 0} (P : Type 0) (least most : ℕ) (bytes : List ℕ) (f : ℕ × List ℕ → Result B ℕ) (y : B)
+within_then : {B : Type 0} (P : Type 0) (least most : ℕ) (bytes : Bytes) (f : ℕ × List ℕ → Result B ℕ) (y : B)
     → IsBytes bytes → (checked_number least most bytes >>= f) ≡ Ok y
     → ((x : ℕ × List ℕ) → Takes bytes (two_bytes x.0) x.1 → is_within least most x.0 ≡ true → f x ≡ Ok y → P) → P
 within_then P least most bytes f y fits e go =
     kept_then P (is_within least most) number_at bytes f y e
     (λ x x_ok x_kept e. go x (number_takes bytes x fits x_ok).0 x_kept e)
 
-counts_take : (bytes : List ℕ) (x : Counts × List ℕ) → IsBytes bytes → checked_counts bytes ≡ Ok x
+counts_take : (bytes : Bytes) (x : Counts × List ℕ) → IsBytes bytes → checked_counts bytes ≡ Ok x
     → Takes bytes (counts_image x.0) x.1 × AreFew x.0
 unfolding checked_counts
 counts_take bytes x fits e =
@@ -160,13 +161,13 @@ word_takes before bytes x fits e =
       above = both.1;
     }))))
 
-record AreNext (before : List ℕ) (n : ℕ) (bytes : List ℕ) (x : List Word × List ℕ) : Type 0 where
+record AreNext (before : List ℕ) (n : ℕ) (bytes : Bytes) (x : List Word × List ℕ) : Type 0 where
   taken : Takes bytes (flat_map word_image x.0) x.1
   many : length x.0 ≡ n
   keep : list_all is_word x.0 ≡ true
   rise : rise_after before x.0 ≡ true
 
-words_take : (before : List ℕ) (n : ℕ) (bytes : List ℕ) (x : List Word × List ℕ) → IsBytes bytes
+words_take : (before : List ℕ) (n : ℕ) (bytes : Bytes) (x : List Word × List ℕ) → IsBytes bytes
     → words_above before n bytes ≡ Ok x → AreNext before n bytes x
 unfolding words_above rise_after
 words_take before zero bytes x fits e =
@@ -220,14 +221,14 @@ front_image d = front_with (version_byte d.version) d.counts d.words
 pub front_length : (d : ImagePreface) → length (front_image d) ≡ 17 + length (flat_map word_image d.words)
 front_length d = omega (arith, length-append (counts_image d.counts) (flat_map word_image d.words))
 
-pub record Fronted (bytes : List ℕ) (x : ImagePreface × List ℕ) : Type 0 where
+pub record Fronted (bytes : Bytes) (x : ImagePreface × List ℕ) : Type 0 where
   pub taken : Takes bytes (front_image x.0) x.1
   pub few : AreFew x.0.counts
   pub many : length x.0.words ≡ x.0.counts.words
   pub keep : list_all is_word x.0.words ≡ true
   pub rise : rise_after [] x.0.words ≡ true
 
-pub front_takes : (bytes : List ℕ) (x : ImagePreface × List ℕ) → IsBytes bytes → front bytes ≡ Ok x → Fronted bytes x
+pub front_takes : (bytes : Bytes) (x : ImagePreface × List ℕ) → IsBytes bytes → front bytes ≡ Ok x → Fronted bytes x
 unfolding front
 front_takes bytes x fits e =
     bind_then _ (checked_version bytes) _ x e (λ version version_ok e.

@@ -5,6 +5,7 @@ use Rattle.std.specs.Prelude.{slice_get, IfSome, ◌≤◌}
 use Rattle.std.proofs.lemmas.List.{drop-drop}
 use Rattle.std.proofs.lemmas.Option.{none-some, same_Some, slice_get_past}
 use Rattle.std.proofs.lemmas.Bool.{cases_lt, false_from_ne_true}
+use Rattle.paw_base.specs.Bytes.{Bytes}
 use Rattle.paw_base.specs.declared.parts.Condact.{Condact}
 use Rattle.paw_base.specs.declared.rows.ParamKind.{ParamKind}
 use Rattle.paw_base.specs.declared.rows.ParamKind.TheVariants as kind
@@ -20,7 +21,7 @@ use Rattle.paw_image.proofs.Faults.{fault_first, no_value}
 
 -- ---- the head of an entry ----
 
-head_from : (p : ℕ) (bytes : List ℕ) (count : ℕ) → slice_get bytes (suc (suc p)) ≡ Some count
+head_from : (p : ℕ) (bytes : Bytes) (count : ℕ) → slice_get bytes (suc (suc p)) ≡ Some count
     → head_here (drop p bytes) ≡ Some ((get_or bytes p 0, get_or bytes (suc p) 0), count)
 unfolding head_here
 head_from p [] count h = absurd (none-some count h)
@@ -29,7 +30,7 @@ head_from zero (b ∷ c ∷ []) count h = absurd (none-some count h)
 head_from zero (b ∷ c ∷ d ∷ bytes) count h = rw (same_Some d count h) refl
 head_from (suc p) (b ∷ bytes) count h = head_from p bytes count h
 
-no_head_from : (p : ℕ) (bytes : List ℕ) → slice_get bytes (suc (suc p)) ≡ None → head_here (drop p bytes) ≡ None
+no_head_from : (p : ℕ) (bytes : Bytes) → slice_get bytes (suc (suc p)) ≡ None → head_here (drop p bytes) ≡ None
 unfolding head_here
 no_head_from zero [] h = refl
 no_head_from (suc p) [] h = refl
@@ -38,14 +39,14 @@ no_head_from zero (b ∷ c ∷ []) h = refl
 no_head_from zero (b ∷ c ∷ d ∷ bytes) h = absurd (none-some d (sym h))
 no_head_from (suc p) (b ∷ bytes) h = no_head_from p bytes h
 
-pub head_is : (p : ℕ) (bytes : List ℕ) (count : ℕ) → slice_get bytes (p + 2) ≡ Some count
+pub head_is : (p : ℕ) (bytes : Bytes) (count : ℕ) → slice_get bytes (p + 2) ≡ Some count
     → head_here (drop p bytes) ≡ Some ((get_or bytes p 0, get_or bytes (p + 1) 0), count)
 head_is p bytes count h =
     let one : p + 1 ≡ suc p = omega arith in
     let two : p + 2 ≡ suc (suc p) = omega arith in
     rw one (head_from p bytes count (rw two at h))
 
-pub no_head : (p : ℕ) (bytes : List ℕ) → slice_get bytes (p + 2) ≡ None → head_here (drop p bytes) ≡ None
+pub no_head : (p : ℕ) (bytes : Bytes) → slice_get bytes (p + 2) ≡ None → head_here (drop p bytes) ≡ None
 no_head p bytes h = let two : p + 2 ≡ suc (suc p) = omega arith in no_head_from p bytes (rw two at h)
 
 -- The third byte of a row is the number in its head.
@@ -69,7 +70,7 @@ among_head (b ∷ c ∷ d ∷ bytes) head left k h =
     rw same refl
 
 -- The condacts of an entry begin after its head.
-pub stands_at_first : (bytes : List ℕ) (t e start : ℕ) (head : ℕ × ℕ) (left : ℕ) → EntryStands bytes t e start
+pub stands_at_first : (bytes : Bytes) (t e start : ℕ) (head : ℕ × ℕ) (left : ℕ) → EntryStands bytes t e start
     → head_here (drop start bytes) ≡ Some (head, left) → CondactsStand bytes t e 0 left (start + 3)
 stands_at_first bytes t e start head left there h k =
     let none : 0 + k ≡ k = omega arith in
@@ -77,22 +78,22 @@ stands_at_first bytes t e start head left there h k =
 
 -- ---- a condact ----
 
-here_from : (p : ℕ) (bytes : List ℕ) (b : ℕ) → slice_get bytes p ≡ Some b → drop p bytes ≡ b ∷ drop (suc p) bytes
+here_from : (p : ℕ) (bytes : Bytes) (b : ℕ) → slice_get bytes p ≡ Some b → drop p bytes ≡ b ∷ drop (suc p) bytes
 here_from p [] b h = absurd (none-some b h)
 here_from zero (x ∷ bytes) b h = rw (same_Some x b h) refl
 here_from (suc p) (x ∷ bytes) b h = here_from p bytes b h
 
 -- The byte at an offset is the first of the bytes from there on.
-pub here : (p : ℕ) (bytes : List ℕ) (b : ℕ) → slice_get bytes p ≡ Some b → drop p bytes ≡ b ∷ drop (p + 1) bytes
+pub here : (p : ℕ) (bytes : Bytes) (b : ℕ) → slice_get bytes p ≡ Some b → drop p bytes ≡ b ∷ drop (p + 1) bytes
 here p bytes b h = let next : p + 1 ≡ suc p = omega arith in rw next (here_from p bytes b h)
 
-nothing_here : (p : ℕ) (bytes : List ℕ) → slice_get bytes p ≡ None → drop p bytes ≡ []
+nothing_here : (p : ℕ) (bytes : Bytes) → slice_get bytes p ≡ None → drop p bytes ≡ []
 nothing_here zero [] h = refl
 nothing_here (suc p) [] h = refl
 nothing_here zero (x ∷ bytes) h = absurd (none-some x (sym h))
 nothing_here (suc p) (x ∷ bytes) h = nothing_here p bytes h
 
-by_kind : (k : ParamKind) (bytes : List ℕ) → (k ≡ kind.Absent → ⊥) → parameter_at k bytes ≡ byte_at bytes
+by_kind : (k : ParamKind) (bytes : Bytes) → (k ≡ kind.Absent → ⊥) → parameter_at k bytes ≡ byte_at bytes
 by_kind kind.Absent bytes other = absurd (other refl)
 by_kind kind.Location bytes other = refl
 by_kind kind.Place bytes other = refl
@@ -107,29 +108,29 @@ by_kind kind.Noun bytes other = refl
 by_kind kind.Adjective bytes other = refl
 by_kind kind.Preposition bytes other = refl
 
-pub parameter_is : (k : ParamKind) (p : ℕ) (bytes : List ℕ) (b : ℕ) → (k ≡ kind.Absent → ⊥) → slice_get bytes p ≡ Some b
+pub parameter_is : (k : ParamKind) (p : ℕ) (bytes : Bytes) (b : ℕ) → (k ≡ kind.Absent → ⊥) → slice_get bytes p ≡ Some b
     → parameter_at k (drop p bytes) ≡ Ok (b, drop (p + 1) bytes)
 parameter_is k p bytes b other h = rw (by_kind k (drop p bytes) other, here p bytes b h) refl
 
-pub no_parameter : (k : ParamKind) (p : ℕ) (bytes : List ℕ) → (k ≡ kind.Absent → ⊥) → slice_get bytes p ≡ None → IsFault (parameter_at k (drop p bytes))
+pub no_parameter : (k : ParamKind) (p : ℕ) (bytes : Bytes) → (k ≡ kind.Absent → ⊥) → slice_get bytes p ≡ None → IsFault (parameter_at k (drop p bytes))
 no_parameter k p bytes other h = rw (by_kind k (drop p bytes) other, nothing_here p bytes h) tt
 
 -- A byte that can be read is there.
-byte_there : (p : ℕ) (bytes : List ℕ) → (slice_get bytes p ≡ None → ⊥) → p < length bytes
+byte_there : (p : ℕ) (bytes : Bytes) → (slice_get bytes p ≡ None → ⊥) → p < length bytes
 byte_there p bytes h =
     elim (cases_lt p (length bytes)) [
       | inl lt ↦ lt
       | inr le ↦ absurd (h (slice_get_past bytes p le))
     ]
 
-pub parameter_there : (k : ParamKind) (p : ℕ) (bytes : List ℕ) → (k ≡ kind.Absent → ⊥) → (IsFault (parameter_at k (drop p bytes)) → ⊥) → p < length bytes
+pub parameter_there : (k : ParamKind) (p : ℕ) (bytes : Bytes) → (k ≡ kind.Absent → ⊥) → (IsFault (parameter_at k (drop p bytes)) → ⊥) → p < length bytes
 parameter_there k p bytes other h = byte_there p bytes (λ none. h (no_parameter k p bytes other none))
 
 abbrev by_count : ℕ → List ℕ → Reading ℕ
 by_count zero bytes = Ok (0, bytes)
 by_count (suc n) bytes = byte_at bytes
 
-counted_parameter : (k : ParamKind) (bytes : List ℕ) → parameter_at k bytes ≡ by_count (param_count k) bytes
+counted_parameter : (k : ParamKind) (bytes : Bytes) → parameter_at k bytes ≡ by_count (param_count k) bytes
 counted_parameter kind.Absent bytes = refl
 counted_parameter kind.Location bytes = refl
 counted_parameter kind.Place bytes = refl
@@ -145,16 +146,16 @@ counted_parameter kind.Adjective bytes = refl
 counted_parameter kind.Preposition bytes = refl
 
 -- Of a kind only whether it stands for a parameter decides what is read.
-same_parameter : (k l : ParamKind) (bytes : List ℕ) → param_count k ≡ param_count l → parameter_at k bytes ≡ parameter_at l bytes
+same_parameter : (k l : ParamKind) (bytes : Bytes) → param_count k ≡ param_count l → parameter_at k bytes ≡ parameter_at l bytes
 same_parameter k l bytes e =
     counted_parameter k bytes ∙ ap (λ (n : ℕ). by_count n bytes) e ∙ sym (counted_parameter l bytes)
 
 -- The parameters of a code are read as those of its plain one.
-pub plain_first : (code : ℕ) (k : ParamKind) (bytes : List ℕ) → IsCode code → k ≡ first_kind (plain_code code)
+pub plain_first : (code : ℕ) (k : ParamKind) (bytes : Bytes) → IsCode code → k ≡ first_kind (plain_code code)
     → parameter_at (first_kind code) bytes ≡ parameter_at k bytes
 plain_first code k bytes is e = same_parameter (first_kind code) k bytes ((as_many code is).0 ∙ ap param_count (sym e))
 
-pub plain_second : (code : ℕ) (k : ParamKind) (bytes : List ℕ) → IsCode code → k ≡ second_kind (plain_code code)
+pub plain_second : (code : ℕ) (k : ParamKind) (bytes : Bytes) → IsCode code → k ≡ second_kind (plain_code code)
     → parameter_at (second_kind code) bytes ≡ parameter_at k bytes
 plain_second code k bytes is e = same_parameter (second_kind code) k bytes ((as_many code is).1 ∙ ap param_count (sym e))
 
@@ -168,7 +169,7 @@ not_not : (b : Bool) → ((b ≡ true → ⊥) → ⊥) → b ≡ true
 not_not true h = refl
 not_not false h = absurd (h (λ e. absurd cc))
 
-module _ (p : ℕ) (bytes : List ℕ) (code : ℕ) (h : slice_get bytes p ≡ Some code) where
+module _ (p : ℕ) (bytes : Bytes) (code : ℕ) (h : slice_get bytes p ≡ Some code) where
   pub no_code : (IsCode code → ⊥) → value_of (leading_condact (drop p bytes)) ≡ None
   unfolding leading_condact
   no_code other = rw (here p bytes code h, false_from_ne_true (is_code code) other) refl
@@ -196,9 +197,9 @@ module _ (p : ℕ) (bytes : List ℕ) (code : ℕ) (h : slice_get bytes p ≡ So
       no_value (leading_condact (drop p bytes))
       (rw (from_code is, first) (fault_first (parameter_at (second_kind code) (drop after bytes)) _ fault))
 
-pub nothing_read : (p : ℕ) (bytes : List ℕ) → slice_get bytes p ≡ None → value_of (leading_condact (drop p bytes)) ≡ None
+pub nothing_read : (p : ℕ) (bytes : Bytes) → slice_get bytes p ≡ None → value_of (leading_condact (drop p bytes)) ≡ None
 unfolding leading_condact
 nothing_read p bytes h = rw (nothing_here p bytes h) refl
 
-pub code_there : (p : ℕ) (bytes : List ℕ) → (value_of (leading_condact (drop p bytes)) ≡ None → ⊥) → p < length bytes
+pub code_there : (p : ℕ) (bytes : Bytes) → (value_of (leading_condact (drop p bytes)) ≡ None → ⊥) → p < length bytes
 code_there p bytes h = byte_there p bytes (λ none. h (nothing_read p bytes none))

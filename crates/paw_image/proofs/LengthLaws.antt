@@ -4,6 +4,7 @@ use Rattle.std.proofs.Common.{arith, suc-mul}
 use Rattle.std.specs.List.{flat_map, list_all}
 use Rattle.std.proofs.lemmas.Bool.{and_parts, leb-true}
 use Rattle.std.proofs.lemmas.List.{length-append}
+use Rattle.paw_base.specs.Bytes.{Text}
 use Rattle.paw_base.specs.declared.parts.Condact.{Condact}
 use Rattle.paw_base.specs.declared.rows.ParamKind.{ParamKind}
 use Rattle.paw_base.specs.declared.rows.ParamKind.TheVariants as kind
@@ -29,10 +30,10 @@ rows_at_most image rule most each (x ∷ xs) h =
     let both = and_parts (rule x) (list_all rule xs) h in
     rw (length-append (image x) (flat_map image xs), suc-mul (length xs) most) (omega (arith, each x both.0, rows_at_most image rule most each xs both.1))
 
-pub text_length : (text : List ℕ) → length (text_image text) ≡ 2 + length text
+pub text_length : (text : Text) → length (text_image text) ≡ 2 + length text
 text_length text = length-append (two_bytes (length text)) text
 
-text_most : (text : List ℕ) → is_text text ≡ true → length (text_image text) ≤ TEXT_LIMIT + 2
+text_most : (text : Text) → is_text text ≡ true → length (text_image text) ≤ TEXT_LIMIT + 2
 text_most text h = omega (arith, text_length text, leb-true _ _ (and_parts (leb (length text) TEXT_LIMIT) _ h).0)
 
 pub word_length : (w : Word) → FitsWord w → length (word_image w) ≡ 7

@@ -3,20 +3,21 @@ use Rattle.std.proofs.Common.{◌≡◌, ℕ, zero, suc, List, [], ◌∷◌, �
 use Rattle.std.proofs.Common.{◌∙◌, append_assoc}
 use Rattle.std.specs.Prelude.{OnOk}
 use Rattle.std.specs.List.{flat_map, AllByRecursion}
+use Rattle.paw_base.specs.Bytes.{Bytes}
 use Rattle.paw_image.specs.Reading.{Reading, byte_at}
 use Rattle.paw_image.specs.inner.Reading.{few_at, leading_rows}
 use Rattle.paw_image.proofs.FieldLaws.{IsBytes, Takes, Takes-then, bind_then, at_ok, byte_takes}
 
 -- A row that is read stands there as its image.
 abbrev pub TakesRow : {A : Type 0} → (List ℕ → Reading A) → (A → List ℕ) → Type 0
-TakesRow {A} row image = (bytes : List ℕ) (x : A × List ℕ) → IsBytes bytes → row bytes ≡ Ok x → Takes bytes (image x.0) x.1
+TakesRow {A} row image = (bytes : Bytes) (x : A × List ℕ) → IsBytes bytes → row bytes ≡ Ok x → Takes bytes (image x.0) x.1
 
 -- The image of a row that fits is read as that row.
 abbrev pub ReadsAgain : {A : Type 0} → (List ℕ → Reading A) → (A → List ℕ) → (A → Type 0) → Type 0
 ReadsAgain {A} row image Fits = (x : A) (rest : List ℕ) → Fits x → row (image x ++ rest) ≡ Ok (x, rest)
 
 pub rows_take : {A : Type 0} (row : List ℕ → Reading A) (image : A → List ℕ) → TakesRow row image
-    → (n : ℕ) (bytes : List ℕ) (x : List A × List ℕ) → IsBytes bytes → leading_rows row n bytes ≡ Ok x → Takes bytes (flat_map image x.0) x.1 × (length x.0 ≡ n)
+    → (n : ℕ) (bytes : Bytes) (x : List A × List ℕ) → IsBytes bytes → leading_rows row n bytes ≡ Ok x → Takes bytes (flat_map image x.0) x.1 × (length x.0 ≡ n)
 unfolding leading_rows
 rows_take {A} row image takes zero bytes x fits e =
     at_ok (λ (y : List A × List ℕ). Takes bytes (flat_map image y.0) y.1 × (length y.0 ≡ 0)) ([], bytes) x e (record { parts = refl; rest_fits = fits }, refl)

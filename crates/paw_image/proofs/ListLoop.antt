@@ -3,6 +3,7 @@ use Rattle.std.proofs.Common.{◌≡◌, ℕ, suc, ◌-◌, ◌+◌, ◌≤◌, 
 use Rattle.std.proofs.Common.{refl, sym, ap, subst, ◌∙◌, append_assoc, arith}
 use Rattle.std.specs.Prelude.{slice_get}
 use Rattle.std.proofs.lemmas.List.{append-nil, length-append}
+use Rattle.paw_base.specs.Bytes.{Bytes}
 use Rattle.paw_game.specs.declared.parts.Word.{Word}
 use Rattle.paw_read_error.specs.declared.read_error.ReadError.{ReadError}
 use Rattle.paw_read_error.specs.Bind.{◌>>=◌}
@@ -38,14 +39,14 @@ module _ {A : Type 0} (front : List A) (one : Reading A) (others : A → List �
       let fails = fails_next e one (λ x. others x.0 x.1 >>= λ y. Ok (x.0 ∷ y.0, y.1)) h in
       subst (Fails e) so_far (fails_next e all _ (subst (Fails e) (sym is) fails))
 
-pub is_done : {A : Type 0} (front : List A) (bytes : List ℕ) (all total : Reading (List A)) → all ≡ Ok ([], bytes)
+pub is_done : {A : Type 0} (front : List A) (bytes : Bytes) (all total : Reading (List A)) → all ≡ Ok ([], bytes)
     → with_front front all ≡ total → total ≡ Ok (front, bytes)
 is_done {A} front bytes all total none so_far =
     sym so_far ∙ rw none (ap (λ (xs : List A). Ok (xs, bytes)) (append-nil front))
 
 -- ---- rows ----
 
-module _ {A : Type 0} (row : List ℕ → Reading A) (count i : ℕ) (bytes : List ℕ) where
+module _ {A : Type 0} (row : List ℕ → Reading A) (count i : ℕ) (bytes : Bytes) where
   pub row_more : i < count → leading_rows row (count - i) bytes ≡ one_more (row bytes) (λ _. leading_rows row (count - (i + 1)))
   unfolding leading_rows
   row_more lt = let k : count - i ≡ suc (count - (i + 1)) = omega arith in rw k refl
@@ -56,7 +57,7 @@ module _ {A : Type 0} (row : List ℕ → Reading A) (count i : ℕ) (bytes : Li
 
 -- ---- words ----
 
-module _ (before : List ℕ) (count i : ℕ) (bytes : List ℕ) where
+module _ (before : List ℕ) (count i : ℕ) (bytes : Bytes) where
   pub word_more : i < count
       → words_above before (count - i) bytes
       ≡ one_more (checked_word before bytes) (λ w. words_above w.letters (count - (i + 1)))

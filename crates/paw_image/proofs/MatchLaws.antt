@@ -10,6 +10,7 @@ use Rattle.std.proofs.lemmas.List.{get_or-drop}
 use Rattle.std.proofs.lemmas.List.Elements.{All-cons, All-contains}
 use Rattle.std.proofs.lemmas.List.Sorted.{Contains-permutation, IsPermutation-sym}
 use Rattle.std.proofs.lemmas.Option.{none-some, same_Some, slice_get_within, get_or_from_slice_get, slice_get-get_or}
+use Rattle.paw_base.specs.Bytes.{Bytes}
 use Rattle.paw_base.specs.declared.limits.TheConstants.{ENTRY_LIMIT}
 use Rattle.paw_base.specs.declared.words.TheConstants.{ANY_WORD, NO_WORD}
 use Rattle.paw_game.specs.declared.parts.Entry.{Entry}
@@ -54,7 +55,7 @@ kept_is_for word flag =
 byte_at_place : (bytes front rest : List ℕ) (at k : ℕ) → drop at bytes ≡ front ++ rest → get_or bytes (at + k) 0 ≡ get_or (front ++ rest) k 0
 byte_at_place bytes front rest at k e = sym (get_or-drop at bytes k 0) ∙ ap (λ (l : List ℕ). get_or l k 0) e
 
-module _ (bytes rest : List ℕ) (x : Entry) (xs : List Entry) (at : ℕ) (e : drop at bytes ≡ flat_map entry_image (x ∷ xs) ++ rest) where
+module _ (bytes rest : Bytes) (x : Entry) (xs : List Entry) (at : ℕ) (e : drop at bytes ≡ flat_map entry_image (x ∷ xs) ++ rest) where
   others : List ℕ
   others = flat_map entry_image xs ++ rest
 
@@ -73,7 +74,7 @@ module _ (bytes rest : List ℕ) (x : Entry) (xs : List Entry) (at : ℕ) (e : d
   others_next = next_at bytes (entry_image x) others at entry_first
 
 -- The ranks read where entries begin are those of the entries.
-ranks_same : (bytes rest : List ℕ) (es : List Entry) (n at : ℕ) → drop at bytes ≡ flat_map entry_image es ++ rest
+ranks_same : (bytes rest : Bytes) (es : List Entry) (n at : ℕ) → drop at bytes ≡ flat_map entry_image es ++ rest
     → ranks_at bytes n (offsets entry_image at es) ≡ ranks_of n es
 ranks_same bytes rest [] n at e = refl
 ranks_same bytes rest (x ∷ xs) n at e =
@@ -84,7 +85,7 @@ ranks_same bytes rest (x ∷ xs) n at e =
     ) refl
 
 -- The nouns of the entries are bytes.
-nouns_small : (bytes rest : List ℕ) (es : List Entry) (at : ℕ) → ((i : ℕ) → get_or bytes i 0 < 256)
+nouns_small : (bytes rest : Bytes) (es : List Entry) (at : ℕ) → ((i : ℕ) → get_or bytes i 0 < 256)
     → drop at bytes ≡ flat_map entry_image es ++ rest → All (λ x. x.noun < 256) es
 nouns_small bytes rest [] at fits e = λ k d lt. absurd (omega arith)
 nouns_small bytes rest (x ∷ xs) at fits e =
@@ -213,7 +214,7 @@ offsets_long : (es : List Entry) (at : ℕ) → length (offsets entry_image at e
 offsets_long [] at = refl
 offsets_long (x ∷ xs) at = ap suc (offsets_long xs (at + length (entry_image x)))
 
-pub next_match_is : (bytes rest : List ℕ) (es : List Entry) (at : ℕ) (order : Order)
+pub next_match_is : (bytes rest : Bytes) (es : List Entry) (at : ℕ) (order : Order)
     → IsOrder bytes (offsets entry_image at es) order → drop at bytes ≡ flat_map entry_image es ++ rest
     → (verb from noun : ℕ) (r : Option ℕ) → IsLeast (IsMatch order.ranks.items (is_match verb noun) from) r → r ≡ first_match verb noun from (drop from es)
 next_match_is bytes rest es at order o e verb from noun r least =

@@ -11,6 +11,7 @@ use Rattle.std.specs.Cmp.{nat_cmp_is, ranked}
 use Rattle.std.specs.Cmp.Lexicographic.{slice_cmp}
 use Rattle.std.proofs.lemmas.List.{drop-map, take-map, get_or-map, length-map, map_more, take_all}
 use Rattle.std.proofs.lemmas.List.Elements.{All-drop, All-push, All-take}
+use Rattle.paw_base.specs.Bytes.{Letters}
 use Rattle.paw_base.specs.declared.limits.TheConstants.{WORD_LENGTH}
 use Rattle.paw_game.specs.declared.parts.Word.{Word}
 use Rattle.paw_game.proofs.Search.{compared}
@@ -53,7 +54,7 @@ letters_in_order : (a b : List ℕ) → AreFiveBytes a → AreFiveBytes b → sl
 letters_in_order a b h k = in_order a b 0 (h.five ∙ sym k.five) h.bytes k.bytes
 
 -- The number of five letters, as the code writes it.
-pub five_written : (letters : List ℕ) → length letters ≡ WORD_LENGTH
+pub five_written : (letters : Letters) → length letters ≡ WORD_LENGTH
     → from_be_bytes w64 (0 ∷ 0 ∷ 0 ∷ get_or letters 0 0 ∷ get_or letters 1 0 ∷ get_or letters 2 0 ∷ get_or letters 3 0 ∷ get_or letters 4 0 ∷ [])
     ≡ letters_as_number letters
 five_written [] long = absurd (omega arith)
@@ -77,7 +78,7 @@ some_numbers n start words numbers are =
 pub as_many : (words : List Word) (numbers : List ℕ) → AreNumbers words numbers → length numbers ≡ length words
 as_many words numbers are = ap length are.numbered ∙ length-map words (λ (w : Word). letters_as_number w.letters)
 
-module _ (letters : List ℕ) (words : List Word) (numbers : List ℕ) (five : AreFiveBytes letters) (are : AreNumbers words numbers) where
+module _ (letters : Letters) (words : List Word) (numbers : List ℕ) (five : AreFiveBytes letters) (are : AreNumbers words numbers) where
   -- A word stands to the letters as its number stands to theirs.
   stands : (k d : ℕ) (w : Word) → k < length words → nat_cmp (get_or numbers k d) (letters_as_number letters) ≡ compared letters (get_or words k w)
   stands k d w lt =

@@ -7,6 +7,7 @@ use Rattle.std.specs.List.Sorted.{IsNonDecreasing, IsPartitionPoint}
 use Rattle.std.proofs.lemmas.Bool.{cases_lt, eqb-true, eq-eqb, ltb-true, ltb-false, and_parts}
 use Rattle.std.proofs.lemmas.List.{get_or-take, get_or-drop, get_or_default}
 use Rattle.std.proofs.lemmas.List.Sorted.{IsNonDecreasingBy-take, IsNonDecreasingBy-drop}
+use Rattle.paw_base.specs.Bytes.{Bytes}
 use Rattle.paw_base.specs.declared.words.TheConstants.{NO_WORD}
 use Rattle.paw_image.specs.inner.Orders.{is_kept_for, is_match, is_pair, lower, entry_rank, ranks_at, AreStarts}
 use Rattle.paw_image.specs.inner.Orders.{IsLeast, IsMatch, IsRun, IsStart}
@@ -81,7 +82,7 @@ either_least ranks p q from r s h k =
 
 -- ---- where the ranks of a verb begin ----
 
-pub ranks_long : (bytes : List ℕ) (n : ℕ) (ps : List ℕ) → length (ranks_at bytes n ps) ≡ length ps
+pub ranks_long : (bytes : Bytes) (n : ℕ) (ps : List ℕ) → length (ranks_at bytes n ps) ≡ length ps
 ranks_long bytes n [] = refl
 ranks_long bytes n (p ∷ ps) = ap suc (ranks_long bytes (suc n) ps)
 

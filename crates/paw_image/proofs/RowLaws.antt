@@ -7,6 +7,7 @@ use Rattle.std.specs.Int.{bit_at}
 use Rattle.std.specs.List.{flat_map, AllByRecursion}
 use Rattle.std.proofs.lemmas.Nat.{and_mask}
 use Rattle.std.proofs.lemmas.Nat.Bits.{and_pow}
+use Rattle.paw_base.specs.Bytes.{Bytes}
 use Rattle.paw_base.specs.declared.parts.Condact.{Condact}
 use Rattle.paw_base.specs.declared.parts.ObjectFacts.{ObjectFacts}
 use Rattle.paw_base.specs.declared.rows.ParamKind.{ParamKind}
@@ -162,7 +163,7 @@ parameter_again : (k : ParamKind) → ReadsAgain (parameter_at k) (parameter_ima
 parameter_again kind.Absent x rest fits = ap (λ (y : ℕ). Ok (y, rest)) (sym fits)
 parameter_again _ x rest fits = refl
 
-code_takes : (bytes : List ℕ) (x : ℕ × List ℕ) → IsBytes bytes → code_at bytes ≡ Ok x → Takes bytes (x.0 ∷ []) x.1
+code_takes : (bytes : Bytes) (x : ℕ × List ℕ) → IsBytes bytes → code_at bytes ≡ Ok x → Takes bytes (x.0 ∷ []) x.1
 code_takes [] x fits e = absurd cc
 code_takes (code ∷ bytes) x fits e = (byte_takes (code ∷ bytes) x fits (kept_ok (is_code code) (Ok (code, bytes)) (suc (length bytes)) x e).1).0
 

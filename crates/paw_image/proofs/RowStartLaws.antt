@@ -8,6 +8,7 @@ use Rattle.std.specs.Option.{option_map, unwrap_or}
 use Rattle.std.proofs.lemmas.Bool.{lt-ltb, le-ltb, cases_lt}
 use Rattle.std.proofs.lemmas.List.{drop_at, drop-drop, length-append, take_at}
 use Rattle.std.proofs.lemmas.Option.{none-some, same_Some, slice_get_past}
+use Rattle.paw_base.specs.Bytes.{Bytes, Texts}
 use Rattle.paw_base.specs.declared.parts.Condact.{Condact}
 use Rattle.paw_game.specs.declared.parts.ObjectRow.{ObjectRow}
 use Rattle.paw_game.specs.declared.parts.Exit.{Exit}
@@ -44,17 +45,17 @@ all_at P (y ∷ ys) zero x h e = subst P (same_Some y x e) h.0
 all_at P (y ∷ ys) (suc k) x h e = all_at P ys k x h.1 e
 
 -- What follows what stands at an offset.
-pub next_at : (bytes text rest : List ℕ) (at : ℕ) → drop at bytes ≡ text ++ rest → drop (at + length text) bytes ≡ rest
+pub next_at : (bytes text rest : Bytes) (at : ℕ) → drop at bytes ≡ text ++ rest → drop (at + length text) bytes ≡ rest
 next_at bytes text rest at e = sym (drop-drop (length text) at bytes) ∙ ap (drop (length text)) e ∙ drop_at text rest (length text) refl
 
 -- The row that stands at the offset where it begins.
-pub record RowAt {A : Type 0} (image : A → List ℕ) (bytes : List ℕ) (found : Option A) (p : ℕ) : Type 0 where
+pub record RowAt {A : Type 0} (image : A → List ℕ) (bytes : Bytes) (found : Option A) (p : ℕ) : Type 0 where
   pub row : A
   pub after : List ℕ
   pub is : found ≡ Some row
   pub lies : drop p bytes ≡ image row ++ after
 
-pub row_lies : {A : Type 0} (image : A → List ℕ) (bytes rest : List ℕ) (xs : List A) (at : ℕ) → drop at bytes ≡ flat_map image xs ++ rest
+pub row_lies : {A : Type 0} (image : A → List ℕ) (bytes rest : Bytes) (xs : List A) (at : ℕ) → drop at bytes ≡ flat_map image xs ++ rest
     → (k p : ℕ) → slice_get (offsets image at xs) k ≡ Some p → RowAt image bytes (slice_get xs k) p
 row_lies image bytes rest [] at e k p h = absurd (none-some p h)
 row_lies image bytes rest (x ∷ xs) at e zero p h =
@@ -77,7 +78,7 @@ some_row image (x ∷ xs) at (suc k) p h none = some_row image xs (at + length (
 -- ---- the lists ----
 
 -- What stands where each list begins.
-pub record ListsAt (bytes : List ℕ) (g : GameLists) : Type 0 where
+pub record ListsAt (bytes : Bytes) (g : GameLists) : Type 0 where
   pub after_system : List ℕ
   pub system : drop (system_begins g) bytes ≡ flat_map text_image g.system ++ after_system
   pub after_messages : List ℕ
@@ -90,7 +91,7 @@ pub record ListsAt (bytes : List ℕ) (g : GameLists) : Type 0 where
   pub exits : drop (exits_begin g) bytes ≡ flat_map exits_image g.exits ++ after_exits
   pub tables : drop (tables_begin_at g) bytes ≡ flat_map table_image g.tables ++ []
 
-pub lists_lie : (bytes : List ℕ) (g : GameLists) → bytes ≡ image g → ListsAt bytes g
+pub lists_lie : (bytes : Bytes) (g : GameLists) → bytes ≡ image g → ListsAt bytes g
 lists_lie bytes g e =
     let d = declared_as (needed_by g) g in
     let start : 0 + length (front_image d) ≡ system_begins g = omega (arith, front_length d) in
@@ -116,14 +117,14 @@ lists_lie bytes g e =
 
 -- ---- texts ----
 
-text_there : (bytes rest : List ℕ) (texts : List (List ℕ)) (begin k p : ℕ) → AllByRecursion FitsText texts
+text_there : (bytes rest : Bytes) (texts : Texts) (begin k p : ℕ) → AllByRecursion FitsText texts
     → drop begin bytes ≡ flat_map text_image texts ++ rest → slice_get (offsets text_image begin texts) k ≡ Some p
     → value_of (inner_reading.sized_text_at (drop p bytes)) ≡ slice_get texts k
 text_there bytes rest texts begin k p fits lies h =
     let r = row_lies text_image bytes rest texts begin lies k p h in
     rw (r.lies, text_again r.row r.after (all_at FitsText texts k r.row fits r.is)) (sym r.is)
 
-text_of_object : (bytes : List ℕ) (os : List ObjectRow) (k p : ℕ) → AllByRecursion FitsObject os
+text_of_object : (bytes : Bytes) (os : List ObjectRow) (k p : ℕ) → AllByRecursion FitsObject os
     → RowAt object_image bytes (slice_get os k) p
     → value_of (inner_reading.sized_text_at (drop p bytes)) ≡ option_map (λ (o : ObjectRow). o.text) (slice_get os k)
 text_of_object bytes os k p fits r =
@@ -132,7 +133,7 @@ text_of_object bytes os k p fits r =
     let text = (all_at FitsObject os k o fits r.is).text in
     rw (r.lies, append_assoc (text_image o.text) facts r.after, text_again o.text (facts ++ r.after) text, r.is) refl
 
-pub text_of_part : (bytes : List ℕ) (g : GameLists) → ListsAt bytes g → FitsGame g → (p : GamePart) (k at : ℕ)
+pub text_of_part : (bytes : Bytes) (g : GameLists) → ListsAt bytes g → FitsGame g → (p : GamePart) (k at : ℕ)
     → slice_get (rows_begin g p) k ≡ Some at → value_of (inner_reading.sized_text_at (drop at bytes)) ≡ text_at g p k
 text_of_part bytes g l fits part.Words k at h = absurd (none-some at h)
 text_of_part bytes g l fits part.System k at h = text_there bytes l.after_system g.system (system_begins g) k at fits.system l.system h
@@ -170,7 +171,7 @@ some_text_of_part g part.Tables k at h none = none-some at h
 
 -- ---- objects ----
 
-pub facts_there : (bytes : List ℕ) (g : GameLists) → ListsAt bytes g → FitsGame g → (k at : ℕ)
+pub facts_there : (bytes : Bytes) (g : GameLists) → ListsAt bytes g → FitsGame g → (k at : ℕ)
     → slice_get (rows_begin g part.Objects) k ≡ Some at → facts_here (drop at bytes) ≡ facts_at g k
 unfolding facts_here
 facts_there bytes g l fits k at h =
@@ -201,7 +202,7 @@ exit_found verb [] rest = refl
 exit_found verb (x ∷ xs) rest =
     rw (exit_found verb xs rest) (exit_first (eqb x.verb verb) x (find (λ (y : Exit). eqb y.verb verb) xs))
 
-pub exit_there : (bytes : List ℕ) (g : GameLists) → ListsAt bytes g → (verb k at : ℕ)
+pub exit_there : (bytes : Bytes) (g : GameLists) → ListsAt bytes g → (verb k at : ℕ)
     → slice_get (offsets exits_image (exits_begin g) g.exits) k ≡ Some at
     → exits_here verb (drop at bytes) ≡ exit_of (unwrap_or (slice_get g.exits k) []) verb
 unfolding exits_here
@@ -216,7 +217,7 @@ no_exit g verb k h = rw (no_row exits_image g.exits (exits_begin g) k h) refl
 -- ---- entries ----
 
 -- The entries of a table, where they begin.
-pub record TableAt (bytes : List ℕ) (found : Option (List Entry)) (ps : List ℕ) : Type 0 where
+pub record TableAt (bytes : Bytes) (found : Option (List Entry)) (ps : List ℕ) : Type 0 where
   pub rows : List Entry
   pub at : ℕ
   pub after : List ℕ
@@ -224,7 +225,7 @@ pub record TableAt (bytes : List ℕ) (found : Option (List Entry)) (ps : List �
   pub begin : ps ≡ offsets entry_image at rows
   pub lies : drop at bytes ≡ flat_map entry_image rows ++ after
 
-pub table_lies : (bytes rest : List ℕ) (ts : List (List Entry)) (at : ℕ) → drop at bytes ≡ flat_map table_image ts ++ rest
+pub table_lies : (bytes rest : Bytes) (ts : List (List Entry)) (at : ℕ) → drop at bytes ≡ flat_map table_image ts ++ rest
     → (t : ℕ) (ps : List ℕ) → slice_get (entry_offsets at ts) t ≡ Some ps → TableAt bytes (slice_get ts t) ps
 table_lies bytes rest [] at e t ps h = absurd (none-some ps h)
 table_lies bytes rest (es ∷ ts) at e zero ps h =
@@ -249,7 +250,7 @@ no_table [] at t h = refl
 no_table (es ∷ ts) at zero h = absurd (none-some (offsets entry_image (at + 2) es) (sym h))
 no_table (es ∷ ts) at (suc t) h = no_table ts (at + length (table_image es)) t h
 
-entry_in_table : (bytes : List ℕ) (found : Option (List Entry)) (begin : Option (List ℕ)) (k p : ℕ) → ((ps : List ℕ) → begin ≡ Some ps → TableAt bytes found ps)
+entry_in_table : (bytes : Bytes) (found : Option (List Entry)) (begin : Option (List ℕ)) (k p : ℕ) → ((ps : List ℕ) → begin ≡ Some ps → TableAt bytes found ps)
     → slice_get (unwrap_or begin []) k ≡ Some p → RowAt entry_image bytes (slice_get (unwrap_or found []) k) p
 entry_in_table bytes found None k p there h = absurd (none-some p h)
 entry_in_table bytes found (Some ps) k p there h =
@@ -257,7 +258,7 @@ entry_in_table bytes found (Some ps) k p there h =
     rw t.is (row_lies entry_image bytes t.after t.rows t.at t.lies k p (rw t.begin at h))
 
 -- The entry that stands at the offset where it begins.
-pub entry_lies : (bytes : List ℕ) (g : GameLists) → ListsAt bytes g → (t k p : ℕ)
+pub entry_lies : (bytes : Bytes) (g : GameLists) → ListsAt bytes g → (t k p : ℕ)
     → slice_get (unwrap_or (slice_get (entry_offsets (tables_begin_at g) g.tables) t) []) k ≡ Some p
     → RowAt entry_image bytes (slice_get (unwrap_or (slice_get g.tables t) []) k) p
 entry_lies bytes g l t k p h =

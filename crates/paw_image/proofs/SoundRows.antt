@@ -6,6 +6,7 @@ use Rattle.std.specs.List.{list_all, list_any}
 use Rattle.std.proofs.lemmas.Bool.{and_parts, le-leb}
 use Rattle.std.proofs.lemmas.Bool.Decides.{nat_tests}
 use Rattle.std.proofs.lemmas.Nat.{and_mask}
+use Rattle.paw_base.specs.Bytes.{Bytes}
 use Rattle.paw_base.specs.declared.parts.Condact.{Condact}
 use Rattle.paw_base.specs.declared.rows.ParamKind.{ParamKind}
 use Rattle.paw_base.specs.declared.rows.ParamKind.TheVariants as kind
@@ -122,7 +123,7 @@ none_of-none (x ∷ xs) = none_of-none xs
 abbrev keeps_after : ImagePreface → List ℕ → List Exit → Bool
 keeps_after d verbs xs = none_of verbs xs && are_exits d.words d.counts.locations xs
 
-exits_sound_of : (d : ImagePreface) (verbs : List ℕ) (n : ℕ) (bytes rest : List ℕ)
+exits_sound_of : (d : ImagePreface) (verbs : List ℕ) (n : ℕ) (bytes rest : Bytes)
     → after_exits_of d verbs n bytes ≡ Ok rest → Stands (leading_rows leading_exit n bytes) (keeps_after d verbs) rest
 unfolding after_exits_of checked_exit leading_rows leading_exit pair_at
 exits_sound_of d verbs zero bytes rest e =
@@ -177,7 +178,7 @@ keeps_entry d e =
 abbrev pub keeps_table : ImagePreface → List Entry → Bool
 keeps_table d es = leb (length es) ENTRY_LIMIT && list_all (keeps_entry d) es
 
-byte_sound : (rule : ℕ → Bool) (bytes rest : List ℕ) → (checked_field rule byte_at bytes >>= λ x. Ok x.1) ≡ Ok rest → Stands (byte_at bytes) rule rest
+byte_sound : (rule : ℕ → Bool) (bytes rest : Bytes) → (checked_field rule byte_at bytes >>= λ x. Ok x.1) ≡ Ok rest → Stands (byte_at bytes) rule rest
 byte_sound rule bytes rest e =
     kept_then _ rule byte_at bytes _ rest e (λ x x_ok x_kept e.
     record { value = x.0; reads = at_ok (λ (r : List ℕ). byte_at bytes ≡ Ok (x.0, r)) x.1 rest e x_ok; keeps = x_kept })
@@ -187,7 +188,7 @@ parameter_sound d kind.Absent bytes rest fits e =
     record { value = 0; reads = at_ok (λ (r : List ℕ). parameter_at kind.Absent bytes ≡ Ok (0, r)) bytes rest e refl; keeps = refl }
 parameter_sound d k bytes rest fits e = byte_sound (is_parameter d.counts d.words k) bytes rest e
 
-code_is : (bytes : List ℕ) → code_at bytes ≡ checked_field is_code byte_at bytes
+code_is : (bytes : Bytes) → code_at bytes ≡ checked_field is_code byte_at bytes
 code_is [] = refl
 code_is (code ∷ bytes) = refl
 
@@ -234,13 +235,13 @@ entry_sound d bytes rest fits e =
     })))
 
 -- A table, with where its entries begin.
-pub record TablePlaced (d : ImagePreface) (bytes rest : List ℕ) : Type 0 where
+pub record TablePlaced (d : ImagePreface) (bytes rest : Bytes) : Type 0 where
   pub value : List Entry
   pub reads : leading_table bytes ≡ Ok (value, rest)
   pub keeps : keeps_table d value ≡ true
   pub begin : (total start : ℕ) → start + length bytes ≡ total → entries_begin d total bytes ≡ offsets entry_image (start + 2) value
 
-pub table_placed : (d : ImagePreface) (bytes rest : List ℕ) → IsBytes bytes → after_table d bytes ≡ Ok rest → TablePlaced d bytes rest
+pub table_placed : (d : ImagePreface) (bytes rest : Bytes) → IsBytes bytes → after_table d bytes ≡ Ok rest → TablePlaced d bytes rest
 unfolding after_table leading_table entries_begin
 table_placed d bytes rest fits e =
     kept_then _ (is_within 0 ENTRY_LIMIT) number_at bytes _ rest e (λ count count_ok count_kept e.
@@ -258,13 +259,13 @@ table_placed d bytes rest fits e =
     })
 
 -- Tables, with where their entries begin.
-pub record TablesPlaced (d : ImagePreface) (n : ℕ) (bytes rest : List ℕ) : Type 0 where
+pub record TablesPlaced (d : ImagePreface) (n : ℕ) (bytes rest : Bytes) : Type 0 where
   pub value : List (List Entry)
   pub reads : leading_rows leading_table n bytes ≡ Ok (value, rest)
   pub keeps : list_all (keeps_table d) value ≡ true
   pub begin : (total start : ℕ) → start + length bytes ≡ total → tables_begin d total n bytes ≡ entry_offsets start value
 
-pub tables_placed : (d : ImagePreface) (n : ℕ) (bytes rest : List ℕ) → IsBytes bytes → each (after_table d) n bytes ≡ Ok rest → TablesPlaced d n bytes rest
+pub tables_placed : (d : ImagePreface) (n : ℕ) (bytes rest : Bytes) → IsBytes bytes → each (after_table d) n bytes ≡ Ok rest → TablesPlaced d n bytes rest
 unfolding each leading_rows tables_begin
 tables_placed d zero bytes rest fits e =
     record {

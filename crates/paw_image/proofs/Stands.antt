@@ -4,6 +4,7 @@ use Rattle.std.proofs.Common.{◌++◌, length, Result, Ok, refl, sym, ap, subst
 use Rattle.std.specs.List.{flat_map, list_all}
 use Rattle.std.proofs.lemmas.Bool.{ltb-false, and_parts}
 use Rattle.std.proofs.lemmas.List.{length-take, length-append}
+use Rattle.paw_base.specs.Bytes.{Bytes}
 use Rattle.paw_read_error.specs.Bind.{◌>>=◌}
 use Rattle.paw_image.specs.Reading.{Reading, bytes_at}
 use Rattle.paw_image.specs.inner.Reading.{leading_rows}
@@ -16,7 +17,7 @@ pub and_true : (a b : Bool) → a ≡ true → b ≡ true → (a && b) ≡ true
 and_true a b p q = rw (p, q) refl
 
 -- What follows from a field that followed its rule.
-pub kept_then : {A B : Type 0} (P : Type 0) (rule : A → Bool) (field : List ℕ → Reading A) (bytes : List ℕ)
+pub kept_then : {A B : Type 0} (P : Type 0) (rule : A → Bool) (field : List ℕ → Reading A) (bytes : Bytes)
     (f : A × List ℕ → Result B ℕ) (y : B) → (checked_field rule field bytes >>= f) ≡ Ok y
     → ((x : A × List ℕ) → field bytes ≡ Ok x → rule x.0 ≡ true → f x ≡ Ok y → P) → P
 kept_then {A} P rule field bytes f y e go =
@@ -25,7 +26,7 @@ kept_then {A} P rule field bytes f y e go =
     let both = kept_ok (rule z.0) (Ok z) (length bytes) x e2 in
     go z z_ok both.0 (at_ok (λ (w : A × List ℕ). f w ≡ Ok y) x z (sym both.1) e)))
 
-pub bytes_length : (n : ℕ) (bytes : List ℕ) (x : List ℕ × List ℕ) → bytes_at n bytes ≡ Ok x → length x.0 ≡ n
+pub bytes_length : (n : ℕ) (bytes : Bytes) (x : List ℕ × List ℕ) → bytes_at n bytes ≡ Ok x → length x.0 ≡ n
 bytes_length n bytes x e =
     let is_long = guard_ok (ltb (length bytes) n) _ _ x e in
     let long : n ≤ length bytes = ltb-false _ _ is_long.0 in
@@ -39,26 +40,26 @@ pub record Stands {A : Type 0} (reading : Reading A) (rule : A → Bool) (rest :
 
 -- Bytes that a row passes are read as a row that follows its rule.
 abbrev pub SoundRow : {A : Type 0} → (List ℕ → Passing) → (List ℕ → Reading A) → (A → Bool) → Type 0
-SoundRow pass row rule = (bytes rest : List ℕ) → IsBytes bytes → pass bytes ≡ Ok rest → Stands (row bytes) rule rest
+SoundRow pass row rule = (bytes rest : Bytes) → IsBytes bytes → pass bytes ≡ Ok rest → Stands (row bytes) rule rest
 
 -- The image of a row that follows its rule is passed.
 abbrev pub PassesRow : {A : Type 0} → (List ℕ → Passing) → (A → List ℕ) → (A → Bool) → Type 0
 PassesRow {A} pass image rule = (x : A) (rest : List ℕ) → rule x ≡ true → pass (image x ++ rest) ≡ Ok rest
 
 pub rest_fits : {A : Type 0} (row : List ℕ → Reading A) (image : A → List ℕ) (rule : A → Bool) → TakesRow row image
-    → (bytes rest : List ℕ) → IsBytes bytes → Stands (row bytes) rule rest → IsBytes rest
+    → (bytes rest : Bytes) → IsBytes bytes → Stands (row bytes) rule rest → IsBytes rest
 rest_fits row image rule takes bytes rest fits s = (takes bytes (s.value, rest) fits s.reads).rest_fits
 
-pub taken_length : (bytes text rest : List ℕ) → Takes bytes text rest → length bytes ≡ length text + length rest
+pub taken_length : (bytes text rest : Bytes) → Takes bytes text rest → length bytes ≡ length text + length rest
 taken_length bytes text rest t = ap (λ (l : List ℕ). length l) t.parts ∙ length-append text rest
 
 -- What was taken ends where what is left begins, in the last of `total` bytes.
-pub taken_ends : (bytes text rest : List ℕ) (total start : ℕ) → Takes bytes text rest → start + length bytes ≡ total
+pub taken_ends : (bytes text rest : Bytes) (total start : ℕ) → Takes bytes text rest → start + length bytes ≡ total
     → start + length text + length rest ≡ total
 taken_ends bytes text rest total start t h = omega (arith, h, taken_length bytes text rest t)
 
 -- These n rows follow the rule and stand there, with where they begin in the last of `total` bytes.
-pub record Placed {A : Type 0} (pass : List ℕ → Passing) (image : A → List ℕ) (n : ℕ) (bytes : List ℕ)
+pub record Placed {A : Type 0} (pass : List ℕ → Passing) (image : A → List ℕ) (n : ℕ) (bytes : Bytes)
     (reading : Reading (List A)) (rule : A → Bool) (rest : List ℕ) : Type 0 where
   pub value : List A
   pub reads : reading ≡ Ok (value, rest)
@@ -68,7 +69,7 @@ pub record Placed {A : Type 0} (pass : List ℕ → Passing) (image : A → List
   pub begin : (total start : ℕ) → start + length bytes ≡ total → begins pass total n bytes ≡ offsets image start value
 
 pub each_sound : {A : Type 0} (pass : List ℕ → Passing) (row : List ℕ → Reading A) (image : A → List ℕ)
-    (rule : A → Bool) → TakesRow row image → SoundRow pass row rule → (n : ℕ) (bytes rest : List ℕ) → IsBytes bytes
+    (rule : A → Bool) → TakesRow row image → SoundRow pass row rule → (n : ℕ) (bytes rest : Bytes) → IsBytes bytes
     → each pass n bytes ≡ Ok rest → Placed pass image n bytes (leading_rows row n bytes) rule rest
 unfolding each leading_rows begins
 each_sound {A} pass row image rule takes sound zero bytes rest fits e =

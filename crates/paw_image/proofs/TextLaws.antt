@@ -4,6 +4,7 @@ use Rattle.std.proofs.Common.{ap, ◌∙◌, take_all, length-drop, le_of_eq, in
 use Rattle.std.specs.Int.{w16, from_le_bytes}
 use Rattle.std.proofs.lemmas.Bool.{cases_lt, lt-ltb, le-ltb}
 use Rattle.std.proofs.lemmas.Option.{slice_get-get_or}
+use Rattle.paw_base.specs.Bytes.{Bytes}
 use Rattle.paw_image.specs.Reading.{bytes_at, number_at}
 use Rattle.paw_image.specs.inner.Reading.{sized_text_at}
 use Rattle.paw_image.specs.inner.Rows.{value_of}
@@ -14,7 +15,7 @@ use Rattle.paw_image.proofs.HereLaws.{here}
 abbrev pub length_at : ℕ → List ℕ → ℕ
 length_at p bytes = from_le_bytes w16 (get_or bytes p 0 ∷ get_or bytes (p + 1) 0 ∷ [])
 
-no_length : (bytes : List ℕ) → length bytes < 2 → value_of (sized_text_at bytes) ≡ None
+no_length : (bytes : Bytes) → length bytes < 2 → value_of (sized_text_at bytes) ≡ None
 unfolding sized_text_at number_at
 no_length bytes h = rw (lt-ltb (length bytes) 2 h) refl
 
@@ -23,14 +24,14 @@ unfolding sized_text_at number_at
 after_length a b rest = rw (bytes_again 2 (a ∷ b ∷ []) rest refl) refl
 
 -- Where a text is read its length stands.
-pub length_there : (p : ℕ) (bytes : List ℕ) → (value_of (sized_text_at (drop p bytes)) ≡ None → ⊥) → p + 2 ≤ length bytes
+pub length_there : (p : ℕ) (bytes : Bytes) → (value_of (sized_text_at (drop p bytes)) ≡ None → ⊥) → p + 2 ≤ length bytes
 length_there p bytes there =
     elim (cases_lt (length (drop p bytes)) 2) [
       | inl lt ↦ absurd (there (no_length (drop p bytes) lt))
       | inr le ↦ omega (arith, length-drop p bytes)
     ]
 
-module _ (p : ℕ) (bytes : List ℕ) (long : p + 2 ≤ length bytes) where
+module _ (p : ℕ) (bytes : Bytes) (long : p + 2 ≤ length bytes) where
   two_first : drop p bytes ≡ get_or bytes p 0 ∷ get_or bytes (p + 1) 0 ∷ drop (p + 2) bytes
   two_first =
       let first = slice_get-get_or bytes p 0 (omega arith) in
@@ -59,5 +60,5 @@ module _ (p : ℕ) (bytes : List ℕ) (long : p + 2 ≤ length bytes) where
     text_is le = rw (read, le-ltb (length rest) n le) refl
 
 -- The bytes from an offset on, as a slice up to their end.
-pub from_there : (k : ℕ) (bytes : List ℕ) → take (length bytes - k) (drop k bytes) ≡ drop k bytes
+pub from_there : (k : ℕ) (bytes : Bytes) → take (length bytes - k) (drop k bytes) ≡ drop k bytes
 from_there k bytes = take_all (length bytes - k) (drop k bytes) (le_of_eq (length-drop k bytes))

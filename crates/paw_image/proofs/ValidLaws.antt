@@ -2,6 +2,7 @@
 use Rattle.std.proofs.Common.{◌≡◌, ℕ, ◌≤◌, Bool, true, leb, eqb, ◌&&◌, ◌||◌, List, [], ◌∷◌, length, ◌∙◌, arith}
 use Rattle.std.specs.List.{list_all, AllByRecursion}
 use Rattle.std.proofs.lemmas.Bool.{and_parts, leb-true, eqb-true}
+use Rattle.paw_base.specs.Bytes.{Text, Letters}
 use Rattle.paw_base.specs.declared.parts.Condact.{Condact}
 use Rattle.paw_base.specs.declared.rows.ParamKind.{ParamKind}
 use Rattle.paw_base.specs.declared.rows.ParamKind.TheVariants as kind
@@ -29,14 +30,14 @@ all_give : {A : Type 0} (p : A → Bool) (P : A → Type 0) → ((x : A) → p x
 all_give p P gives [] e = tt
 all_give p P gives (x ∷ xs) e = let both = and_parts (p x) (list_all p xs) e in (gives x both.0, all_give p P gives xs both.1)
 
-pub letters_fit : (letters : List ℕ) → are_letters letters ≡ true → length letters ≡ WORD_LENGTH
+pub letters_fit : (letters : Letters) → are_letters letters ≡ true → length letters ≡ WORD_LENGTH
 letters_fit [] e = absurd cc
 letters_fit (c ∷ cs) e = eqb-true _ _ (and_parts (eqb (length (c ∷ cs)) WORD_LENGTH) _ e).0
 
 pub word_fits : (w : Word) → is_word w ≡ true → FitsWord w
 word_fits w e = letters_fit w.letters (and_parts (are_letters w.letters) _ e).0
 
-text_fits : (text : List ℕ) → is_text text ≡ true → FitsText text
+text_fits : (text : Text) → is_text text ≡ true → FitsText text
 text_fits text e = omega (arith, leb-true _ _ (and_parts (leb (length text) TEXT_LIMIT) _ e).0)
 
 object_fits : (ws : List Word) (locations : ℕ) (o : ObjectRow) → is_object ws locations o ≡ true → FitsObject o

@@ -6,6 +6,7 @@ use Rattle.std.specs.List.{AllByRecursion}
 use Rattle.std.specs.Option.{option_map, unwrap_or}
 use Rattle.std.proofs.lemmas.Bool.{le-ltb}
 use Rattle.std.proofs.lemmas.Option.{none-some, slice_get-map}
+use Rattle.paw_base.specs.Bytes.{Bytes, Text}
 use Rattle.paw_base.specs.declared.parts.Counts.{Counts}
 use Rattle.paw_game.specs.declared.parts.Word.{Word}
 use Rattle.paw_game.specs.declared.parts.Entry.{Entry}
@@ -41,12 +42,12 @@ use Rattle.paw_image.proofs.WholeLaws.{all_sound, both_none, nothing_left, image
 
 -- ---- the index ----
 
-game_is : (bytes : List ℕ) (g : GameLists) → all_of bytes ≡ Ok g → game_read bytes ≡ g
+game_is : (bytes : Bytes) (g : GameLists) → all_of bytes ≡ Ok g → game_read bytes ≡ g
 unfolding game_read
 game_is bytes g e = rw e refl
 
 -- The offsets that come of bytes in which no rule is broken are those of the game.
-pub index_from : (bytes : List ℕ) (front : Front) (rest : List ℕ) (p : Offsets) → IsBytes bytes
+pub index_from : (bytes : Bytes) (front : Front) (rest : List ℕ) (p : Offsets) → IsBytes bytes
     → length bytes ≤ IMAGE_LIMIT → bad bytes ≡ None → IsPassed bytes front rest p
     → IsIndex bytes front.counts front.words.items p
 unfolding bad
@@ -72,30 +73,30 @@ index_from bytes front rest p fits short whole passed =
     }
 
 -- An offset of damage shows that there is no image.
-pub damage_is_none : (bytes : List ℕ) (r : ImageRefusal) → AtDamage r (λ at. bad bytes ≡ Some at) → AtDamage r (λ _. (g : GameLists) → IsImage bytes g → ⊥)
+pub damage_is_none : (bytes : Bytes) (r : ImageRefusal) → AtDamage r (λ at. bad bytes ≡ Some at) → AtDamage r (λ _. (g : GameLists) → IsImage bytes g → ⊥)
 damage_is_none bytes refusal.Memory h = tt
 damage_is_none bytes (refusal.Damaged at) h = λ g is. none-some at (sym (image_is_whole bytes g is) ∙ h)
 
 -- ---- the game of an image ----
 
-pub fits_of : (bytes : List ℕ) → IsImage bytes (game_read bytes) → FitsGame (game_read bytes)
+pub fits_of : (bytes : Bytes) → IsImage bytes (game_read bytes) → FitsGame (game_read bytes)
 fits_of bytes is = valid_fits (game_read bytes) is.valid
 
-pub lists_of : (bytes : List ℕ) → IsImage bytes (game_read bytes) → ListsAt bytes (game_read bytes)
+pub lists_of : (bytes : Bytes) → IsImage bytes (game_read bytes) → ListsAt bytes (game_read bytes)
 lists_of bytes is = lists_lie bytes (game_read bytes) is.spelled
 
-pub text_read : (bytes : List ℕ) → IsImage bytes (game_read bytes) → (p : GamePart) (k at : ℕ)
+pub text_read : (bytes : Bytes) → IsImage bytes (game_read bytes) → (p : GamePart) (k at : ℕ)
     → slice_get (rows_begin (game_read bytes) p) k ≡ Some at
     → value_of (inner_reading.sized_text_at (drop at bytes)) ≡ text_at (game_read bytes) p k
 text_read bytes is p k at h = text_of_part bytes (game_read bytes) (lists_of bytes is) (fits_of bytes is) p k at h
 
 -- Where a row begins a text is read.
-pub text_begins : (bytes : List ℕ) → IsImage bytes (game_read bytes) → (p : GamePart) (k at : ℕ)
+pub text_begins : (bytes : Bytes) → IsImage bytes (game_read bytes) → (p : GamePart) (k at : ℕ)
     → slice_get (rows_begin (game_read bytes) p) k ≡ Some at
     → value_of (inner_reading.sized_text_at (drop at bytes)) ≡ None → ⊥
 text_begins bytes is p k at h none = some_text_of_part (game_read bytes) p k at h (sym (text_read bytes is p k at h) ∙ none)
 
-pub span_read : (bytes : List ℕ) → IsImage bytes (game_read bytes) → (p : GamePart) (k at : ℕ) (text : List ℕ)
+pub span_read : (bytes : Bytes) → IsImage bytes (game_read bytes) → (p : GamePart) (k at : ℕ) (text : Text)
     → slice_get (rows_begin (game_read bytes) p) k ≡ Some at
     → value_of (inner_reading.sized_text_at (drop at bytes)) ≡ Some text
     → span_at (game_read bytes) p k ≡ Some (at + 2, at + 2 + length text)
@@ -109,25 +110,25 @@ in_table None fits k e h = absurd (none-some e h)
 in_table (Some es) fits k e h = (all_at FitsEntry es k e (fits es refl).entries h).condacts
 
 -- The condacts of an entry fit.
-entry_fits : (bytes : List ℕ) → IsImage bytes (game_read bytes) → (t k : ℕ) (e : Entry)
+entry_fits : (bytes : Bytes) → IsImage bytes (game_read bytes) → (t k : ℕ) (e : Entry)
     → slice_get (unwrap_or (slice_get (game_read bytes).tables t) []) k ≡ Some e → AllByRecursion FitsCondact e.condacts
 entry_fits bytes is t k e h =
     in_table (slice_get (game_read bytes).tables t)
     (λ es found. all_at FitsTable (game_read bytes).tables t es (fits_of bytes is).tables found) k e h
 
-pub entry_at_place : (bytes : List ℕ) → IsImage bytes (game_read bytes) → (t k p : ℕ)
+pub entry_at_place : (bytes : Bytes) → IsImage bytes (game_read bytes) → (t k p : ℕ)
     → slice_get (unwrap_or (slice_get (entry_offsets (tables_begin_at (game_read bytes)) (game_read bytes).tables) t) []) k
     ≡ Some p
     → RowAt entry_image bytes (entry_at (game_read bytes) t k) p
 entry_at_place bytes is t k p h = entry_lies bytes (game_read bytes) (lists_of bytes is) t k p h
 
-pub head_read : (bytes : List ℕ) → IsImage bytes (game_read bytes) → (t k p : ℕ)
+pub head_read : (bytes : Bytes) → IsImage bytes (game_read bytes) → (t k p : ℕ)
     → slice_get (unwrap_or (slice_get (entry_offsets (tables_begin_at (game_read bytes)) (game_read bytes).tables) t) []) k
     ≡ Some p
     → option_map {U = ℕ × ℕ} (λ (x : (ℕ × ℕ) × ℕ). x.0) (head_here (drop p bytes)) ≡ head_at (game_read bytes) t k
 head_read bytes is t k p h = let r = entry_at_place bytes is t k p h in rw (r.lies, r.is, head_there r.row r.after) refl
 
-pub counts_read : (bytes : List ℕ) → IsImage bytes (game_read bytes) → (t k p : ℕ)
+pub counts_read : (bytes : Bytes) → IsImage bytes (game_read bytes) → (t k p : ℕ)
     → slice_get (unwrap_or (slice_get (entry_offsets (tables_begin_at (game_read bytes)) (game_read bytes).tables) t) []) k
     ≡ Some p
     → HeadCounts bytes t k p
@@ -135,7 +136,7 @@ counts_read bytes is t k p h =
     let r = entry_at_place bytes is t k p h in
     ((r.row.verb, r.row.noun), rw (r.lies, r.is) (head_there r.row r.after))
 
-pub condact_read : (bytes : List ℕ) → IsImage bytes (game_read bytes) → (t k p at : ℕ)
+pub condact_read : (bytes : Bytes) → IsImage bytes (game_read bytes) → (t k p at : ℕ)
     → slice_get (unwrap_or (slice_get (entry_offsets (tables_begin_at (game_read bytes)) (game_read bytes).tables) t) []) k
     ≡ Some p
     → nth_condact at (drop p bytes) ≡ condact_at (game_read bytes) t k at
@@ -143,7 +144,7 @@ condact_read bytes is t k p at h =
     let r = entry_at_place bytes is t k p h in
     rw (r.lies, r.is) (condact_there r.row r.after at (entry_fits bytes is t k r.row r.is))
 
-pub entry_read : (bytes : List ℕ) → IsImage bytes (game_read bytes) → (t k p : ℕ)
+pub entry_read : (bytes : Bytes) → IsImage bytes (game_read bytes) → (t k p : ℕ)
     → slice_get (unwrap_or (slice_get (entry_offsets (tables_begin_at (game_read bytes)) (game_read bytes).tables) t) []) k
     ≡ Some p
     → entry_here (drop p bytes) ≡ option_map entry_image (entry_at (game_read bytes) t k)
@@ -151,7 +152,7 @@ entry_read bytes is t k p h =
     let r = entry_at_place bytes is t k p h in
     rw (r.lies, r.is) (entry_bytes_there r.row r.after (entry_fits bytes is t k r.row r.is))
 
-pub no_entry_read : (bytes : List ℕ) (t k : ℕ)
+pub no_entry_read : (bytes : Bytes) (t k : ℕ)
     → slice_get (unwrap_or (slice_get (entry_offsets (tables_begin_at (game_read bytes)) (game_read bytes).tables) t) []) k
     ≡ None → entry_at (game_read bytes) t k ≡ None
 no_entry_read bytes t k h = no_entry (game_read bytes) t k h
@@ -162,7 +163,7 @@ drop_nothing : (n : ℕ) → drop {A = Entry} n [] ≡ []
 drop_nothing zero = refl
 drop_nothing (suc n) = refl
 
-pub ordered_at : (bytes : List ℕ) (ts : List TableIndex) (k : ℕ) (t : TableIndex)
+pub ordered_at : (bytes : Bytes) (ts : List TableIndex) (k : ℕ) (t : TableIndex)
     → AllByRecursion (λ x. IsOrder bytes x.entries.items x.order) ts → slice_get ts k ≡ Some t
     → IsOrder bytes t.entries.items t.order
 ordered_at bytes ts k t h e = all_at (λ (x : TableIndex). IsOrder bytes x.entries.items x.order) ts k t h e
@@ -175,7 +176,7 @@ entries_at ts k t ps e h = ap (λ (l : List (List ℕ)). slice_get l k) (sym e) 
 no_entries_at : (ts : List TableIndex) (k : ℕ) (ps : List (List ℕ)) → entries_of ts ≡ ps → slice_get ts k ≡ None → slice_get ps k ≡ None
 no_entries_at ts k ps e h = ap (λ (l : List (List ℕ)). slice_get l k) (sym e) ∙ slice_get-map (λ (x : TableIndex). x.entries.items) ts k ∙ rw h refl
 
-pub match_read : {bytes : List ℕ} {counts : Counts} {words : List Word} {p : Offsets} → IsIndex bytes counts words p
+pub match_read : {bytes : Bytes} {counts : Counts} {words : List Word} {p : Offsets} → IsIndex bytes counts words p
     → (t : ℕ) (i : TableIndex) → slice_get p.tables.items t ≡ Some i
     → (from verb noun : ℕ) (r : Option ℕ) → IsLeast (IsMatch i.order.ranks.items (is_match verb noun) from) r → r ≡ match_at (game_read bytes) t from verb noun
 match_read {bytes} {counts} {words} {p} is t i h from verb noun r least =
@@ -184,7 +185,7 @@ match_read {bytes} {counts} {words} {p} is t i h from verb noun r least =
     let order = subst (λ (ps : List ℕ). IsOrder bytes ps i.order) table.begin (ordered_at bytes p.tables.items t i is.ordered h) in
     rw table.is (next_match_is bytes table.after table.rows table.at i.order order table.lies verb from noun r least)
 
-pub no_match_read : {bytes : List ℕ} {counts : Counts} {words : List Word} {p : Offsets} → IsIndex bytes counts words p
+pub no_match_read : {bytes : Bytes} {counts : Counts} {words : List Word} {p : Offsets} → IsIndex bytes counts words p
     → (t : ℕ) → slice_get p.tables.items t ≡ None → (from verb noun : ℕ)
     → match_at (game_read bytes) t from verb noun ≡ None
 no_match_read {bytes} {counts} {words} {p} is t h from verb noun =
@@ -193,11 +194,11 @@ no_match_read {bytes} {counts} {words} {p} is t h from verb noun =
 
 -- ---- the condacts of an entry ----
 
-pub no_index_read : {bytes : List ℕ} {counts : Counts} {words : List Word} {p : Offsets} → IsIndex bytes counts words p
+pub no_index_read : {bytes : Bytes} {counts : Counts} {words : List Word} {p : Offsets} → IsIndex bytes counts words p
     → (t k : ℕ) → slice_get p.tables.items t ≡ None → entry_at (game_read bytes) t k ≡ None
 no_index_read {bytes} {counts} {words} {p} is t k h = no_entry_read bytes t k (rw (no_entries_at p.tables.items t _ is.tables h) refl)
 
-module _ {bytes : List ℕ} {counts : Counts} {words : List Word} {p : Offsets} (is : IsIndex bytes counts words p)
+module _ {bytes : Bytes} {counts : Counts} {words : List Word} {p : Offsets} (is : IsIndex bytes counts words p)
     (t : ℕ) (i : TableIndex) (there : slice_get p.tables.items t ≡ Some i) (k : ℕ) where
   -- An entry begins where the index of its table says.
   entry_begins : slice_get (unwrap_or (slice_get (entry_offsets (tables_begin_at (game_read bytes)) (game_read bytes).tables) t) []) k

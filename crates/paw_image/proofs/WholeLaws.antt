@@ -12,6 +12,7 @@ use Rattle.paw_game.specs.Valid.{Valid, is_within, is_word, words_rise, is_text,
 use Rattle.paw_game.specs.Image.{word_image, text_image, object_image, exits_image, table_image, image, has_indirect}
 use Rattle.paw_game.specs.Image.{version_of}
 use Rattle.paw_game.proofs.Faults.{rise_after, rise_after-none}
+use Rattle.paw_base.specs.Bytes.{Bytes}
 use Rattle.paw_base.specs.declared.limits.TheConstants.{IMAGE_LIMIT, WORD_LIMIT, SYSTEM_LIMIT, MESSAGE_LIMIT}
 use Rattle.paw_base.specs.declared.limits.TheConstants.{OBJECT_LIMIT, LOCATION_LEAST, LOCATION_LIMIT, TABLE_LEAST}
 use Rattle.paw_base.specs.declared.limits.TheConstants.{TABLE_LIMIT}
@@ -59,7 +60,7 @@ pub record StandAt (start : ℕ) (g : GameLists) (p : Offsets) : Type 0 where
       + length (flat_map text_image g.locations) + length (flat_map exits_image g.exits)) g.tables
 
 -- The lists after the words, as they are read by their rules.
-record AreRead (d : ImagePreface) (bytes rest : List ℕ) : Type 0 where
+record AreRead (d : ImagePreface) (bytes rest : Bytes) : Type 0 where
   game : GameLists
   reads : lists_at d bytes ≡ Ok (game, rest)
   system : list_all is_text game.system ≡ true
@@ -72,7 +73,7 @@ record AreRead (d : ImagePreface) (bytes rest : List ℕ) : Type 0 where
   begin : (total start : ℕ) (p : Offsets) → start + length bytes ≡ total → AreGoneOver d total bytes p
       → StandAt start game p
 
-lists_sound : (d : ImagePreface) (bytes rest : List ℕ) → IsBytes bytes → after_lists d bytes ≡ Ok rest
+lists_sound : (d : ImagePreface) (bytes rest : Bytes) → IsBytes bytes → after_lists d bytes ≡ Ok rest
     → AreRead d bytes rest
 unfolding after_lists lists_at
 lists_sound d bytes rest fits e =
@@ -129,7 +130,7 @@ lists_sound d bytes rest fits e =
     })))))
 
 -- What the front declares, and the lists that follow its rules, make a valid game.
-valid_from : (bytes : List ℕ) (x : ImagePreface × List ℕ) (rest : List ℕ) → Fronted bytes x
+valid_from : (bytes : Bytes) (x : ImagePreface × List ℕ) (rest : List ℕ) → Fronted bytes x
     → (r : AreRead x.0 x.1 rest) → x.0 ≡ declared_as x.0.version r.game → Valid r.game
 valid_from bytes x rest f r is =
     let g = r.game in
@@ -193,7 +194,7 @@ lists_pass version g rest valid keep =
 -- ---- all of the bytes ----
 
 -- Bytes that are read by their rules to the end.
-pub record IsWhole (bytes : List ℕ) : Type 0 where
+pub record IsWhole (bytes : Bytes) : Type 0 where
   pub game : GameLists
   pub reads : all_of bytes ≡ Ok game
   pub valid : Valid game
@@ -202,7 +203,7 @@ pub record IsWhole (bytes : List ℕ) : Type 0 where
   pub begin : (d : ImagePreface × List ℕ) (p : Offsets) → front bytes ≡ Ok d → AreGoneOver d.0 (length bytes) d.1 p
       → StandAt (system_begins game) game p
 
-pub all_sound : (bytes : List ℕ) → IsBytes bytes → after_all bytes ≡ Ok [] → is_needless bytes ≡ false → IsWhole bytes
+pub all_sound : (bytes : Bytes) → IsBytes bytes → after_all bytes ≡ Ok [] → is_needless bytes ≡ false → IsWhole bytes
 unfolding after_all all_of is_needless
 all_sound bytes fits e needed =
     bind_then _ (front bytes) _ [] e (λ d d_ok e.
@@ -266,7 +267,7 @@ both_none None false n e = (refl, refl)
 both_none None true n e = absurd (none-some n (sym e))
 both_none (Some x) asked n e = absurd (none-some x (sym e))
 
-pub whole_is_image : (bytes : List ℕ) → IsBytes bytes → bad bytes ≡ None → (g : GameLists) × IsImage bytes g
+pub whole_is_image : (bytes : Bytes) → IsBytes bytes → bad bytes ≡ None → (g : GameLists) × IsImage bytes g
 unfolding bad
 whole_is_image bytes fits e =
     elim (cases_lt IMAGE_LIMIT (length bytes)) [
@@ -277,13 +278,13 @@ whole_is_image bytes fits e =
           (read.game, record { spelled = all_takes bytes read.game fits read.reads; valid = read.valid; short = le })
     ]
 
-pub image_is_whole : (bytes : List ℕ) (g : GameLists) → IsImage bytes g → bad bytes ≡ None
+pub image_is_whole : (bytes : Bytes) (g : GameLists) → IsImage bytes g → bad bytes ≡ None
 unfolding bad
 image_is_whole bytes g is =
     let passed : after_all bytes ≡ Ok [] = ap after_all is.spelled ∙ all_passes g is.valid in
     let needed : is_needless bytes ≡ false = ap is_needless is.spelled ∙ all_needed g is.valid in
     rw (le-ltb IMAGE_LIMIT (length bytes) is.short, passed, needed) refl
 
-pub over_is_bad : (bytes : List ℕ) → IMAGE_LIMIT < length bytes → bad bytes ≡ Some IMAGE_LIMIT
+pub over_is_bad : (bytes : Bytes) → IMAGE_LIMIT < length bytes → bad bytes ≡ Some IMAGE_LIMIT
 unfolding bad
 over_is_bad bytes over = rw (lt-ltb IMAGE_LIMIT (length bytes) over) refl

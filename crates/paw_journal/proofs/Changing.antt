@@ -9,6 +9,7 @@ use Rattle.std.proofs.lemmas.Bool.Decides.{nat_tests}
 use Rattle.std.proofs.lemmas.Iterator.Adapters.{position_from-zero}
 use Rattle.std.proofs.lemmas.List.{length-append, length-take-le, take_all, drop_all, get_or-drop, get_or-take}
 use Rattle.std.proofs.Math.Seq.{take-suc, drop-cons, set-append_seam}
+use Rattle.paw_base.specs.Bytes.{Bytes}
 use Rattle.paw_journal.specs.Session.{Change, changes, with_changes, is_sound, first_unsound}
 use Rattle.paw_journal.specs.Session.{differing, change_bytes, differences_from}
 use Rattle.paw_journal.specs.inner.Writes.{ChangesInto, ChangesTo}
@@ -23,7 +24,7 @@ changes-append (suc n) (w ∷ []) b e = absurd (omega arith)
 changes-append (suc n) (w ∷ x ∷ []) b e = absurd (omega arith)
 changes-append (suc n) (w ∷ x ∷ y ∷ []) b e = absurd (omega arith)
 
-pub changed-append : (a b : List Change) (bytes : List ℕ) → with_changes (a ++ b) bytes ≡ with_changes b (with_changes a bytes)
+pub changed-append : (a b : List Change) (bytes : Bytes) → with_changes (a ++ b) bytes ≡ with_changes b (with_changes a bytes)
 changed-append [] b bytes = refl
 changed-append (c ∷ a) b bytes = changed-append a b (slice_set bytes c.at c.byte)
 

@@ -1,6 +1,7 @@
 -- The selector of a session, and what a crash leaves while it is written.
 use Rattle.std.proofs.Common.{◌≡◌, ◌≢◌, ℕ, ◌+◌, ◌-◌, ◌*◌, ◌%◌, ◌≤◌, ◌<◌, List, [], ◌∷◌, length, ap, ◌∙◌, arith, get_or, refl}
 use Rattle.std.proofs.Common.{◌⊎◌, inl, inr}
+use Rattle.paw_base.specs.Bytes.{Bytes}
 use Rattle.paw_stage.specs.Disk.{Disk, IsStable, disk_written}
 use Rattle.paw_stage.specs.Stage.{Standing, with_disk}
 use Rattle.paw_stage.specs.Stage.{InWrite, InSync}
@@ -23,7 +24,7 @@ slot_small which.First = omega arith
 slot_small which.Second = omega arith
 
 -- The selector changes nothing of what each slot shows.
-pub selector_hidden : (j : ℕ) (image old : List ℕ) → j < 2 → length image ≡ length old → length old ≡ session_length →
+pub selector_hidden : (j : ℕ) (image old : Bytes) → j < 2 → length image ≡ length old → length old ≡ session_length →
     ((i : ℕ) → i < length old → (i < 1) ⊎ (2 ≤ i) → get_or image i 0 ≡ get_or old i 0) →
     recover_by j image ≡ recover_by j old
 selector_hidden j image old low n long same =

@@ -2,6 +2,7 @@
 use Rattle.std.proofs.Common.{◌≡◌, ℕ, ◌+◌, ◌-◌, ◌*◌, ◌≤◌, ◌<◌, List, [], ◌∷◌, length, take, refl, sym, ap, ◌∙◌, subst}
 use Rattle.std.proofs.Common.{arith}
 use Rattle.std.specs.Prelude.{Option, Some, IsSome}
+use Rattle.paw_base.specs.Bytes.{Bytes}
 use Rattle.paw_base.specs.declared.limits.TheConstants.{PIECE_LIMIT}
 use Rattle.paw_stage.specs.Disk.{put_at, stable, IsStable}
 use Rattle.paw_stage.specs.Stage.{Standing}
@@ -30,7 +31,7 @@ use Rattle.paw_journal.proofs.Slots.{state_stays, piece_stays}
 use Rattle.paw_journal.proofs.Fills.{filled_made, filled_digests, filling_put, slot_long}
 
 -- What a room keeps of a slot.
-pub keeps_of : (w : Slot) (room : Room) (bytes : List ℕ) → KeepsSlots room bytes → kept_of w room ≡ kept_slot (slot (slot_number w) bytes)
+pub keeps_of : (w : Slot) (room : Room) (bytes : Bytes) → KeepsSlots room bytes → kept_of w room ≡ kept_slot (slot (slot_number w) bytes)
 keeps_of which.First room bytes h = h.first
 keeps_of which.Second room bytes h = h.second
 
@@ -39,7 +40,7 @@ pub drafts_as : (kept : Option SlotState) (state bytes held : List ℕ) (draft :
     Drafts kept state bytes draft → Drafts kept state held draft
 drafts_as kept state bytes held draft e d = subst (λ b. Drafts kept state b draft) (sym e) d
 
-module _ (k : ℕ) (draft : CommitDraft) (kept : Option SlotState) (state bytes piece : List ℕ) (s t : Standing)
+module _ (k : ℕ) (draft : CommitDraft) (kept : Option SlotState) (state bytes piece : Bytes) (s t : Standing)
     (f : IsFilling k s t) (d : Drafts kept state bytes draft) (e : kept ≡ kept_slot (slot k s.disk.bytes))
     (w : slot k t.disk.bytes ≡ written_slot draft bytes piece (slot k s.disk.bytes))
     (short : length piece ≤ PIECE_LIMIT)
@@ -75,13 +76,13 @@ spare_of journal room s w h e = record {
 }
 
 -- A store that was written and synced is at rest.
-pub rests_on : (bytes : List ℕ) (s t : Standing) → IsAtRest s → ChangesStoreOnly s t → t.disk ≡ stable bytes → IsAtRest t
+pub rests_on : (bytes : Bytes) (s t : Standing) → IsAtRest s → ChangesStoreOnly s t → t.disk ≡ stable bytes → IsAtRest t
 rests_on bytes s t h b e = record {
   attached = subst (λ a. IsSome a) (sym b.attached) h.attached;
   stable = subst (λ d. IsStable d) (sym e) (stable_is bytes);
 }
 
-module _ (w : Slot) (draft : CommitDraft) (kept : Option SlotState) (state bytes piece : List ℕ) (s t : Standing)
+module _ (w : Slot) (draft : CommitDraft) (kept : Option SlotState) (state bytes piece : Bytes) (s t : Standing)
     (spare : IsSpare (slot_number w) s.disk.bytes) (d : Drafts kept state bytes draft)
     (short : length piece ≤ PIECE_LIMIT)
     (e : t.disk ≡ stable (written_session (slot_number w) draft bytes piece s.disk.bytes))
@@ -114,7 +115,7 @@ module _ (w : Slot) (draft : CommitDraft) (kept : Option SlotState) (state bytes
         fits k m n h l long = omega arith
 
 -- Once that slot is chosen, all is as a commit leaves it.
-pub committed_exact : (w used : Slot) (draft : CommitDraft) (kept : Option SlotState) (state bytes piece : List ℕ) (s t u : Standing) →
+pub committed_exact : (w used : Slot) (draft : CommitDraft) (kept : Option SlotState) (state bytes piece : Bytes) (s t u : Standing) →
     Drafts kept state bytes draft → kept ≡ kept_slot (slot (slot_number w) s.disk.bytes) →
     slot_number w ≡ 1 - slot_number used → slot_in_use s.disk.bytes ≡ slot_number used →
     t.disk ≡ stable (written_session (slot_number w) draft bytes piece s.disk.bytes) →
@@ -144,7 +145,7 @@ committed_slots which.Second x old now a b c h f g o n same = record {
 }
 
 -- How much it wrote.
-pub committed_few : (w : Slot) (k : ℕ) (room : Room) (old bytes state piece : List ℕ) (draft : CommitDraft) →
+pub committed_few : (w : Slot) (k : ℕ) (room : Room) (old bytes state piece : Bytes) (draft : CommitDraft) →
     KeepsSlots room old → slot_number w ≡ k → Drafts (kept_of w room) state bytes draft →
     length bytes + length piece + 4 ≤ most_written (kept_slot (slot k old)) state piece
 committed_few w k room old bytes state piece draft h e d =
@@ -166,7 +167,7 @@ same_second : (w : Slot) (x : Option SlotState) (a b : Room) → a.second ≡ b.
 same_second which.First x a b e = e
 same_second which.Second x a b e = refl
 
-pub committed_keeps : (w : Slot) (x : SlotState) (old drafted held now : Room) (state piece : List ℕ)
+pub committed_keeps : (w : Slot) (x : SlotState) (old drafted held now : Room) (state piece : Bytes)
     (s t u : Standing) → KeepsSlots old s.disk.bytes → drafted ≡ record old { slot = drafted.slot } →
     held ≡ record drafted { state = state; piece = piece } → now ≡ with_slot_kept w (Some x) held → IsAtRest u →
     slot_in_use u.disk.bytes ≡ slot_number w →

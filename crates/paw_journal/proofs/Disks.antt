@@ -3,6 +3,7 @@ use Rattle.std.proofs.Common.{◌≡◌, ℕ, ◌+◌, ◌≤◌, ◌<◌, false
 use Rattle.std.proofs.Common.{◌⊎◌, inl, inr}
 use Rattle.std.proofs.lemmas.Bool.Decides.{nat_tests}
 use Rattle.std.proofs.lemmas.List.{ext_get_or}
+use Rattle.paw_base.specs.Bytes.{Bytes}
 use Rattle.paw_stage.specs.Disk.{Range, Disk, is_dirty, MayLeave, disk_written, stable, IsStable, IsInWrite, put_at}
 use Rattle.paw_journal.specs.inner.Writes.{IsWithin}
 use Rattle.paw_journal.proofs.Parts.{length_put, put_below, put_above}
@@ -47,18 +48,18 @@ within_write lo hi at n old d m h low high long (inl e) = subst (λ y. IsWithin 
 within_write lo hi at n old d m h low high long (inr q) = subst (λ y. IsWithin lo hi old y) (sym q.2) (within_touched lo hi at n old q.0 d h low high long q.1)
 
 -- What a crash then leaves is as long, and the same outside the stretch.
-pub within_long : (lo hi : ℕ) (old image : List ℕ) (d : Disk) → IsWithin lo hi old d → MayLeave d image → length image ≡ length old
+pub within_long : (lo hi : ℕ) (old image : Bytes) (d : Disk) → IsWithin lo hi old d → MayLeave d image → length image ≡ length old
 within_long lo hi old image d h m = omega (arith, h.synced, h.longest, m.no_shorter, m.no_longer)
 
-pub within_same : (lo hi : ℕ) (old image : List ℕ) (d : Disk) → IsWithin lo hi old d → MayLeave d image → (i : ℕ) →
+pub within_same : (lo hi : ℕ) (old image : Bytes) (d : Disk) → IsWithin lo hi old d → MayLeave d image → (i : ℕ) →
     i < length old → (i < lo) ⊎ (hi ≤ i) → get_or image i 0 ≡ get_or old i 0
 within_same lo hi old image d h m i low o = m.clean i (omega (arith, h.synced)) (h.clean i o) ∙ h.same i o
 
-pub stable_is : (bytes : List ℕ) → IsStable (stable bytes)
+pub stable_is : (bytes : Bytes) → IsStable (stable bytes)
 stable_is bytes = record { kept = refl; longest = refl; dirty = refl }
 
 -- Of a disk with nothing unsynced a crash leaves just its bytes.
-pub stable_leaves : (d : Disk) (image : List ℕ) → IsStable d → MayLeave d image → image ≡ d.bytes
+pub stable_leaves : (d : Disk) (image : Bytes) → IsStable d → MayLeave d image → image ≡ d.bytes
 stable_leaves d image h m =
     let n : length image ≡ length d.bytes = omega (arith, ap length h.kept, h.longest, m.no_shorter, m.no_longer) in
     ext_get_or 0 image d.bytes n (λ i low. m.clean i (omega (arith, ap length h.kept)) (ap (λ r. is_dirty r i) h.dirty))

@@ -2,6 +2,7 @@
 use Rattle.std.proofs.Common.{◌≡◌, ℕ, ◌+◌, ◌-◌, ◌*◌, ◌%◌, ◌≤◌, ◌<◌, List, length, refl, sym, ap, subst, ◌∙◌, arith}
 use Rattle.std.proofs.Common.{get_or, ◌⊎◌, inl}
 use Rattle.std.specs.Prelude.{Result, Ok}
+use Rattle.paw_base.specs.Bytes.{Bytes}
 use Rattle.paw_stage.specs.declared.Stage.{Ghosts}
 use Rattle.paw_stage.specs.declared.StageCall.{StageCall}
 use Rattle.paw_stage.specs.Disk.{Disk, put_at, stable, IsStable, disk_written}
@@ -22,7 +23,7 @@ use Rattle.paw_journal.proofs.Calls.{writes_then}
 use Rattle.paw_journal.proofs.Moved.{IsMoved, beside_none, moved_wrote, in_moved_write, in_moved_sync}
 
 -- Writing one slot changes nothing of what the other shows.
-pub slot_hidden : (k j : ℕ) (image old : List ℕ) → k < 2 → j ≡ 1 - k → length image ≡ length old →
+pub slot_hidden : (k j : ℕ) (image old : Bytes) → k < 2 → j ≡ 1 - k → length image ≡ length old →
     length old ≡ session_length → ((i : ℕ) → i < length old →
     (i < header_length + slot_length * k) ⊎ (header_length + slot_length * k + slot_length ≤ i) →
     get_or image i 0 ≡ get_or old i 0) → recover_by j image ≡ recover_by j old
@@ -94,10 +95,10 @@ wrote_slot k at a new t u low long e fits w =
     ∙ (ap (λ i. slot k (put_at i new t.disk.bytes)) e
     ∙ stretch_put (header_length + slot_length * k) slot_length a new t.disk.bytes fits (omega arith))
 
-pub slot_long : (k : ℕ) (bytes : List ℕ) → k < 2 → length bytes ≡ session_length → length (slot k bytes) ≡ slot_length
+pub slot_long : (k : ℕ) (bytes : Bytes) → k < 2 → length bytes ≡ session_length → length (slot k bytes) ≡ slot_length
 slot_long k bytes low long = stretch_long (header_length + slot_length * k) slot_length bytes (omega arith)
 
-pub wrote_nothing : (k at : ℕ) (new bytes : List ℕ) → k < 2 → length bytes ≡ session_length → length new ≡ 0 →
+pub wrote_nothing : (k at : ℕ) (new bytes : Bytes) → k < 2 → length bytes ≡ session_length → length new ≡ 0 →
     at + length new ≤ slot_length → slot k bytes ≡ put_at at new (slot k bytes)
 wrote_nothing k at new bytes low long none fits = put_nothing at new (slot k bytes) none (omega (arith, slot_long k bytes low long))
 

@@ -19,6 +19,7 @@ use Rattle.paw_journal.specs.inner.Room.{kept_slot}
 use Rattle.paw_journal.specs.inner.Written.{most_written}
 use Rattle.paw_journal.specs.inner.Writes.{ChangesInto, Drafts}
 use Rattle.paw_journal.specs.declared.layout.TheConstants.{BASE_AT, CHANGES_AT, PIECE_AT}
+use Rattle.paw_base.specs.Bytes.{Bytes, Text}
 use Rattle.paw_base.specs.declared.layout.TheConstants.{VERSION}
 use Rattle.paw_base.specs.declared.limits.TheConstants.{PIECE_LIMIT}
 use Rattle.paw_journal.specs.Session.{base_length, slot_length}
@@ -27,39 +28,39 @@ use Rattle.paw_journal.proofs.Puts.{stretch_behind}
 use Rattle.paw_journal.proofs.Changing.{changes-append, changed-append, sound-append}
 
 -- A slot of the version that is written has this state, after this number of change records.
-pub record IsKept (bytes : List ℕ) (records : ℕ) (state : List ℕ) : Type 0 where
+pub record IsKept (bytes : Bytes) (records : ℕ) (state : Bytes) : Type 0 where
   pub current : is_current bytes ≡ true
   pub number : two_byte_number 0 bytes ≡ records
   pub few : records ≤ most_changes
   pub sound : first_unsound (changes (stretch CHANGES_AT (4 * records) bytes)) ≡ None
   pub told : with_changes (changes (stretch CHANGES_AT (4 * records) bytes)) (base bytes) ≡ state
 
-holds_state : (bytes : List ℕ) (n : ℕ) (unsound : Option ℕ) → n ≤ most_changes → unsound ≡ None →
+holds_state : (bytes : Bytes) (n : ℕ) (unsound : Option ℕ) → n ≤ most_changes → unsound ≡ None →
     (nat_le n most_changes && is_none unsound) ≡ true
 holds_state bytes n unsound low e = ap (λ o. nat_le n most_changes && is_none o) e ∙ grind (arith, nat_tests)
 
-pub has_state_is : (bytes : List ℕ) → two_byte_number 0 bytes ≤ most_changes →
+pub has_state_is : (bytes : Bytes) → two_byte_number 0 bytes ≤ most_changes →
     first_unsound (slot_changes bytes) ≡ None → has_state bytes ≡ true
 has_state_is bytes low e = holds_state bytes (two_byte_number 0 bytes) (first_unsound (slot_changes bytes)) low e
 
-pub kept_of_both : (bytes : List ℕ) → is_current bytes ≡ true → has_state bytes ≡ true →
+pub kept_of_both : (bytes : Bytes) → is_current bytes ≡ true → has_state bytes ≡ true →
     kept_slot bytes ≡ Some (record { records = two_byte_number 0 bytes; state = slot_state bytes })
 kept_of_both bytes e f = both (is_current bytes) (has_state bytes) (Some (record { records = two_byte_number 0 bytes; state = slot_state bytes })) e f
   where
     both : (a b : Bool) (x : Option SlotState) → a ≡ true → b ≡ true → (if a && b then x else None) ≡ x
     both a b x e f = ap (λ t. if t && b then x else None) e ∙ ap (λ t. if t then x else None) f
 
-pub kept_of_older : (bytes : List ℕ) → is_current bytes ≡ false → kept_slot bytes ≡ None
+pub kept_of_older : (bytes : Bytes) → is_current bytes ≡ false → kept_slot bytes ≡ None
 kept_of_older bytes e = ap (λ t. if t && has_state bytes then Some (record { records = two_byte_number 0 bytes; state = slot_state bytes }) else None) e
 
-pub kept_of_broken : (bytes : List ℕ) → has_state bytes ≡ false → kept_slot bytes ≡ None
+pub kept_of_broken : (bytes : Bytes) → has_state bytes ≡ false → kept_slot bytes ≡ None
 kept_of_broken bytes e = neither (is_current bytes) (has_state bytes) (Some (record { records = two_byte_number 0 bytes; state = slot_state bytes })) e
   where
     neither : (a b : Bool) (x : Option SlotState) → b ≡ false → (if a && b then x else None) ≡ None
     neither true b x e = ap (λ t. if t then x else None) e
     neither false b x e = refl
 
-pub kept_is : (bytes : List ℕ) (records : ℕ) (state : List ℕ) → IsKept bytes records state →
+pub kept_is : (bytes : Bytes) (records : ℕ) (state : Bytes) → IsKept bytes records state →
     kept_slot bytes ≡ Some (record { records = records; state = state })
 kept_is bytes records state h =
     let r : stretch CHANGES_AT (4 * two_byte_number 0 bytes) bytes ≡ stretch CHANGES_AT (4 * records) bytes =
@@ -78,19 +79,19 @@ tests n (Some k) e = absurd (never (nat_le n most_changes) e)
     never true e = cc
     never false e = cc
 
-pub state_has : (bytes : List ℕ) → is_current bytes ≡ true → has_state bytes ≡ true → IsKept bytes (two_byte_number 0 bytes) (slot_state bytes)
+pub state_has : (bytes : Bytes) → is_current bytes ≡ true → has_state bytes ≡ true → IsKept bytes (two_byte_number 0 bytes) (slot_state bytes)
 state_has bytes f e =
     let t = tests (two_byte_number 0 bytes) (first_unsound (slot_changes bytes)) e in
     record { current = f; number = refl; few = t.0; sound = t.1; told = refl }
 
-kept_some : (a b : Bool) (x : SlotState) (records : ℕ) (state : List ℕ) →
+kept_some : (a b : Bool) (x : SlotState) (records : ℕ) (state : Bytes) →
     (if a && b then Some x else None) ≡ Some (record { records = records; state = state }) →
     (a ≡ true) × (b ≡ true) × (x.records ≡ records) × (x.state ≡ state)
 kept_some true true x records state e = (refl, refl, cc, cc)
 kept_some true false x records state e = absurd (cc e)
 kept_some false b x records state e = absurd (cc e)
 
-pub is_kept : (bytes : List ℕ) (records : ℕ) (state : List ℕ) →
+pub is_kept : (bytes : Bytes) (records : ℕ) (state : Bytes) →
     kept_slot bytes ≡ Some (record { records = records; state = state }) → IsKept bytes records state
 is_kept bytes records state e =
     let k = kept_some (is_current bytes) (has_state bytes) (record { records = two_byte_number 0 bytes; state = slot_state bytes }) records state e in
@@ -106,7 +107,7 @@ is_kept bytes records state e =
     }
 
 -- A slot that has a state shows it, in the form of its version.
-pub sound_shows : (digests : Digests) (bytes : List ℕ) → has_state bytes ≡ true →
+pub sound_shows : (digests : Digests) (bytes : Bytes) → has_state bytes ≡ true →
     slot_shows digests bytes ≡ Shown digests (shown_state bytes) (slot_piece bytes)
 unfolding slot_shows
 sound_shows digests bytes e =
@@ -118,7 +119,7 @@ sound_shows digests bytes e =
     low n h = grind (arith, nat_tests)
 
 -- Of the version that is written, it shows all bytes of its state.
-current_shown : (bytes : List ℕ) → is_current bytes ≡ true → shown_state bytes ≡ take state_length (slot_state bytes)
+current_shown : (bytes : Bytes) → is_current bytes ≡ true → shown_state bytes ≡ take state_length (slot_state bytes)
 unfolding zeros
 current_shown bytes e =
     ap (λ v. take (form_length v) (slot_state bytes) ++ zeros (state_length - form_length v)) (is_written (slot_version bytes) e)
@@ -127,7 +128,7 @@ current_shown bytes e =
     is_written : (v : ℕ) → (v == VERSION) ≡ true → v ≡ VERSION
     is_written v e = grind (arith, nat_tests)
 
-pub kept_shows : (digests : Digests) (bytes : List ℕ) (records : ℕ) (state : List ℕ) → IsKept bytes records state →
+pub kept_shows : (digests : Digests) (bytes : Bytes) (records : ℕ) (state : Bytes) → IsKept bytes records state →
     slot_shows digests bytes ≡ Shown digests (take state_length state) (stretch PIECE_AT (piece_length state) bytes)
 kept_shows digests bytes records state h =
     let r : stretch CHANGES_AT (4 * two_byte_number 0 bytes) bytes ≡ stretch CHANGES_AT (4 * records) bytes =
@@ -140,13 +141,13 @@ kept_shows digests bytes records state h =
 
 -- ---- a slot that was written ----
 
-head_number : (records : ℕ) (bytes : List ℕ) → records < 65536 → two_byte_number 0 (put_at 0 (slot_head records) bytes) ≡ records
+head_number : (records : ℕ) (bytes : Bytes) → records < 65536 → two_byte_number 0 (put_at 0 (slot_head records) bytes) ≡ records
 head_number records bytes low = whole records (records % 256) (records / 256) refl refl
   where
     whole : (n a b : ℕ) → a ≡ n % 256 → b ≡ n / 256 → a + 256 * b ≡ n
     whole n a b e f = omega arith
 
-module _ (records at : ℕ) (bytes piece old : List ℕ) (long : length old ≡ slot_length) (fits : at + length bytes ≤ slot_length)
+module _ (records at : ℕ) (bytes piece old : Bytes) (long : length old ≡ slot_length) (fits : at + length bytes ≤ slot_length)
     (short : length piece ≤ PIECE_LIMIT) (few : records ≤ most_changes) where
   one : length (put_at at bytes old) ≡ slot_length
   one = put_long at bytes old (omega arith) ∙ long
@@ -179,7 +180,7 @@ module _ (records at : ℕ) (bytes piece old : List ℕ) (long : length old ≡ 
       ∙ stretch_past CHANGES_AT n PIECE_AT piece (put_at at bytes old) (omega arith) (omega (arith, one))
 
 -- The base whole.
-whole_gives : (state piece old : List ℕ) → length state ≡ base_length → length old ≡ slot_length →
+whole_gives : (state piece old : Bytes) → length state ≡ base_length → length old ≡ slot_length →
     length piece ≤ PIECE_LIMIT →
     IsKept (put_at 0 (slot_head 0) (put_at PIECE_AT piece (put_at BASE_AT state old))) 0 state
 whole_gives state piece old n long short = record {
@@ -242,7 +243,7 @@ takes_as n was state old is =
     ∙ (ap (λ m. nat_le (m + differing (slot_state old) state) most_changes) k.2
     ∙ ap (λ l. nat_le (n + differing l state) most_changes) k.3))
 
-exact_base : (state bytes piece old : List ℕ) → bytes ≡ state → takes_changes state old ≡ false →
+exact_base : (state bytes piece old : Bytes) → bytes ≡ state → takes_changes state old ≡ false →
     slot_rewritten BASE_AT bytes 0 piece old ≡ committed_slot state piece old
 unfolding committed_slot
 exact_base state bytes piece old e t =
@@ -268,8 +269,8 @@ exact_behind n c was state bytes piece old e d few is =
     low n c d e few = grind (arith, nat_tests)
 
 -- What a commit writes.
-pub drafts_whole : (kept : Option SlotState) (state bytes : List ℕ) → bytes ≡ state → length state ≡ base_length →
-    ((piece : List ℕ) → 4224 + length piece ≤ most_written kept state piece) →
+pub drafts_whole : (kept : Option SlotState) (state bytes : Bytes) → bytes ≡ state → length state ≡ base_length →
+    ((piece : Text) → 4224 + length piece ≤ most_written kept state piece) →
     ((old : List ℕ) → kept_slot old ≡ kept → takes_changes state old ≡ false) →
     Drafts kept state bytes (record { at = BASE_AT; records = 0 })
 drafts_whole kept state bytes e n most takes = record {
@@ -297,17 +298,17 @@ drafts_behind n c was state bytes t l few = record {
     most n c d b p e l few = let h : nat_le (n + d) most_changes ≡ true = grind (arith, nat_tests) in rw h (omega arith)
 
 -- Where there is no state, or there are too many changes, the base is written whole.
-pub drafts_base : (state bytes : List ℕ) → bytes ≡ state → length state ≡ base_length →
+pub drafts_base : (state bytes : Bytes) → bytes ≡ state → length state ≡ base_length →
     Drafts None state bytes (record { at = BASE_AT; records = 0 })
 drafts_base state bytes e n = drafts_whole None state bytes e n (λ piece. omega arith)
     (λ old is. takes_none (is_current old) (has_state old) (nat_le (records_with state old) most_changes)
     (record { records = two_byte_number 0 old; state = slot_state old }) is)
 
-pub drafts_whole_as : (state bytes : List ℕ) (kept : Option SlotState) (draft : CommitDraft) → bytes ≡ state →
+pub drafts_whole_as : (state bytes : Bytes) (kept : Option SlotState) (draft : CommitDraft) → bytes ≡ state →
     length state ≡ base_length → kept ≡ None → draft ≡ record { at = BASE_AT; records = 0 } → Drafts kept state bytes draft
 drafts_whole_as state bytes kept draft e n is at = rw (is, at) (drafts_base state bytes e n)
 
-pub drafts_many : (kept : SlotState) (s m : ℕ) (state records bytes : List ℕ) (draft : CommitDraft) →
+pub drafts_many : (kept : SlotState) (s m : ℕ) (state records bytes : Bytes) (draft : CommitDraft) →
     ChangesInto kept.state state records → s ≡ kept.records → m ≡ length records → base_length < s + m / 4 → bytes ≡ state →
     length state ≡ base_length → draft ≡ record { at = BASE_AT; records = 0 } → Drafts (Some kept) state bytes draft
 drafts_many kept s m state records bytes draft t e f many b l at =
@@ -322,7 +323,7 @@ drafts_many kept s m state records bytes draft t e f many b l at =
         4224 + p ≤ (if nat_le (n + d) most_changes then 128 + p + 4 * d else 4224 + p)
     most n s c d p e f many = let h : nat_le (n + d) most_changes ≡ false = grind (arith, nat_tests) in rw h (omega arith)
 
-pub drafts_few : (kept : SlotState) (s m : ℕ) (state bytes : List ℕ) → ChangesInto kept.state state bytes → s ≡ kept.records →
+pub drafts_few : (kept : SlotState) (s m : ℕ) (state bytes : Bytes) → ChangesInto kept.state state bytes → s ≡ kept.records →
     m ≡ length bytes → s + m / 4 ≤ base_length →
     Drafts (Some kept) state bytes (record { at = CHANGES_AT + 4 * s; records = s + m / 4 })
 drafts_few kept s m state bytes t e f few =

@@ -11,6 +11,7 @@ use Rattle.paw_stage.specs.declared.StageCall.{StageCall}
 use Rattle.paw_stage.specs.Disk.{Range, Disk, is_dirty, IsInWrite, put_at, stable, IsStable, disk_written}
 use Rattle.paw_stage.specs.Stage.{Standing, with_disk, with_written}
 use Rattle.paw_stage.specs.Stage.{InWrite, InSync}
+use Rattle.paw_base.specs.Bytes.{Bytes}
 use Rattle.paw_base.specs.declared.layout.TheConstants.{VERSION}
 use Rattle.paw_journal.specs.declared.layout.TheConstants.{HEADER_LENGTH, GAME_AT, ROUTINES_AT, DIGEST_LENGTH}
 use Rattle.paw_journal.specs.Session.{Digests, IsUnmade, recover, session_mark, zeros, made_mark, session_length}
@@ -156,7 +157,7 @@ marking old d long h image l =
       | inr ne ↦ inl (unmade image (inr ne))
     ]
   where
-    marked : (image old : List ℕ) → length image ≡ length old → length old ≡ session_length →
+    marked : (image old : Bytes) → length image ≡ length old → length old ≡ session_length →
         ((i : ℕ) → suc i < length old → get_or image (suc i) 0 ≡ get_or old (suc i) 0) → get_or image 0 0 ≡ made_mark →
         image ≡ made_mark ∷ drop 1 old
     marked image [] n long same e = absurd (omega arith)
@@ -199,12 +200,12 @@ unmade_then h k post =
 pub begun_blank : (s u : Standing) → length s.disk.bytes ≡ 0 → HoldsPut 0 (0 ∷ []) s u → LaysBlank (0 ∷ []) s u
 begun_blank s u n holds = subst (λ d. IsBlank (0 ∷ []) d) (sym holds) (begun s.disk.bytes n)
   where
-    begun : (bytes : List ℕ) → length bytes ≡ 0 → IsBlank (0 ∷ []) (stable (put_at 0 (0 ∷ []) bytes))
+    begun : (bytes : Bytes) → length bytes ≡ 0 → IsBlank (0 ∷ []) (stable (put_at 0 (0 ∷ []) bytes))
     begun [] n = record { bytes = refl; long = omega arith; blank = refl; clean = refl }
     begun (x ∷ bytes) n = absurd (omega arith)
 
 -- Bytes are written at the end of a store of which no crash leaves a session.
-pub appends : {S A : Type 0} {g : Ghosts S} {result : Result A StageCall} (at : ℕ) (bytes : List ℕ) {old new : S} →
+pub appends : {S A : Type 0} {g : Ghosts S} {result : Result A StageCall} (at : ℕ) (bytes : Bytes) {old new : S} →
     WritesStore g result (λ s t. t ≡ with_written at bytes s) (λ s. InWrite s at (length bytes)) old new → 1 ≤ at →
     (g.Tells old → IsBlank (g.standing old).disk.bytes (g.standing old).disk) →
     (g.Tells old → at ≡ length (g.standing old).disk.bytes) →
@@ -221,7 +222,7 @@ appends {g = g} at bytes {old = old} {new = new} call low blank end =
         subst (λ l. IsBlank l t.disk) (put_end at new s.disk.bytes (sym e)) (blank_wrote at new s t n c h low (omega (arith, e)) w)
 
 -- And again.
-pub appends_twice : {S A B : Type 0} {g : Ghosts S} {x : A} {result : Result B StageCall} (a b : ℕ) (bytes : List ℕ) {old mid new : S} →
+pub appends_twice : {S A B : Type 0} {g : Ghosts S} {x : A} {result : Result B StageCall} (a b : ℕ) (bytes : Bytes) {old mid new : S} →
     WritesStore g (Ok x) (λ s t. t ≡ with_written a bytes s) (λ s. InWrite s a (length bytes)) old mid →
     WritesStore g result (λ s t. t ≡ with_written b bytes s) (λ s. InWrite s b (length bytes)) mid new → 1 ≤ a →
     (g.Tells old → IsBlank (g.standing old).disk.bytes (g.standing old).disk) →

@@ -4,14 +4,15 @@ use Rattle.std.proofs.Common.{arith, get_or, append_assoc}
 use Rattle.std.proofs.lemmas.List.{length-take, length-drop, length-append, get_or-take, get_or-drop}
 use Rattle.std.proofs.lemmas.List.{get_or_append_left, get_or-append_right, ext_get_or}
 use Rattle.std.proofs.lemmas.List.{drop_all, take_all, append-nil, drop_at, get_or_at, drop-take, take-take, drop-drop}
+use Rattle.paw_base.specs.Bytes.{Bytes}
 use Rattle.paw_stage.specs.Disk.{put_at}
 use Rattle.paw_journal.specs.Session.{stretch}
 
 -- The bytes of a stretch.
-pub stretch_at : (at n : ℕ) (bytes : List ℕ) (i : ℕ) → i < n → get_or (stretch at n bytes) i 0 ≡ get_or bytes (at + i) 0
+pub stretch_at : (at n : ℕ) (bytes : Bytes) (i : ℕ) → i < n → get_or (stretch at n bytes) i 0 ≡ get_or bytes (at + i) 0
 stretch_at at n bytes i low = get_or-take n (drop at bytes) i 0 low ∙ get_or-drop at bytes i 0
 
-pub length_stretch : (at n : ℕ) (bytes : List ℕ) → length (stretch at n bytes) ≡ min n (length bytes - at)
+pub length_stretch : (at n : ℕ) (bytes : Bytes) → length (stretch at n bytes) ≡ min n (length bytes - at)
 length_stretch at n bytes = length-take n (drop at bytes) ∙ ap (λ k. min n k) (length-drop at bytes)
 
 -- A stretch is the same where its bytes are.
@@ -67,7 +68,7 @@ put_one at x old low =
     ∙ get_or_at (take at old) x (drop (at + 1) old) 0 at (omega (arith, length-take at old))
 
 -- A stretch of a stretch.
-pub stretch_stretch : (a n b m : ℕ) (bytes : List ℕ) → a + n ≤ m → stretch a n (stretch b m bytes) ≡ stretch (b + a) n bytes
+pub stretch_stretch : (a n b m : ℕ) (bytes : Bytes) → a + n ≤ m → stretch a n (stretch b m bytes) ≡ stretch (b + a) n bytes
 stretch_stretch a n b m bytes low =
     let e : a + (m - a) ≡ m = omega arith in
     ap (λ k. take n (drop a (take k (drop b bytes)))) (sym e)

@@ -3,6 +3,7 @@ use Rattle.std.proofs.Common.{◌≡◌, ℕ, ◌+◌, ◌-◌, ◌≤◌, ◌<�
 use Rattle.std.proofs.Common.{inl, inr, ◌⊎◌}
 use Rattle.std.proofs.lemmas.List.{get_or-drop, get_or_append_left, ext_get_or, take_at, drop-drop}
 use Rattle.std.proofs.Math.Seq.{take-add}
+use Rattle.paw_base.specs.Bytes.{Bytes}
 use Rattle.paw_base.specs.declared.limits.TheConstants.{PIECE_LIMIT}
 use Rattle.paw_stage.specs.Disk.{put_at}
 use Rattle.paw_journal.specs.Session.{stretch, slot_head, slot_rewritten}
@@ -11,7 +12,7 @@ use Rattle.paw_journal.specs.Session.{slot_length}
 use Rattle.paw_journal.proofs.Parts.{stretch_at, length_stretch, stretch_same, length_put, put_below, put_above}
 use Rattle.paw_journal.proofs.Parts.{drop_put}
 
-pub stretch_long : (at n : ℕ) (bytes : List ℕ) → at + n ≤ length bytes → length (stretch at n bytes) ≡ n
+pub stretch_long : (at n : ℕ) (bytes : Bytes) → at + n ≤ length bytes → length (stretch at n bytes) ≡ n
 stretch_long at n bytes low = omega (arith, length_stretch at n bytes)
 
 pub put_long : (at : ℕ) (new old : List ℕ) → at + length new ≤ length old → length (put_at at new old) ≡ length old
@@ -89,7 +90,7 @@ put_nothing at new old none low = ext_get_or 0 old (put_at at new old) (sym (put
     each at new old i none low = elim (order i at) [ inl h ↦ put_below at new old i low h | inr h ↦ put_above at new old i low (omega arith) ]
 
 -- A slot that was written is as long as it was.
-pub rewritten_long : (at records : ℕ) (new piece bytes : List ℕ) → at + length new ≤ slot_length →
+pub rewritten_long : (at records : ℕ) (new piece bytes : Bytes) → at + length new ≤ slot_length →
     length piece ≤ PIECE_LIMIT →
     length bytes ≡ slot_length → length (slot_rewritten at new records piece bytes) ≡ slot_length
 rewritten_long at records new piece bytes fits short long =

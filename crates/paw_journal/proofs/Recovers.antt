@@ -3,6 +3,7 @@ use Rattle.std.proofs.Common.{◌≡◌, ◌≢◌, ℕ, ◌+◌, ◌*◌, ◌�
 use Rattle.std.proofs.Common.{get_or, ◌⊎◌, inl, inr}
 use Rattle.std.specs.Prelude.{if◌then◌else◌, ◌==◌, ◌&&◌}
 use Rattle.std.proofs.lemmas.Bool.Decides.{nat_tests}
+use Rattle.paw_base.specs.Bytes.{Bytes}
 use Rattle.paw_journal.specs.declared.layout.TheConstants.{GAME_AT, ROUTINES_AT, DIGEST_LENGTH}
 use Rattle.paw_journal.specs.declared.refusal.SessionPart.TheVariants as part
 use Rattle.paw_journal.specs.Session.{Recovered, Unmade, Damaged, Shown, IsUnmade, recover, recover_by, slot_shows}
@@ -67,13 +68,13 @@ pub unmade : (a : List ℕ) → (length a ≢ session_length) ⊎ (session_mark 
 unmade a h = let e = unmade_is a h in rw e tt
 
 -- Bytes that show a state and a piece are those of a session that is made.
-pub shown_made : (bytes : List ℕ) (digests : Digests) (state piece : List ℕ) → recover bytes ≡ Shown digests state piece → IsMade bytes
+pub shown_made : (bytes : Bytes) (digests : Digests) (state piece : Bytes) → recover bytes ≡ Shown digests state piece → IsMade bytes
 unfolding recover recover_by
 shown_made bytes digests state piece e =
     let t = tests (length bytes == session_length) (session_mark bytes == made_mark) (is_version (version bytes)) _ _ _ _ _ _ e in
     record { long = is_true _ _ t.0; marked = is_true _ _ t.1; versioned = t.2 }
   where
-    tests : (a b c : Bool) (x : Recovered) (n m : ℕ) (digests : Digests) (state piece : List ℕ) →
+    tests : (a b c : Bool) (x : Recovered) (n m : ℕ) (digests : Digests) (state piece : Bytes) →
         (if a && b then (if c then x else Damaged part.Header 2) else Unmade n m) ≡ Shown digests state piece →
         (a ≡ true) × (b ≡ true) × (c ≡ true)
     tests true true true x n m digests state piece e = (refl, refl, refl)

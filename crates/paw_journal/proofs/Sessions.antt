@@ -6,6 +6,7 @@ use Rattle.std.specs.Prelude.{Bool, true, false, not, replicate, Option, Some}
 use Rattle.std.specs.Str.{bytes_eq}
 use Rattle.std.proofs.lemmas.List.{length-append, take_at, take_all, drop_at}
 use Rattle.std.proofs.lemmas.Slice.Eq.{bytes_eq-Decides}
+use Rattle.paw_base.specs.Bytes.{Bytes}
 use Rattle.paw_base.specs.declared.layout.TheConstants.{PIECE_LENGTH_AT}
 use Rattle.paw_stage.specs.Disk.{Disk, stable}
 use Rattle.paw_stage.specs.Stage.{Standing}
@@ -33,7 +34,7 @@ use Rattle.paw_journal.proofs.Moved.{in_later}
 length_head : length (0 ∷ 0 ∷ VERSION ∷ zeros 61) ≡ BASE_AT
 length_head = omega (arith, length_zeros 61)
 
-pub length_slot : (state piece : List ℕ) → length state ≡ base_length → length piece ≤ PIECE_LIMIT →
+pub length_slot : (state piece : Bytes) → length state ≡ base_length → length piece ≤ PIECE_LIMIT →
     length (made_slot state piece) ≡ slot_length
 length_slot state piece n few =
     slots (0 ∷ 0 ∷ VERSION ∷ zeros 61) state piece (zeros (slot_length - PIECE_AT - length piece)) length_head n few
@@ -51,20 +52,20 @@ length_slot state piece n few =
               head state,
         )
 
-no_changes : (state piece : List ℕ) → get_or (made_slot state piece) 0 0 + 256 * get_or (made_slot state piece) 1 0 ≡ 0
+no_changes : (state piece : Bytes) → get_or (made_slot state piece) 0 0 + 256 * get_or (made_slot state piece) 1 0 ≡ 0
 unfolding zeros
 no_changes state piece = refl
 
 regroup : (a b c d : List ℕ) → a ++ b ++ c ++ d ≡ a ++ (b ++ (c ++ d))
 regroup a b c d = simp append_assoc
 
-made_base : (state piece : List ℕ) → length state ≡ base_length → base (made_slot state piece) ≡ state
+made_base : (state piece : Bytes) → length state ≡ base_length → base (made_slot state piece) ≡ state
 made_base state piece n =
     ap (λ l. take base_length (drop BASE_AT l))
     (regroup (0 ∷ 0 ∷ VERSION ∷ zeros 61) state piece (zeros (slot_length - PIECE_AT - length piece)))
     ∙ (ap (take base_length) (drop_at (0 ∷ 0 ∷ VERSION ∷ zeros 61) _ BASE_AT length_head) ∙ take_at state _ base_length n)
 
-made_piece : (state piece : List ℕ) → length state ≡ base_length →
+made_piece : (state piece : Bytes) → length state ≡ base_length →
     stretch PIECE_AT (length piece) (made_slot state piece) ≡ piece
 made_piece state piece n =
     ap (λ l. take (length piece) (drop PIECE_AT l))
@@ -76,10 +77,10 @@ made_piece state piece n =
     head z state h n = omega (arith, length-append z state)
 
 -- A slot that is made has its state, and shows it with its piece.
-made_slot_kept : (state piece : List ℕ) → length state ≡ base_length → IsKept (made_slot state piece) 0 state
+made_slot_kept : (state piece : Bytes) → length state ≡ base_length → IsKept (made_slot state piece) 0 state
 made_slot_kept state piece n = record { current = refl; number = no_changes state piece; few = omega arith; sound = refl; told = made_base state piece n }
 
-made_slot_shows : (digests : Digests) (state piece : List ℕ) → length state ≡ base_length →
+made_slot_shows : (digests : Digests) (state piece : Bytes) → length state ≡ base_length →
     piece_length state ≡ length piece →
     slot_shows digests (made_slot state piece) ≡ Shown digests (take state_length state) piece
 made_slot_shows digests state piece n names =
@@ -147,10 +148,10 @@ laid_long digests slots n l = omega (
   length_header 0 digests n,
 )
 
-pub session_digests : (digests : Digests) (state piece : List ℕ) → AreLong digests → kept_digests (made_session digests state piece) ≡ digests
+pub session_digests : (digests : Digests) (state piece : Bytes) → AreLong digests → kept_digests (made_session digests state piece) ≡ digests
 session_digests digests state piece n = made_digests digests (made_slot state piece) (made_slot state piece) n
 
-pub session_shows : (digests : Digests) (state piece : List ℕ) → AreLong digests → length state ≡ base_length →
+pub session_shows : (digests : Digests) (state piece : Bytes) → AreLong digests → length state ≡ base_length →
     length piece ≤ PIECE_LIMIT →
     piece_length state ≡ length piece → recover (made_session digests state piece)
     ≡ Shown digests (take state_length state) piece
@@ -227,7 +228,7 @@ found_keeps w digests room s t r e h f slots = subst (λ u. KeptIn (record { slo
 })
 
 -- The states of both slots, once both were read.
-pub found_slots : (w o : Slot) (bytes a b : List ℕ) (one two three four : Room) (state piece : List ℕ) →
+pub found_slots : (w o : Slot) (bytes a b : List ℕ) (one two three four : Room) (state piece : Bytes) →
     slot_number o ≡ 1 - slot_number w → two ≡ with_slot_kept w (kept_slot a) (record one { state = state; piece = piece }) →
     three ≡ record two { slot = three.slot } → four ≡ with_slot_kept o (kept_slot b) three → a ≡ slot (slot_number w) bytes →
     b ≡ slot (slot_number o) bytes → KeepsSlots four bytes
@@ -252,7 +253,7 @@ shown_stays digests r o kept two three four s e f =
     s ∙ (ap (λ l. Shown digests (take state_length l) two.piece) (sym st) ∙ ap (Shown digests (take state_length four.state)) (sym p))
 
 -- A piece is short if a state gives its length.
-pub short_piece : (state piece : List ℕ) → ((i : ℕ) → get_or state i 0 < 256) → piece_length state ≡ length piece → length piece ≤ PIECE_LIMIT
+pub short_piece : (state piece : Bytes) → ((i : ℕ) → get_or state i 0 < 256) → piece_length state ≡ length piece → length piece ≤ PIECE_LIMIT
 short_piece state piece bytes e = omega (arith, bytes PIECE_LENGTH_AT, bytes (PIECE_LENGTH_AT + 1))
 
 -- What is laid out, once it is marked, is the session.
@@ -261,7 +262,7 @@ pub marked_session : (digests : Digests) (slots state piece : List ℕ) (d : Dis
     made_mark ∷ drop 1 d.bytes ≡ made_session digests state piece
 marked_session digests slots state piece d e f = ap (λ x. made_mark ∷ drop 1 x.bytes) e ∙ ap (λ x. made_mark ∷ drop 1 (made_header 0 digests ++ x ++ x)) f
 
-made_slots : (digests : Digests) (state piece : List ℕ) (room : Room) → room.first ≡ Some (record { records = 0; state = state }) →
+made_slots : (digests : Digests) (state piece : Bytes) (room : Room) → room.first ≡ Some (record { records = 0; state = state }) →
     room.second ≡ Some (record { records = 0; state = state }) → AreLong digests → length state ≡ base_length →
     length piece ≤ PIECE_LIMIT → KeepsSlots room (made_session digests state piece)
 made_slots digests state piece room f g n m few =
@@ -274,7 +275,7 @@ made_slots digests state piece room f g n m few =
     }
 
 -- And it is kept.
-pub made_keeps : (digests : Digests) (state piece : List ℕ) (room : Room) (s t : Standing) → IsAtRest t → MakesSession digests state piece s t →
+pub made_keeps : (digests : Digests) (state piece : Bytes) (room : Room) (s t : Standing) → IsAtRest t → MakesSession digests state piece s t →
     room.state ≡ state → room.piece ≡ piece → room.first ≡ Some (record { records = 0; state = state }) →
     room.second ≡ Some (record { records = 0; state = state }) → AreLong digests → length state ≡ base_length →
     length piece ≤ PIECE_LIMIT → KeptIn (record { slot = which.First }) room t

@@ -4,6 +4,7 @@ use Rattle.std.proofs.Common.{take}
 use Rattle.std.proofs.Common.{drop, refl, sym, ap, ◌∙◌, arith, get_or}
 use Rattle.std.specs.Prelude.{if◌then◌else◌, nat_le}
 use Rattle.std.proofs.lemmas.List.{length-append, length-take-le, length-drop, get_or-take}
+use Rattle.paw_base.specs.Bytes.{Bytes}
 use Rattle.paw_base.specs.declared.layout.TheConstants.{PIECE_LENGTH_AT}
 use Rattle.paw_journal.specs.declared.refusal.SessionPart.TheVariants as part
 use Rattle.paw_journal.specs.Session.{Digests, Damaged, Shown, recover, slot_in_use, kept_digests, slot, slot_shows}
@@ -18,7 +19,7 @@ use Rattle.paw_journal.proofs.Fills.{slot_long}
 use Rattle.paw_journal.proofs.Slots.{state_long, form_bounds, form_names}
 
 -- In the form of each version a state has as many bytes.
-form_long : (n : ℕ) (state : List ℕ) → n ≤ state_length → length state ≡ base_length →
+form_long : (n : ℕ) (state : Bytes) → n ≤ state_length → length state ≡ base_length →
     length (take n state ++ zeros (state_length - n)) ≡ state_length
 form_long n state few long =
     let l = length-take-le n state (omega arith) in
@@ -43,7 +44,7 @@ by_slot : (digests : Digests) (s : List ℕ) (d : Digests) (st p : List ℕ) →
 unfolding slot_shows
 by_slot digests s d st p e = by_count digests s d st p (nat_le (two_byte_number 0 s) most_changes) e
 
-of_chosen : (bytes : List ℕ) (digests : Digests) (state piece : List ℕ) → recover bytes ≡ Shown digests state piece →
+of_chosen : (bytes : Bytes) (digests : Digests) (state piece : Bytes) → recover bytes ≡ Shown digests state piece →
     (kept_digests bytes ≡ digests) × (shown_state (slot (slot_in_use bytes) bytes) ≡ state) × (slot_piece (slot (slot_in_use bytes) bytes) ≡ piece)
     × (length (slot (slot_in_use bytes) bytes) ≡ slot_length)
 of_chosen bytes digests state piece e =
@@ -53,11 +54,11 @@ of_chosen bytes digests state piece e =
     (p.0, p.1, p.2, slot_long (slot_in_use bytes) bytes (omega arith) made.long)
 
 -- The digests that are shown are those that the header keeps.
-pub shown_digests : (bytes : List ℕ) (digests : Digests) (state piece : List ℕ) → recover bytes ≡ Shown digests state piece → kept_digests bytes ≡ digests
+pub shown_digests : (bytes : Bytes) (digests : Digests) (state piece : Bytes) → recover bytes ≡ Shown digests state piece → kept_digests bytes ≡ digests
 shown_digests bytes digests state piece e = (of_chosen bytes digests state piece e).0
 
 -- A state that is shown has 3,419 bytes.
-pub shown_whole : (bytes : List ℕ) (digests : Digests) (state piece : List ℕ) →
+pub shown_whole : (bytes : Bytes) (digests : Digests) (state piece : Bytes) →
     recover bytes ≡ Shown digests state piece → length state ≡ state_length
 shown_whole bytes digests state piece e =
     let h = of_chosen bytes digests state piece e in
@@ -65,7 +66,7 @@ shown_whole bytes digests state piece e =
     ap length (sym h.1) ∙ form_long (form_length (slot_version s)) (slot_state s) (form_bounds (slot_version s)).1 (state_long s h.3)
 
 -- And the piece is as long as the state says.
-pub shown_long : (bytes : List ℕ) (digests : Digests) (state piece : List ℕ) → recover bytes ≡ Shown digests state piece →
+pub shown_long : (bytes : Bytes) (digests : Digests) (state piece : Bytes) → recover bytes ≡ Shown digests state piece →
     piece_length state ≤ slot_length - PIECE_AT → length piece ≡ piece_length state
 shown_long bytes digests state piece e few =
     let h = of_chosen bytes digests state piece e in
@@ -81,7 +82,7 @@ shown_long bytes digests state piece e few =
     there k d l m e f n few = omega arith
 
 -- So is a piece that stands beside a buffer whose first bytes are the state.
-pub buffer_long : (bytes : List ℕ) (digests : Digests) (buffer piece : List ℕ) (n : ℕ) →
+pub buffer_long : (bytes : Bytes) (digests : Digests) (buffer piece : Bytes) (n : ℕ) →
     recover bytes ≡ Shown digests (take state_length buffer) piece → piece_length buffer ≡ n → n < 65536 → length piece ≡ n
 buffer_long bytes digests buffer piece n e is low =
     let a : get_or (take state_length buffer) PIECE_LENGTH_AT 0 ≡ get_or buffer PIECE_LENGTH_AT 0 =

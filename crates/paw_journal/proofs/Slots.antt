@@ -11,6 +11,7 @@ use Rattle.std.proofs.lemmas.Bool.{leb-true, and_parts}
 use Rattle.std.proofs.lemmas.List.{length-append, take-replicate, length-take-le, length-set, get_or-take}
 use Rattle.std.proofs.lemmas.List.{get_or_append_left, get_or_read_under, take_all, take_at}
 use Rattle.std.proofs.Math.Seq.{take-append-add}
+use Rattle.paw_base.specs.Bytes.{Bytes, Text}
 use Rattle.paw_base.specs.declared.layout.TheConstants.{FORM_LENGTHS, PIECE_LENGTH_AT}
 use Rattle.paw_journal.specs.declared.layout.Slot.{Slot}
 use Rattle.paw_journal.specs.declared.layout.Slot.TheVariants as which
@@ -44,7 +45,7 @@ added_zeros was now n k count l e ok is =
     ∙ (ap (λ y. y ++ replicate (n - k) 0) (take_all n was (omega arith)) ∙ ap (λ j. was ++ replicate j 0) m))
 
 -- What a read of a slot gives.
-pub read_slot : (k at n m : ℕ) (into rest whole : List ℕ) → k < 2 → at ≡ header_length + slot_length * k →
+pub read_slot : (k at n m : ℕ) (into rest whole : Bytes) → k < 2 → at ≡ header_length + slot_length * k →
     n ≡ slot_length → m ≡ slot_length → length whole ≡ session_length → into ≡ take m (drop at whole) →
     take n (into ++ rest) ≡ slot k whole
 read_slot k at n m into rest whole low e p q long r =
@@ -57,7 +58,7 @@ read_slot k at n m into rest whole low e p q long r =
     slot_is_whole l k n size low p long e = omega arith
 
 -- What a slot shows, by its change records.
-pub too_many : (digests : Digests) (bytes : List ℕ) (count : ℕ) → count ≡ two_byte_number 0 bytes → most_changes < count →
+pub too_many : (digests : Digests) (bytes : Bytes) (count : ℕ) → count ≡ two_byte_number 0 bytes → most_changes < count →
     slot_shows digests bytes ≡ Damaged part.Slot 0
 unfolding slot_shows
 too_many digests bytes count e h =
@@ -67,7 +68,7 @@ too_many digests bytes count e h =
     above : (n count : ℕ) → count ≡ n → most_changes < count → nat_le n most_changes ≡ false
     above n count e h = grind (arith, nat_tests)
 
-pub few_changes : (digests : Digests) (bytes records : List ℕ) (count : ℕ) (first : Option ℕ) → count ≡ two_byte_number 0 bytes →
+pub few_changes : (digests : Digests) (bytes records : Bytes) (count : ℕ) (first : Option ℕ) → count ≡ two_byte_number 0 bytes →
     count ≤ most_changes → records ≡ stretch CHANGES_AT (4 * count) bytes → first ≡ first_unsound (changes records) →
     slot_shows digests bytes ≡ shown_unless digests bytes first
 unfolding slot_shows
@@ -80,27 +81,27 @@ few_changes digests bytes records count first e h r u =
     below : (n count : ℕ) → count ≡ n → count ≤ most_changes → nat_le n most_changes ≡ true
     below n count e h = grind (arith, nat_tests)
 
-pub state_is : (bytes records old now : List ℕ) (count : ℕ) → count ≡ two_byte_number 0 bytes →
+pub state_is : (bytes records old now : Bytes) (count : ℕ) → count ≡ two_byte_number 0 bytes →
     records ≡ stretch CHANGES_AT (4 * count) bytes → old ≡ base bytes → now ≡ with_changes (changes records) old →
     now ≡ slot_state bytes
 state_is bytes records old now count e r b n =
     n ∙ (ap (λ l. with_changes (changes l) old) (r ∙ ap (λ n. stretch CHANGES_AT (4 * n) bytes) e)
     ∙ ap (with_changes (slot_changes bytes)) b)
 
-pub broken_many : (bytes : List ℕ) (count : ℕ) → count ≡ two_byte_number 0 bytes → most_changes < count → has_state bytes ≡ false
+pub broken_many : (bytes : Bytes) (count : ℕ) → count ≡ two_byte_number 0 bytes → most_changes < count → has_state bytes ≡ false
 broken_many bytes count e h = above (two_byte_number 0 bytes) count (is_none (first_unsound (slot_changes bytes))) e h
   where
     above : (n count : ℕ) (b : Bool) → count ≡ n → most_changes < count → (nat_le n most_changes && b) ≡ false
     above n count b e h = let f : nat_le n most_changes ≡ false = grind (arith, nat_tests) in ap (λ t. t && b) f
 
-same_unsound : (bytes records : List ℕ) (count : ℕ) (first : Option ℕ) → count ≡ two_byte_number 0 bytes →
+same_unsound : (bytes records : Bytes) (count : ℕ) (first : Option ℕ) → count ≡ two_byte_number 0 bytes →
     records ≡ stretch CHANGES_AT (4 * count) bytes → first ≡ first_unsound (changes records) →
     first_unsound (slot_changes bytes) ≡ first
 same_unsound bytes records count first e r u =
     sym (u ∙ (ap (λ l. first_unsound (changes l)) r
     ∙ ap (λ n. first_unsound (changes (stretch CHANGES_AT (4 * n) bytes))) e))
 
-pub broken_record : (bytes records : List ℕ) (count number : ℕ) → count ≡ two_byte_number 0 bytes →
+pub broken_record : (bytes records : Bytes) (count number : ℕ) → count ≡ two_byte_number 0 bytes →
     records ≡ stretch CHANGES_AT (4 * count) bytes → Some number ≡ first_unsound (changes records) →
     has_state bytes ≡ false
 broken_record bytes records count number e r u =
@@ -111,11 +112,11 @@ broken_record bytes records count number e r u =
     never true = refl
     never false = refl
 
-pub whole_slot : (bytes records : List ℕ) (count : ℕ) → count ≡ two_byte_number 0 bytes → count ≤ most_changes →
+pub whole_slot : (bytes records : Bytes) (count : ℕ) → count ≡ two_byte_number 0 bytes → count ≤ most_changes →
     records ≡ stretch CHANGES_AT (4 * count) bytes → None ≡ first_unsound (changes records) → has_state bytes ≡ true
 whole_slot bytes records count e low r u = has_state_is bytes (omega (arith, e)) (same_unsound bytes records count None e r u)
 
-pub whole_state : (bytes records old now : List ℕ) (count : ℕ) → count ≡ two_byte_number 0 bytes →
+pub whole_state : (bytes records old now : Bytes) (count : ℕ) → count ≡ two_byte_number 0 bytes →
     records ≡ stretch CHANGES_AT (4 * count) bytes → old ≡ base bytes → now ≡ with_changes (changes records) old →
     ◌≡◌ {A = SlotState} (record { records = count; state = now })
     (record { records = two_byte_number 0 bytes; state = slot_state bytes })
@@ -127,7 +128,7 @@ records_are count held bytes e = let n : CHANGES_AT + 4 * count - CHANGES_AT ≡
     ap (λ k. take k (drop CHANGES_AT held)) n ∙ ap (stretch CHANGES_AT (4 * count)) e
 
 -- There is room for state and piece after the head of a slot, and for as many zeros after these.
-pub room_for_body : (r s : Room) (piece : List ℕ) → s.slot ≡ 0 ∷ 0 ∷ VERSION ∷ [] → s.piece ≡ piece →
+pub room_for_body : (r s : Room) (piece : Text) → s.slot ≡ 0 ∷ 0 ∷ VERSION ∷ [] → s.piece ≡ piece →
     r ≡ record s { slot = s.slot ++ zeros 61 } → length piece ≤ PIECE_LIMIT →
     length r.slot + base_length + length r.piece ≤ slot_length
 room_for_body r s piece f g e few = omega (
@@ -141,7 +142,7 @@ room_for_body r s piece f g e few = omega (
   length_zeros 61,
 )
 
-pub room_behind : (q r s : Room) (state piece : List ℕ) (n : ℕ) → s.slot ≡ 0 ∷ 0 ∷ VERSION ∷ [] → s.state ≡ state →
+pub room_behind : (q r s : Room) (state piece : Bytes) (n : ℕ) → s.slot ≡ 0 ∷ 0 ∷ VERSION ∷ [] → s.state ≡ state →
     s.piece ≡ piece → r ≡ record s { slot = s.slot ++ zeros 61 } → length state ≡ base_length
     → length piece ≤ PIECE_LIMIT →
     q ≡ record r { slot = r.slot ++ r.state ++ r.piece } → n ≡ length piece → length q.slot + (slot_length - PIECE_AT - n) ≤ slot_length
@@ -172,11 +173,11 @@ pub piece_stays : (w : Slot) (kept : Option SlotState) (room : Room) → (with_s
 piece_stays which.First kept room = refl
 piece_stays which.Second kept room = refl
 
-length-changed : (all : List Change) (bytes : List ℕ) → length (with_changes all bytes) ≡ length bytes
+length-changed : (all : List Change) (bytes : Bytes) → length (with_changes all bytes) ≡ length bytes
 length-changed [] bytes = refl
 length-changed (c ∷ all) bytes = length-changed all (slice_set bytes c.at c.byte) ∙ length-set bytes c.at c.byte
 
-pub state_long : (bytes : List ℕ) → length bytes ≡ slot_length → length (slot_state bytes) ≡ base_length
+pub state_long : (bytes : Bytes) → length bytes ≡ slot_length → length (slot_state bytes) ≡ base_length
 state_long bytes n =
     length-changed (slot_changes bytes) (base bytes)
     ∙ stretch_long BASE_AT base_length bytes (omega arith)
@@ -211,7 +212,7 @@ form_few i n is low =
     subst (λ (k : ℕ). k ≤ state_length) (sym same) (in_list FORM_LENGTHS i refl).1
 
 -- The first n bytes of a state, and zeros.
-brought_shown : (n : ℕ) (state : List ℕ) → n ≤ state_length → length state ≡ base_length →
+brought_shown : (n : ℕ) (state : Bytes) → n ≤ state_length → length state ≡ base_length →
     take state_length (take n state ++ zeros (base_length - n)) ≡ take n state ++ zeros (state_length - n)
 unfolding zeros
 brought_shown n state few long =
@@ -231,7 +232,7 @@ brought_is n k front state e f =
     ∙ (ap (λ l. take k state ++ l) (drop-replicate k base_length 0) ∙ ap (λ m. take m state ++ replicate (base_length - m) 0) e)
 
 -- They give the piece's length, whatever number of zeros stands after them.
-pub form_names : (n count : ℕ) (state : List ℕ) → first_length ≤ n → n ≤ state_length → length state ≡ base_length →
+pub form_names : (n count : ℕ) (state : Bytes) → first_length ≤ n → n ≤ state_length → length state ≡ base_length →
     piece_length (take n state ++ zeros count) ≡ piece_length state
 form_names n count state many few long =
     let l : length (take n state) ≡ n = length-take-le n state (omega arith) in
@@ -279,7 +280,7 @@ module _ (w : Slot) (kept : SlotState) (old shown now : Room) (n : length old.sl
         f ∙ (ap (λ x. with_slot_kept w x shown) q ∙ ap (with_slot_kept w (kept_slot old.slot)) r)
 
     -- Of any version.
-    pub brought_shows : (digests : Digests) (state : List ℕ) →
+    pub brought_shows : (digests : Digests) (state : Bytes) →
         state ≡ take (form_length (slot_version old.slot)) kept.state ++ zeros (base_length - form_length (slot_version old.slot)) →
         shown ≡ record old { state = state; piece = stretch PIECE_AT (piece_length state) old.slot } →
         now ≡ with_slot_kept w None shown → slot_shows digests old.slot ≡ Shown digests (take state_length now.state) now.piece
@@ -300,7 +301,7 @@ module _ (w : Slot) (kept : SlotState) (old shown now : Room) (n : length old.sl
         ∙ (ap (λ l. Shown digests l (slot_piece old.slot)) (sym c) ∙ ap (Shown digests (take state_length now.state)) (sym p))
 
     -- Of an older one.
-    pub brought_kept : (state : List ℕ) → is_current old.slot ≡ false →
+    pub brought_kept : (state : Bytes) → is_current old.slot ≡ false →
         shown ≡ record old { state = state; piece = stretch PIECE_AT (piece_length state) old.slot } →
         now ≡ with_slot_kept w None shown → now
         ≡ with_slot_kept w (kept_slot old.slot) (record old { state = now.state; piece = now.piece })
@@ -314,12 +315,12 @@ module _ (w : Slot) (kept : SlotState) (old shown now : Room) (n : length old.sl
         f ∙ (ap (λ x. with_slot_kept w x shown) (sym (kept_of_older old.slot e)) ∙ ap (with_slot_kept w (kept_slot old.slot)) r)
 
 -- What is kept of a slot that was read.
-pub kept_is_none : (bytes : List ℕ) → has_state bytes ≡ false → None ≡ kept_slot bytes
+pub kept_is_none : (bytes : Bytes) → has_state bytes ≡ false → None ≡ kept_slot bytes
 kept_is_none bytes e = sym (kept_of_broken bytes e)
 
-pub kept_is_some : (bytes : List ℕ) (kept : SlotState) → is_current bytes ≡ true → has_state bytes ≡ true →
+pub kept_is_some : (bytes : Bytes) (kept : SlotState) → is_current bytes ≡ true → has_state bytes ≡ true →
     kept ≡ record { records = two_byte_number 0 bytes; state = slot_state bytes } → Some kept ≡ kept_slot bytes
 kept_is_some bytes kept e f k = ap Some k ∙ sym (kept_of_both bytes e f)
 
-pub kept_is_older : (bytes : List ℕ) → is_current bytes ≡ false → None ≡ kept_slot bytes
+pub kept_is_older : (bytes : Bytes) → is_current bytes ≡ false → None ≡ kept_slot bytes
 kept_is_older bytes e = sym (kept_of_older bytes e)

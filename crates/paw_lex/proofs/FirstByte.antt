@@ -1,13 +1,14 @@
 -- Where a byte stands first.
-use Rattle.std.proofs.Common.{◌≡◌, ℕ, ◌<◌, ◌==◌, false, List, length, get_or, Option, Some, None, sym, arith}
+use Rattle.std.proofs.Common.{◌≡◌, ℕ, ◌<◌, ◌==◌, false, length, get_or, Option, Some, None, sym, arith}
 use Rattle.std.specs.List.{position_or_len}
 use Rattle.std.specs.Option.{unwrap_or}
 use Rattle.std.proofs.lemmas.Bool.{false_from_ne_true}
 use Rattle.std.proofs.lemmas.List.Sums.{position_or_len_is}
 use Rattle.memchr.specs.Find.{IsFirstByte, is_byte}
+use Rattle.paw_base.specs.Bytes.{Bytes}
 
 -- The offset that a search gives, or the length.
-pub first_place : (byte : ℕ) (bytes : List ℕ) (r : Option ℕ) → IsFirstByte (is_byte byte) bytes r
+pub first_place : (byte : ℕ) (bytes : Bytes) (r : Option ℕ) → IsFirstByte (is_byte byte) bytes r
     → unwrap_or r (length bytes) ≡ position_or_len (λ b. b == byte) bytes
 first_place byte bytes None h =
     let differs : (k : ℕ) → k < length bytes → (get_or bytes k 0 == byte) ≡ false = λ k lt. false_from_ne_true _ (h k (omega arith) lt) in

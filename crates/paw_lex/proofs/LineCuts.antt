@@ -8,6 +8,7 @@ use Rattle.std.proofs.lemmas.List.{take-take, take_all, drop_all, get_or-take, l
 use Rattle.std.proofs.lemmas.Slice.{between_is}
 use Rattle.std.proofs.lemmas.List.Sums.{fails_before_first, passes_at_first, prefix_len-le-length}
 use Rattle.std.proofs.lemmas.List.Splits.{slice_split_none, slice_split_first, length-slice_split}
+use Rattle.paw_base.specs.Bytes.{Bytes, Line}
 use Rattle.paw_lex.specs.Lines.{lines_of}
 use Rattle.paw_lex.specs.inner.Lines.{IsLineEnd}
 use Rattle.paw_lex.proofs.Slices.{take-slice_range, drop-slice_range, slice_range-slice_range, before_first-drop}
@@ -35,7 +36,7 @@ lines-last s h e =
 
 pub last_line : (s : List ℕ) (n : ℕ) → 0 < length s → n ≡ position_or_len (λ b. eqb b 10) s → n ≡ length s → lines s ≡ take n s ∷ lines (drop n s)
 last_line s n h e f =
-    lines-last s h (sym e ∙ f) ∙ sym (ap (λ (line : List ℕ). line ∷ lines (drop n s)) (take_all n s (omega arith))
+    lines-last s h (sym e ∙ f) ∙ sym (ap (λ (line : Line). line ∷ lines (drop n s)) (take_all n s (omega arith))
     ∙ ap (λ (rest : List ℕ). s ∷ lines rest) (drop_all n s (omega arith)))
 
 -- Before the first LF there are n bytes, and w of them without a CR at their end.
@@ -43,7 +44,7 @@ pub line_before_lf : (s : List ℕ) (n w : ℕ) → n ≡ position_or_len (λ b.
     → take w (take n s) ≡ strip_carriage_return (take n s) → lines s ≡ take w s ∷ lines (drop (n + 1) s)
 line_before_lf s n w e h l f =
     let here : lines s ≡ strip_carriage_return (take n s) ∷ lines (drop (n + 1) s) = rw e (lines-lf s (omega arith)) in
-    here ∙ ap (λ (line : List ℕ). line ∷ lines (drop (n + 1) s)) (sym f ∙ take-take w n s l)
+    here ∙ ap (λ (line : Line). line ∷ lines (drop (n + 1) s)) (sym f ∙ take-take w n s l)
 
 pub line_end_at : (s : List ℕ) (n w : ℕ) → n ≡ position_or_len (λ b. eqb b 10) s → n < length s
     → (w ≡ n) ⊎ ((w + 1 ≡ n) × (get_or (take n s) w 0 ≡ 13)) → IsLineEnd (slice_range s w (n + 1))
@@ -72,7 +73,7 @@ next_line s end at line whole e h l cut =
     ap lines (drop-slice_range s at end whole (omega arith)) ∙ sym (lines_of-drop s end (at + whole) e h) in
     lines_of-drop s end at e (omega arith)
     ∙ cut
-    ∙ ap (λ (bytes : List ℕ). bytes ∷ lines (drop whole (slice_range s at end))) (take-slice_range s at end line (omega arith))
+    ∙ ap (λ (bytes : Bytes). bytes ∷ lines (drop whole (slice_range s at end))) (take-slice_range s at end line (omega arith))
     ∙ ap (λ (rest : List (List ℕ)). slice_range s at (at + line) ∷ rest) behind
 
 pub next_line_end : (s : List ℕ) (end at line whole : ℕ) → end ≡ position_or_len (λ b. eqb b 26) s → at + whole ≤ end → line ≤ whole

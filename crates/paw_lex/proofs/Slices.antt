@@ -4,6 +4,7 @@ use Rattle.std.proofs.Common.{length, take, drop, get_or, refl}
 use Rattle.std.proofs.Common.{sym, ap, ◌∙◌, one-add, arith}
 use Rattle.std.specs.List.{slice_range, before_first, position_or_len}
 use Rattle.std.proofs.lemmas.List.{take-take, drop-take, drop-drop, drop_more}
+use Rattle.paw_base.specs.Bytes.{Bytes}
 
 pub take-slice_range : (s : List ℕ) (a b n : ℕ) → n ≤ b - a → take n (slice_range s a b) ≡ slice_range s a (a + n)
 take-slice_range s a b n h =
@@ -20,7 +21,7 @@ slice_range-slice_range s a b m n h g =
     let e : a + m + (n - m) ≡ a + n = omega arith in
     ap (take (n - m)) (drop-slice_range s a b m (omega arith)) ∙ take-slice_range s (a + m) b (n - m) (omega arith) ∙ ap (slice_range s (a + m)) e
 
-pub before_first-cons : (p : ℕ → Bool) (b : ℕ) (bs : List ℕ) → p b ≡ false → before_first p (b ∷ bs) ≡ b ∷ before_first p bs
+pub before_first-cons : (p : ℕ → Bool) (b : ℕ) (bs : Bytes) → p b ≡ false → before_first p (b ∷ bs) ≡ b ∷ before_first p bs
 before_first-cons p b bs e = rw (e, one-add) refl
 
 pub before_first-drop : (p : ℕ → Bool) (s : List ℕ) (n : ℕ) → n ≤ position_or_len p s → before_first p (drop n s) ≡ drop n (before_first p s)

@@ -6,6 +6,7 @@ use Rattle.std.specs.List.{before_first, list_all, position_or_len, prefix_len, 
 use Rattle.std.proofs.lemmas.Bool.{eqb-true, lt-ltb, or_right, cases_lt}
 use Rattle.std.proofs.lemmas.List.{length-take-le, take_rest, drop-drop}
 use Rattle.std.proofs.lemmas.List.Sums.{prefix_len-le-length, prefix_len-drop_no, prefix_len-drop_all, prefix_len_stops}
+use Rattle.paw_base.specs.Bytes.{Bytes, Token, Tokens}
 use Rattle.paw_lex.specs.Tokens.{is_blank, tokens_of}
 use Rattle.paw_lex.specs.inner.Tokens.{ends_token}
 use Rattle.paw_lex.proofs.Slices.{before_first-cons, drop-slice_range, slice_range-slice_range, take-slice_range}
@@ -16,7 +17,7 @@ pieces s = slice_split is_blank (before_first (λ b. eqb b 59) s)
 abbrev full : List (List ℕ) → List (List ℕ)
 full = filter (λ piece. ltb 0 (length piece))
 
-pieces-semicolon : (b : ℕ) (bs : List ℕ) → eqb b 59 ≡ true → pieces (b ∷ bs) ≡ [] ∷ []
+pieces-semicolon : (b : ℕ) (bs : Bytes) → eqb b 59 ≡ true → pieces (b ∷ bs) ≡ [] ∷ []
 pieces-semicolon b bs e = rw e refl
 
 not_semicolon : (b : ℕ) → is_blank b ≡ true → eqb b 59 ≡ false
@@ -26,13 +27,13 @@ not_semicolon b e =
       | false ↦ λ f. refl
     ] refl
 
-pieces-blank : (b : ℕ) (bs : List ℕ) → is_blank b ≡ true → pieces (b ∷ bs) ≡ [] ∷ pieces bs
+pieces-blank : (b : ℕ) (bs : Bytes) → is_blank b ≡ true → pieces (b ∷ bs) ≡ [] ∷ pieces bs
 pieces-blank b bs e = ap (slice_split is_blank) (before_first-cons (λ c. eqb c 59) b bs (not_semicolon b e)) ∙ rw e refl
 
-pieces-other : (b : ℕ) (bs : List ℕ) → eqb b 59 ≡ false → is_blank b ≡ false → pieces (b ∷ bs) ≡ onto_first b (pieces bs)
+pieces-other : (b : ℕ) (bs : Bytes) → eqb b 59 ≡ false → is_blank b ≡ false → pieces (b ∷ bs) ≡ onto_first b (pieces bs)
 pieces-other b bs e f = ap (slice_split is_blank) (before_first-cons (λ c. eqb c 59) b bs e) ∙ rw f refl
 
-pub tokens_of-blank : (b : ℕ) (bs : List ℕ) → is_blank b ≡ true → tokens_of (b ∷ bs) ≡ tokens_of bs
+pub tokens_of-blank : (b : ℕ) (bs : Bytes) → is_blank b ≡ true → tokens_of (b ∷ bs) ≡ tokens_of bs
 unfolding tokens_of
 tokens_of-blank b bs e = ap full (pieces-blank b bs e)
 
@@ -108,7 +109,7 @@ unfolding tokens_of
 token_first s n e h =
     let here : Begins s n = rw e (begins s) in
     let within : n ≤ length s = omega (arith, prefix_len-le-length (λ b. not (ends_token b)) s) in
-    ap full here.first ∙ rw (length-take-le n s within, lt-ltb 0 n h) (ap (λ (ts : List (List ℕ)). take n s ∷ ts) here.rest)
+    ap full here.first ∙ rw (length-take-le n s within, lt-ltb 0 n h) (ap (λ (ts : Tokens). take n s ∷ ts) here.rest)
 
 no_more_blanks : (s : List ℕ) (n : ℕ) → n ≡ prefix_len is_blank s → prefix_len is_blank (drop n s) ≡ 0
 no_more_blanks s n e =
@@ -130,12 +131,12 @@ one_left s n k e f z =
     let long : n + k - n ≡ k = omega arith in
     sym (past_blanks s n (omega arith))
     ∙ token_first (drop n s) k here (omega arith)
-    ∙ rw (drop-drop k n s) (ap (λ (token : List ℕ). token ∷ tokens_of (drop (n + k) s)) (sym (ap (λ m. take m (drop n s)) long)))
+    ∙ rw (drop-drop k n s) (ap (λ (token : Token). token ∷ tokens_of (drop (n + k) s)) (sym (ap (λ m. take m (drop n s)) long)))
 
 pub next_token_at : (s : List ℕ) (from to m n : ℕ) → m ≤ n → n ≤ to - from
     → tokens_of (slice_range s from to) ≡ slice_range (slice_range s from to) m n ∷ tokens_of (drop n (slice_range s from to))
     → tokens_of (slice_range s from to) ≡ slice_range s (from + m) (from + n) ∷ tokens_of (slice_range s (from + n) to)
 next_token_at s from to m n l h e =
     e
-    ∙ ap (λ (token : List ℕ). token ∷ tokens_of (drop n (slice_range s from to))) (slice_range-slice_range s from to m n l h)
+    ∙ ap (λ (token : Token). token ∷ tokens_of (drop n (slice_range s from to))) (slice_range-slice_range s from to m n l h)
     ∙ ap (λ (rest : List ℕ). slice_range s (from + m) (from + n) ∷ tokens_of rest) (drop-slice_range s from to n h)

@@ -5,6 +5,7 @@ use Rattle.std.proofs.Common.{ap, ◌∙◌, arith}
 use Rattle.std.specs.List.{list_any}
 use Rattle.std.specs.Option.{is_some, option_to_list}
 use Rattle.std.proofs.lemmas.List.{take_rest, drop-drop, drop_all}
+use Rattle.paw_base.specs.Bytes.{Bytes, Letters}
 use Rattle.paw_base.specs.declared.words.TheConstants.{CONJUNCTION_CLASS}
 use Rattle.paw_game.specs.Game.{GameLists}
 use Rattle.paw_game.specs.Tables.{word_at}
@@ -44,12 +45,12 @@ Means g t (part.Word value class) =
     × ((ts : List (List ℕ)) (s : Sentence) → with_tokens g (option_to_list t ++ ts) s ≡ with_tokens g ts (with_word value class s))
     × ((ts : List (List ℕ)) → has_known g (option_to_list t ++ ts) ≡ true)
 
-known_means : (g : GameLists) (letters : List ℕ) (word : ℕ × ℕ) → word_at g letters ≡ Some word → (b : Bool) → eqb word.1 CONJUNCTION_CLASS ≡ b
+known_means : (g : GameLists) (letters : Letters) (word : ℕ × ℕ) → word_at g letters ≡ Some word → (b : Bool) → eqb word.1 CONJUNCTION_CLASS ≡ b
     → Means g (Some letters) (cond b part.Break (part.Word word.0 word.1))
 known_means g letters word e true parts = rw e parts
 known_means g letters word e false parts = (rw e parts, λ ts s. rw e refl, λ ts. rw e refl)
 
-word_means : (g : GameLists) (letters : List ℕ) → (word : Option (ℕ × ℕ)) → word_at g letters ≡ word → Means g (Some letters) (part_of_word word)
+word_means : (g : GameLists) (letters : Letters) → (word : Option (ℕ × ℕ)) → word_at g letters ≡ word → Means g (Some letters) (part_of_word word)
 word_means g letters None e = (rw e refl, λ ts s. rw e refl, λ ts. rw e refl)
 word_means g letters (Some word) e = known_means g letters word e (eqb word.1 CONJUNCTION_CLASS) refl
 
@@ -152,7 +153,7 @@ parsed_from-lexemes : (g : GameLists) (e n a : ℕ) (ms : List Lexeme) → parse
 parsed_from-lexemes g e n a [] = refl
 parsed_from-lexemes g e n a (m ∷ ms) = refl
 
-pub along-started : (g : GameLists) (bytes : List ℕ) (e n a : ℕ) → along g e (lexemes bytes) (blank_draft n a) ≡ phrase_parsed g bytes e n a
+pub along-started : (g : GameLists) (bytes : Bytes) (e n a : ℕ) → along g e (lexemes bytes) (blank_draft n a) ≡ phrase_parsed g bytes e n a
 unfolding phrase_parsed
 along-started g bytes e n a = with_no_token g e (lexemes bytes) (blank n a) ∙ parsed_from-lexemes g e n a (from_phrase g (lexemes bytes))
 

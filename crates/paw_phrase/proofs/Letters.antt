@@ -5,6 +5,7 @@ use Rattle.std.proofs.Common.{arith, length-append, append_assoc, add-one}
 use Rattle.std.specs.Char.{to_ascii_uppercase}
 use Rattle.std.proofs.Math.Seq.{take-suc}
 use Rattle.std.proofs.lemmas.List.{length-take-le, length-map, map-append, take_all, take-append-le, set_at}
+use Rattle.paw_base.specs.Bytes.{Bytes}
 use Rattle.paw_base.specs.declared.limits.TheConstants.{WORD_LENGTH}
 use Rattle.paw_phrase.specs.Phrase.{five_letters}
 
@@ -12,10 +13,10 @@ use Rattle.paw_phrase.specs.Phrase.{five_letters}
 abbrev pub letters_of : ℕ → List ℕ → List ℕ
 letters_of n bytes = map to_ascii_uppercase (take n bytes)
 
-pub length-letters_of : (n : ℕ) (bytes : List ℕ) → n ≤ length bytes → length (letters_of n bytes) ≡ n
+pub length-letters_of : (n : ℕ) (bytes : Bytes) → n ≤ length bytes → length (letters_of n bytes) ≡ n
 length-letters_of n bytes h = length-map (take n bytes) to_ascii_uppercase ∙ length-take-le n bytes h
 
-pub letters_of-suc : (n : ℕ) (bytes : List ℕ) → n < length bytes → letters_of (suc n) bytes ≡ letters_of n bytes ++ to_ascii_uppercase (get_or bytes n 0) ∷ []
+pub letters_of-suc : (n : ℕ) (bytes : Bytes) → n < length bytes → letters_of (suc n) bytes ≡ letters_of n bytes ++ to_ascii_uppercase (get_or bytes n 0) ∷ []
 letters_of-suc n bytes h =
     ap (map to_ascii_uppercase) (take-suc bytes n 0 h) ∙ map-append to_ascii_uppercase (take n bytes) (get_or bytes n 0 ∷ [])
 
@@ -39,7 +40,7 @@ five_letters-cut run letter h =
     let none : WORD_LENGTH - length (run ++ letter ∷ []) ≡ WORD_LENGTH - length run = omega (arith, length-append run (letter ∷ [])) in
     rw (cut, none) refl
 
-pub letter_kept : (bytes : List ℕ) (n : ℕ) → n < length bytes → n < WORD_LENGTH
+pub letter_kept : (bytes : Bytes) (n : ℕ) → n < length bytes → n < WORD_LENGTH
     → set (five_letters (letters_of n bytes)) n (to_ascii_uppercase (get_or bytes n 0)) ≡ five_letters (letters_of (n + 1) bytes)
 letter_kept bytes n h five =
     let run = letters_of n bytes in
@@ -48,7 +49,7 @@ letter_kept bytes n h five =
     let kept : five_letters (run ++ letter ∷ []) ≡ set (five_letters run) (length run) letter = five_letters-kept run letter (omega arith) in
     rw add-one (sym (ap five_letters (letters_of-suc n bytes h) ∙ kept ∙ ap (λ k. set (five_letters run) k letter) long))
 
-pub letter_cut : (bytes : List ℕ) (n : ℕ) → n < length bytes → WORD_LENGTH ≤ n → five_letters (letters_of n bytes) ≡ five_letters (letters_of (n + 1) bytes)
+pub letter_cut : (bytes : Bytes) (n : ℕ) → n < length bytes → WORD_LENGTH ≤ n → five_letters (letters_of n bytes) ≡ five_letters (letters_of (n + 1) bytes)
 letter_cut bytes n h five =
     let run = letters_of n bytes in
     let letter = to_ascii_uppercase (get_or bytes n 0) in

@@ -4,6 +4,7 @@ use Rattle.std.proofs.Common.{set, get_or, refl, sym, ap, ◌∙◌}
 use Rattle.std.proofs.Common.{arith, add-one, add-zero, length-drop, drop-cons}
 use Rattle.std.specs.Char.{to_ascii_uppercase, is_ascii_alphanumeric}
 use Rattle.std.proofs.lemmas.List.{get_or-drop}
+use Rattle.paw_base.specs.Bytes.{Letters}
 use Rattle.paw_base.specs.declared.limits.TheConstants.{WORD_LENGTH}
 use Rattle.paw_phrase.specs.Phrase.{is_separator, five_letters, lexemes_from, lexemes}
 use Rattle.paw_phrase.proofs.Letters.{letters_of, letters_of-suc, length-letters_of, letter_kept, letter_cut}
@@ -28,14 +29,14 @@ lexemes_from-end (b ∷ bs) (c ∷ cs) begun ends = let other : is_ascii_alphanu
 abbrev pub IsToken : List ℕ → ℕ → List ℕ → Type 0
 IsToken s n letters = (lexemes s ≡ lexemes_from (letters_of n s) (drop n s)) × (letters ≡ five_letters (letters_of n s))
 
-pub kept : (s : List ℕ) (n : ℕ) (letters : List ℕ) → IsToken s n letters → n < length s → is_ascii_alphanumeric (get_or s n 0) ≡ true → n < WORD_LENGTH
+pub kept : (s : List ℕ) (n : ℕ) (letters : Letters) → IsToken s n letters → n < length s → is_ascii_alphanumeric (get_or s n 0) ≡ true → n < WORD_LENGTH
     → IsToken s (n + 1) (set letters n (to_ascii_uppercase (get_or s n 0)))
 kept s n letters so_far h token five = (
   so_far.0 ∙ lexemes_from-more s n h token,
   ap (λ l. set l n (to_ascii_uppercase (get_or s n 0))) so_far.1 ∙ letter_kept s n h five,
 )
 
-pub cut : (s : List ℕ) (n : ℕ) (letters : List ℕ) → IsToken s n letters → n < length s → is_ascii_alphanumeric (get_or s n 0) ≡ true → WORD_LENGTH ≤ n
+pub cut : (s : List ℕ) (n : ℕ) (letters : Letters) → IsToken s n letters → n < length s → is_ascii_alphanumeric (get_or s n 0) ≡ true → WORD_LENGTH ≤ n
     → IsToken s (n + 1) letters
 cut s n letters so_far h token five = (so_far.0 ∙ lexemes_from-more s n h token, so_far.1 ∙ letter_cut s n h five)
 
@@ -45,7 +46,7 @@ begun s zero some token ends = let never = ends some in cc
 begun s (suc n) some token ends = omega arith
 
 -- The token is the first lexeme.
-pub lexemes-token : (s : List ℕ) (n : ℕ) (letters : List ℕ) → 0 < length s → is_ascii_alphanumeric (get_or s 0 0) ≡ true → n ≤ length s
+pub lexemes-token : (s : List ℕ) (n : ℕ) (letters : Letters) → 0 < length s → is_ascii_alphanumeric (get_or s 0 0) ≡ true → n ≤ length s
     → (n < length s → is_ascii_alphanumeric (get_or s n 0) ≡ false) → IsToken s n letters
     → lexemes s ≡ record { token = Some letters; after = drop n s } ∷ lexemes (drop n s)
 lexemes-token s n letters some token within ends so_far =

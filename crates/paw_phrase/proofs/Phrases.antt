@@ -6,6 +6,7 @@ use Rattle.std.specs.List.{All}
 use Rattle.std.specs.Char.{to_ascii_uppercase, is_ascii_alphanumeric}
 use Rattle.std.proofs.lemmas.List.{drop_all}
 use Rattle.std.proofs.lemmas.List.Elements.{All-drop}
+use Rattle.paw_base.specs.Bytes.{Bytes}
 use Rattle.paw_game.specs.Game.{GameLists}
 use Rattle.paw_phrase.specs.declared.Sentence.{Sentence}
 use Rattle.paw_phrase.specs.Phrase.{is_separator, Lexeme, token_lexeme, separator_lexeme, lexemes_from, lexemes}
@@ -17,18 +18,18 @@ use Rattle.paw_phrase.proofs.Lexemes.{lexemes-empty}
 pub use Rattle.paw_phrase.specs.inner.Leaving.{LeavesBytes}
 
 -- The bytes that stay pending: all after the first few.
-pub record IsRest (pending rest : List ℕ) : Type 0 where
+pub record IsRest (pending rest : Bytes) : Type 0 where
   pub from : ℕ
   pub some : 0 < from
   pub within : from ≤ length pending
   pub is : rest ≡ drop from pending
 
-pub rest-shorter : (pending rest : List ℕ) → IsRest pending rest → length rest < length pending
+pub rest-shorter : (pending rest : Bytes) → IsRest pending rest → length rest < length pending
 rest-shorter pending rest h =
     let long : length rest ≡ length (drop h.from pending) = ap length h.is in
     omega (arith, length-drop h.from pending, h.some, h.within)
 
-pub rest-all : (P : ℕ → Type 0) (pending rest : List ℕ) → IsRest pending rest → All P pending → All P rest
+pub rest-all : (P : ℕ → Type 0) (pending rest : Bytes) → IsRest pending rest → All P pending → All P rest
 rest-all P pending rest h all = subst (All P) (sym h.is) (All-drop P h.from pending all)
 
 -- Bytes after a token or a separator, where a token's n bytes stand before s.
@@ -57,7 +58,7 @@ token_lexeme-behind : (run s : List ℕ) → Each (IsBehind (length run) s) (tok
 token_lexeme-behind [] s = tt
 token_lexeme-behind (b ∷ bs) s = (record { from = 0; some = omega arith; within = omega arith; is = refl }, tt)
 
-separator_lexeme-behind : (n b : ℕ) (bs : List ℕ) → Each (IsBehind n (b ∷ bs)) (separator_lexeme b bs)
+separator_lexeme-behind : (n b : ℕ) (bs : Bytes) → Each (IsBehind n (b ∷ bs)) (separator_lexeme b bs)
 separator_lexeme-behind n b bs =
     elim (is_separator b) as (λ v. Each (IsBehind n (b ∷ bs)) (cond v (record { token = None; after = bs } ∷ []) [])) [
       | true ↦ (record { from = 1; some = omega arith; within = omega arith; is = refl }, tt)
@@ -105,14 +106,14 @@ pub leaves : (P : List ℕ → Type 0) (b : Bool) (s : Sentence) (rest : List �
 leaves P true s rest h = h
 leaves P false s rest h = h
 
-parsed_lexemes-rest : (g : GameLists) (pending : List ℕ) (e n a : ℕ) (ms : List Lexeme) → Each (IsRest pending) ms
+parsed_lexemes-rest : (g : GameLists) (pending : Bytes) (e n a : ℕ) (ms : List Lexeme) → Each (IsRest pending) ms
     → LeavesBytes (IsRest pending) (parsed_lexemes g e n a ms)
 parsed_lexemes-rest g pending e n a [] h = tt
 parsed_lexemes-rest g pending e n a (m ∷ ms) h =
     leaves (IsRest pending) _ _ (bytes_after g (m ∷ ms)) (bytes_after-each (IsRest pending) g (m ∷ ms) (rest-none pending m.after h.0) h)
 
 -- What stays pending is what stands after the first few bytes.
-pub parsed-rest : (g : GameLists) (pending : List ℕ) (earlier noun adjective : ℕ) →
+pub parsed-rest : (g : GameLists) (pending : Bytes) (earlier noun adjective : ℕ) →
     LeavesBytes (IsRest pending) (phrase_parsed g pending earlier noun adjective)
 unfolding phrase_parsed
 parsed-rest g pending e n a = parsed_lexemes-rest g pending e n a (from_phrase g (lexemes pending))
@@ -124,21 +125,21 @@ leaves-map P Q f (IsUnknown rest) h = f rest h
 leaves-map P Q f IsNoPhrase h = tt
 
 -- A phrase that is taken makes what is pending shorter.
-pub parsed-shorter : (g : GameLists) (pending : List ℕ) (earlier noun adjective : ℕ)
+pub parsed-shorter : (g : GameLists) (pending : Bytes) (earlier noun adjective : ℕ)
     → LeavesBytes (λ rest. length rest < length pending) (phrase_parsed g pending earlier noun adjective)
 parsed-shorter g pending e n a =
     leaves-map (IsRest pending) (λ rest. length rest < length pending) (rest-shorter pending) (phrase_parsed g pending e n a) (parsed-rest g pending e n a)
 
 -- The same for a phrase that is known to be a sentence, or unknown.
-pub sentence-rest : (g : GameLists) (pending : List ℕ) (earlier noun adjective : ℕ) (s : Sentence) (rest : List ℕ)
+pub sentence-rest : (g : GameLists) (pending : Bytes) (earlier noun adjective : ℕ) (s : Sentence) (rest : List ℕ)
     → phrase_parsed g pending earlier noun adjective ≡ IsSentence s rest → IsRest pending rest
 sentence-rest g pending e n a s rest is = subst (LeavesBytes (IsRest pending)) is (parsed-rest g pending e n a)
 
-pub unknown-rest : (g : GameLists) (pending : List ℕ) (earlier noun adjective : ℕ) (rest : List ℕ)
+pub unknown-rest : (g : GameLists) (pending : Bytes) (earlier noun adjective : ℕ) (rest : List ℕ)
     → phrase_parsed g pending earlier noun adjective ≡ IsUnknown rest → IsRest pending rest
 unknown-rest g pending e n a rest is = subst (LeavesBytes (IsRest pending)) is (parsed-rest g pending e n a)
 
 -- No bytes have no phrase.
-pub no_phrase : (g : GameLists) (pending : List ℕ) (e n a : ℕ) → pending ≡ [] → phrase_parsed g pending e n a ≡ IsNoPhrase
+pub no_phrase : (g : GameLists) (pending : Bytes) (e n a : ℕ) → pending ≡ [] → phrase_parsed g pending e n a ≡ IsNoPhrase
 unfolding phrase_parsed
 no_phrase g pending e n a is = rw is (ap (λ ms. parsed_lexemes g e n a (from_phrase g ms)) lexemes-empty)

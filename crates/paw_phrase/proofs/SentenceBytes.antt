@@ -5,6 +5,7 @@ use Rattle.std.specs.List.{list_all}
 use Rattle.std.specs.Option.{option_map, option_map_or}
 use Rattle.std.specs.Str.{bytes_eq}
 use Rattle.std.proofs.lemmas.Bool.{and_parts, leb-true}
+use Rattle.paw_base.specs.Bytes.{Bytes, Letters, Tokens}
 use Rattle.paw_base.specs.declared.limits.TheConstants.{WORD_LIMIT}
 use Rattle.paw_base.specs.declared.words.TheConstants.{ADJECTIVE_CLASS, PREPOSITION_CLASS, PRONOUN_CLASS, NO_WORD}
 use Rattle.paw_base.specs.declared.words.TheConstants.{LEAST_WORD, GREATEST_WORD, FIRST_PLAIN_NOUN}
@@ -108,7 +109,7 @@ abbrev HasByte : Option (ℕ × ℕ) → Type 0
 HasByte None = Unit {0}
 HasByte (Some word) = word.0 < 256
 
-word_of-byte : (letters : List ℕ) (ws : List Word) → IsTrue (list_all is_word ws)
+word_of-byte : (letters : Letters) (ws : List Word) → IsTrue (list_all is_word ws)
     → HasByte (option_map (λ (w : Word). (w.value, w.class)) (word_of letters ws))
 word_of-byte letters [] h = tt
 word_of-byte letters (w ∷ ws) h =
@@ -118,7 +119,7 @@ word_of-byte letters (w ∷ ws) h =
       | false ↦ word_of-byte letters ws parts.1
     ]
 
-word_at-byte : (g : GameLists) (letters : List ℕ) → Valid g → HasByte (word_at g letters)
+word_at-byte : (g : GameLists) (letters : Letters) → Valid g → HasByte (word_at g letters)
 word_at-byte g letters valid =
     let few = and_parts (leb (length g.words) WORD_LIMIT) (list_all is_word g.words && words_rise g.words) valid.words in
     word_of-byte letters g.words (and_parts (list_all is_word g.words) (words_rise g.words) few.1).0
@@ -128,13 +129,13 @@ with_known-bytes : (word : Option (ℕ × ℕ)) (s : Sentence) → HasByte word 
 with_known-bytes None s h k = k
 with_known-bytes (Some word) s h k = with_word-bytes word.0 word.1 s h k
 
-with_tokens-bytes : (g : GameLists) (tokens : List (List ℕ)) (s : Sentence) → Valid g → AreBytes s → AreBytes (with_tokens g tokens s)
+with_tokens-bytes : (g : GameLists) (tokens : Tokens) (s : Sentence) → Valid g → AreBytes s → AreBytes (with_tokens g tokens s)
 with_tokens-bytes g [] s valid k = k
 with_tokens-bytes g (token ∷ tokens) s valid k =
     with_tokens-bytes g tokens _ valid (with_known-bytes (word_at g token) s (word_at-byte g token valid) k)
 
 -- A sentence of bytes, where the bytes of the pronoun and the earlier verb are.
-pub sentence-bytes : (g : GameLists) (tokens : List (List ℕ)) (earlier noun adjective : ℕ) → Valid g → earlier < 256 → noun < 256 → adjective < 256
+pub sentence-bytes : (g : GameLists) (tokens : Tokens) (earlier noun adjective : ℕ) → Valid g → earlier < 256 → noun < 256 → adjective < 256
     → AreBytes (sentence_finished earlier (with_tokens g tokens (blank noun adjective)))
 sentence-bytes g tokens e n a valid he hn ha =
     let words = with_tokens g tokens (blank n a) in
@@ -157,7 +158,7 @@ parsed_lexemes-bytes g e n a valid he hn ha (m ∷ ms) =
     gives AreBytes _ (sentence_finished e (with_tokens g tokens (blank n a))) (bytes_after g (m ∷ ms)) (sentence-bytes g tokens e n a valid he hn ha)
 
 -- The sentence that is parsed is one of bytes.
-pub parsed-bytes : (g : GameLists) (pending : List ℕ) (earlier noun adjective : ℕ) (s : Sentence) (rest : List ℕ) → Valid g → earlier < 256
+pub parsed-bytes : (g : GameLists) (pending : Bytes) (earlier noun adjective : ℕ) (s : Sentence) (rest : List ℕ) → Valid g → earlier < 256
     → noun < 256 → adjective < 256 → phrase_parsed g pending earlier noun adjective ≡ IsSentence s rest → AreBytes s
 unfolding phrase_parsed
 parsed-bytes g pending e n a s rest valid he hn ha is =

@@ -3,6 +3,7 @@ use Rattle.std.proofs.Common.{◌≡◌, ◌⊎◌, ◌<◌, ◌≤◌, ◌+◌,
 use Rattle.std.proofs.Common.{refl, sym, subst, inl, inr}
 use Rattle.std.proofs.Common.{arith, length-append}
 use Rattle.std.specs.Char.{to_ascii_uppercase, is_ascii_alphanumeric}
+use Rattle.paw_base.specs.Bytes.{Bytes}
 use Rattle.paw_game.specs.Game.{GameLists}
 use Rattle.paw_phrase.specs.Phrase.{is_separator, Lexeme, token_lexeme, separator_lexeme, lexemes_from, lexemes}
 use Rattle.paw_phrase.specs.Phrase.{is_parting}
@@ -26,7 +27,7 @@ token_lexeme-fall : (run s : List ℕ) (ms ns : List Lexeme) → Fall (length s)
 token_lexeme-fall [] s ms ns h = Fall_up _ _ (ms ++ ns) (omega arith) h
 token_lexeme-fall (b ∷ bs) s ms ns h = (omega arith, h)
 
-separator_lexeme-fall : (b : ℕ) (bs : List ℕ) (ms : List Lexeme) → Fall (length bs) ms → Fall (length (b ∷ bs)) (separator_lexeme b bs ++ ms)
+separator_lexeme-fall : (b : ℕ) (bs : Bytes) (ms : List Lexeme) → Fall (length bs) ms → Fall (length (b ∷ bs)) (separator_lexeme b bs ++ ms)
 separator_lexeme-fall b bs ms h =
     elim (is_separator b) as (λ v. Fall (length (b ∷ bs)) (cond v (record { token = None; after = bs } ∷ []) [] ++ ms)) [
       | true ↦ (omega arith, h)
@@ -56,12 +57,12 @@ bytes_after-fall g n (m ∷ ms) h =
       | false ↦ bytes_after-fall g n ms (Fall_up _ _ ms (omega (arith, h.0)) h.1)
     ]
 
-two_less : (pending rest : List ℕ) (n : ℕ) → n < length pending → (rest ≡ []) ⊎ (length rest < n) → IsTwoLess pending rest
+two_less : (pending rest : Bytes) (n : ℕ) → n < length pending → (rest ≡ []) ⊎ (length rest < n) → IsTwoLess pending rest
 two_less pending rest n less (inl none) = inl none
 two_less pending rest n less (inr fewer) = inr (omega (arith, less, fewer))
 
 -- The phrase begins at this lexeme, or after it where the lexeme separates phrases.
-at_lexeme : (g : GameLists) (pending : List ℕ) (e n a : ℕ) (m : Lexeme) (ms : List Lexeme) (v : Bool) → is_parting g m.token ≡ v
+at_lexeme : (g : GameLists) (pending : Bytes) (e n a : ℕ) (m : Lexeme) (ms : List Lexeme) (v : Bool) → is_parting g m.token ≡ v
     → Fall (length pending) (m ∷ ms) → LeavesBytes (IsTwoLess pending) (parsed_lexemes g e n a (from_phrase g ms))
     → LeavesBytes (IsTwoLess pending) (parsed_lexemes g e n a (cond v (from_phrase g ms) (m ∷ ms)))
 at_lexeme g pending e n a m ms true is h behind = behind
@@ -70,7 +71,7 @@ at_lexeme g pending e n a m ms false is h behind =
     (subst (λ v. IsTwoLess pending (cond v m.after (bytes_after g ms))) (sym is)
     (two_less pending (bytes_after g ms) (length m.after) h.0 (bytes_after-fall g (length m.after) ms h.1)))
 
-parsed_lexemes-fall : (g : GameLists) (pending : List ℕ) (e n a : ℕ) (ms : List Lexeme) → Fall (length pending) ms
+parsed_lexemes-fall : (g : GameLists) (pending : Bytes) (e n a : ℕ) (ms : List Lexeme) → Fall (length pending) ms
     → LeavesBytes (IsTwoLess pending) (parsed_lexemes g e n a (from_phrase g ms))
 parsed_lexemes-fall g pending e n a [] h = tt
 parsed_lexemes-fall g pending e n a (m ∷ ms) h =

@@ -5,6 +5,7 @@ use Rattle.std.specs.Prelude.{OnOk}
 use Rattle.std.specs.List.{flat_map}
 use Rattle.std.proofs.lemmas.Grind.{flat_map-append}
 use Rattle.std.proofs.lemmas.List.{append_assoc, append-nil, take_more, map-append, length-take-le}
+use Rattle.paw_base.specs.Bytes.{Lines}
 use Rattle.paw_print.specs.Canonical.{numbered_lines, with_line_end, with_line_ends}
 
 -- More lines.
@@ -32,9 +33,9 @@ pub map_more : {A : Type 0} (f : A → List ℕ) (before : List (List ℕ)) (xs 
     → b ≡ a ++ with_line_ends (before ++ map f (take i xs)) → c ≡ b ++ with_line_end (f x) → c ≡ a ++ with_line_ends (before ++ map f (take (i + 1) xs))
 map_more {A} f before xs i x a b c h is first second =
     written_more a b c (with_line_end (f x)) (before ++ map f (take i xs)) (f x ∷ []) first second (sym (append-nil (with_line_end (f x))))
-    ∙ ap (λ (ls : List (List ℕ)). a ++ with_line_ends ls)
+    ∙ ap (λ (ls : Lines). a ++ with_line_ends ls)
     (append_assoc before (map f (take i xs)) (f x ∷ [])
-    ∙ ap (λ (ls : List (List ℕ)). before ++ ls) (sym (map-append f (take i xs) (x ∷ [])))
+    ∙ ap (λ (ls : Lines). before ++ ls) (sym (map-append f (take i xs) (x ∷ [])))
     ∙ ap (λ (ys : List A). before ++ map f ys) (take_next xs i x h is))
 
 -- Lines for each row.
@@ -43,10 +44,10 @@ pub rows_more : {A : Type 0} (g : A → List (List ℕ)) (before : List (List �
     c ≡ a ++ with_line_ends (before ++ flat_map g (take (i + 1) xs))
 rows_more {A} g before xs i x a b c h is first second =
     written_more a b c (with_line_ends (g x)) (before ++ flat_map g (take i xs)) (g x) first second refl
-    ∙ ap (λ (ls : List (List ℕ)). a ++ with_line_ends ls)
+    ∙ ap (λ (ls : Lines). a ++ with_line_ends ls)
     (append_assoc before (flat_map g (take i xs)) (g x)
-    ∙ ap (λ (ls : List (List ℕ)). before ++ (flat_map g (take i xs) ++ ls)) (sym (append-nil (g x)))
-    ∙ ap (λ (ls : List (List ℕ)). before ++ ls) (sym (flat_map-append g (take i xs) (x ∷ [])))
+    ∙ ap (λ (ls : Lines). before ++ (flat_map g (take i xs) ++ ls)) (sym (append-nil (g x)))
+    ∙ ap (λ (ls : Lines). before ++ ls) (sym (flat_map-append g (take i xs) (x ∷ [])))
     ∙ ap (λ (ys : List A). before ++ flat_map g ys) (take_next xs i x h is))
 
 pub numbered-push : {A : Type 0} (g : ℕ → A → List (List ℕ)) (n : ℕ) (xs : List A) (x : A)
@@ -56,7 +57,7 @@ numbered-push g n [] x =
     append-nil (g n x) ∙ ap (λ k. g k x) (sym e)
 numbered-push g n (y ∷ ys) x =
     let e : suc n + length ys ≡ n + suc (length ys) = omega arith in
-    ap (λ (ls : List (List ℕ)). g n y ++ ls) (numbered-push g (suc n) ys x)
+    ap (λ (ls : Lines). g n y ++ ls) (numbered-push g (suc n) ys x)
     ∙ sym (append_assoc (g n y) (numbered_lines g (suc n) ys) (g (suc n + length ys) x))
     ∙ ap (λ k. (g n y ++ numbered_lines g (suc n) ys) ++ g k x) e
 
@@ -73,13 +74,13 @@ pub numbered_more : {A : Type 0} (g : ℕ → A → List (List ℕ)) (before : L
     c ≡ a ++ with_line_ends (before ++ numbered_lines g 0 (take (i + 1) xs))
 numbered_more {A} g before xs i x a b c h is first second =
     written_more a b c (with_line_ends (g i x)) (before ++ numbered_lines g 0 (take i xs)) (g i x) first second refl
-    ∙ ap (λ (ls : List (List ℕ)). a ++ with_line_ends ls)
+    ∙ ap (λ (ls : Lines). a ++ with_line_ends ls)
     (append_assoc before (numbered_lines g 0 (take i xs)) (g i x)
-    ∙ ap (λ (ls : List (List ℕ)). before ++ ls) (sym (numbered-take g xs i x h))
+    ∙ ap (λ (ls : Lines). before ++ ls) (sym (numbered-take g xs i x h))
     ∙ ap (λ (ys : List A). before ++ numbered_lines g 0 ys) (take_next xs i x h is))
 
 -- Rows of which a part is printed.
 pub numbered-map : {A B : Type 0} (g : ℕ → B → List (List ℕ)) (part : A → B) (n : ℕ) (xs : List A)
     → numbered_lines g n (map part xs) ≡ numbered_lines (λ k x. g k (part x)) n xs
 numbered-map g part n [] = refl
-numbered-map g part n (x ∷ xs) = ap (λ (ls : List (List ℕ)). g n (part x) ++ ls) (numbered-map g part (suc n) xs)
+numbered-map g part n (x ∷ xs) = ap (λ (ls : Lines). g n (part x) ++ ls) (numbered-map g part (suc n) xs)

@@ -3,10 +3,11 @@ use Rattle.std.proofs.Common.{◌≡◌, ℕ, ◌<◌, true, false, eqb, cond, L
 use Rattle.std.specs.List.{slice_split, onto_first}
 use Rattle.std.proofs.lemmas.Bool.{eqb-true}
 use Rattle.std.proofs.lemmas.List.Splits.{length-slice_split}
+use Rattle.paw_base.specs.Bytes.{Lines, Text}
 use Rattle.paw_print.specs.Lines.{lines_of_text}
 use Rattle.paw_print.specs.Canonical.{with_line_end, with_line_ends}
 
-written-onto_first : (b : ℕ) (ls : List (List ℕ)) → 0 < length ls → with_line_ends (onto_first b ls) ≡ b ∷ with_line_ends ls
+written-onto_first : (b : ℕ) (ls : Lines) → 0 < length ls → with_line_ends (onto_first b ls) ≡ b ∷ with_line_ends ls
 written-onto_first b [] h = absurd (omega arith)
 written-onto_first b (l ∷ ls) h = refl
 
@@ -22,6 +23,6 @@ written-slice_split (b ∷ bs) =
           ∙ ap (λ (t : List ℕ). b ∷ t) (written-slice_split bs)
     ] refl
 
-pub written-lines_of_text : (text : List ℕ) → eqb (length text) 0 ≡ false → with_line_ends (lines_of_text text) ≡ with_line_end text
+pub written-lines_of_text : (text : Text) → eqb (length text) 0 ≡ false → with_line_ends (lines_of_text text) ≡ with_line_end text
 written-lines_of_text [] h = absurd cc
 written-lines_of_text (b ∷ bs) h = written-slice_split (b ∷ bs)

@@ -7,6 +7,7 @@ use Rattle.std.specs.Fn.{Shared}
 use Rattle.std.proofs.lemmas.List.FromFn.{length-map-range_with_len, get_or-map-range_with_len}
 use Rattle.std.proofs.lemmas.Option.{none-some, same_Some, get_or_from_slice_get, slice_get-get_or, slice_get_within}
 use Rattle.std.proofs.Math.ListN.{get_or}
+use Rattle.paw_base.specs.Bytes.{RoutineAnswers}
 use Rattle.paw_routines.specs.Answers.{StandFor, value_in, value_at}
 
 -- The values of a function from 0 to 255.
@@ -56,7 +57,7 @@ stand_for {F} calls f g count small callable gives = record {
   agree = λ n x y below low byte called. value_at-answers_of g count n x below low ∙ ap (λ (z : ℕ). Some z) (sym (gives n x y below low byte called));
 }
 
-in_answers : (answers : List (List ℕ)) (n : ℕ) (found : Option (List ℕ)) → slice_get answers n ≡ found
+in_answers : (answers : RoutineAnswers) (n : ℕ) (found : Option (List ℕ)) → slice_get answers n ≡ found
     → All (λ own. length own ≡ 256) answers → All (λ own. All (λ y. y < 256) own) answers
     → (x y : ℕ) → x < 256 → value_in found x ≡ Some y → y < 256
 in_answers answers n None e whole bytes x y small at = absurd (none-some y at)
@@ -68,7 +69,7 @@ in_answers answers n (Some own) e whole bytes x y small at =
     subst (λ z. z < 256) (same_Some _ y at) (all x 0 (omega (arith, size, small)))
 
 -- Each of the answers is a byte.
-pub value-byte : {F : Type 0} (calls : Shared F (ℕ × (ℕ × Unit {0})) ℕ) (f : F) (count : ℕ) (answers : List (List ℕ)) → StandFor calls f count answers
+pub value-byte : {F : Type 0} (calls : Shared F (ℕ × (ℕ × Unit {0})) ℕ) (f : F) (count : ℕ) (answers : RoutineAnswers) → StandFor calls f count answers
     → (n x y : ℕ) → x < 256 → value_at answers n x ≡ Some y → y < 256
 value-byte calls f count answers stand n x y small at =
     in_answers answers n (slice_get answers n) refl stand.whole stand.bytes x y small at

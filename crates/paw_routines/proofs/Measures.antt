@@ -8,6 +8,7 @@ use Rattle.std.proofs.lemmas.Grind.{get_or-set_at, same_number_lists}
 use Rattle.std.proofs.lemmas.List.{append-nil, get_or-set_other, take_more}
 use Rattle.std.proofs.lemmas.List.Folds.{concat-append}
 use Rattle.std.proofs.lemmas.Option.{same_Some, get_or_from_slice_get, slice_get-get_or, slice_get_within}
+use Rattle.paw_base.specs.Bytes.{RoutineAnswers}
 use Rattle.paw_routines.specs.Answers.{StandFor, value_in, value_at}
 
 -- The first values of a list, up to this number, are the first answers of routine n.
@@ -15,7 +16,7 @@ abbrev pub AreValues : List (List ℕ) → ℕ → ℕ → List ℕ → Type 0
 AreValues answers n count own = (x : ℕ) → x < count → value_at answers n x ≡ Some (get_or own x 0)
 
 -- With the next value put in its place there is one more.
-values_more : (answers : List (List ℕ)) (n x : ℕ) (own : List ℕ) (y : ℕ) → AreValues answers n x own → x < length own → value_at answers n x ≡ Some y
+values_more : (answers : RoutineAnswers) (n x : ℕ) (own : List ℕ) (y : ℕ) → AreValues answers n x own → x < length own → value_at answers n x ≡ Some y
     → AreValues answers n (x + 1) (set own x y)
 values_more answers n x own y values fits at = λ k low. elim (cases_eq k x) [
   | inl same ↦ ap (value_at answers n) same ∙ at ∙ ap (λ (z : ℕ). Some z) (sym (get_or-set_at own x k y 0 same fits))
@@ -23,14 +24,14 @@ values_more answers n x own y values fits at = λ k low. elim (cases_eq k x) [
 ]
 
 -- With the next answer put in its place there is one more.
-pub answer_more : {F : Type 0} (calls : Shared F (ℕ × (ℕ × Unit {0})) ℕ) (f : F) (count : ℕ) (answers : List (List ℕ)) → StandFor calls f count answers
+pub answer_more : {F : Type 0} (calls : Shared F (ℕ × (ℕ × Unit {0})) ℕ) (f : F) (count : ℕ) (answers : RoutineAnswers) → StandFor calls f count answers
     → (n x : ℕ) (own : List ℕ) (y : ℕ) → n < count → x < 256 → y < 256 → length own ≡ 256 → calls.post f (n, (x, tt)) y
     → AreValues answers n x own → AreValues answers n (x + 1) (set own x y)
 answer_more calls f count answers stand n x own y below small byte size called values =
     values_more answers n x own y values (omega (arith, small, size)) (stand.agree n x y below small byte called)
 
 -- A list with all the answers of routine n is the list of these.
-pub all_answers : {F : Type 0} (calls : Shared F (ℕ × (ℕ × Unit {0})) ℕ) (f : F) (count : ℕ) (answers : List (List ℕ)) → StandFor calls f count answers
+pub all_answers : {F : Type 0} (calls : Shared F (ℕ × (ℕ × Unit {0})) ℕ) (f : F) (count : ℕ) (answers : RoutineAnswers) → StandFor calls f count answers
     → (n : ℕ) (own : List ℕ) → n < count → length own ≡ 256 → AreValues answers n 256 own → slice_get answers n ≡ Some own
 all_answers calls f count answers stand n own below size values =
     let r = get_or answers n own in
@@ -42,7 +43,7 @@ all_answers calls f count answers stand n own below size values =
     found ∙ ap (λ (l : List ℕ). Some l) (same_number_lists r own (long ∙ sym size) each)
 
 -- The answers of the first routines and of the next one, in order.
-pub concat-more : (answers : List (List ℕ)) (n : ℕ) (own : List ℕ) → slice_get answers n ≡ Some own →
+pub concat-more : (answers : RoutineAnswers) (n : ℕ) (own : List ℕ) → slice_get answers n ≡ Some own →
     concat (take (n + 1) answers) ≡ concat (take n answers) ++ own
 concat-more answers n own at =
     ap concat (take_more answers n own (slice_get_within answers n own at) ∙ ap (λ r. take n answers ++ r ∷ []) (get_or_from_slice_get answers n own own at))

@@ -1,7 +1,8 @@
 -- The answers of the routines of the programs.
-use Rattle.std.proofs.Common.{◌≡◌, ℕ, ◌<◌, ◌-◌, ◌/◌, ◌==◌, List, Bool, true, false, count_ones, if◌then◌else◌, arith}
+use Rattle.std.proofs.Common.{◌≡◌, ℕ, ◌<◌, ◌-◌, ◌/◌, ◌==◌, Bool, true, false, count_ones, if◌then◌else◌, arith}
 use Rattle.std.specs.Fn.{Shared}
 use Rattle.std.proofs.lemmas.Nat.{ones_le_self}
+use Rattle.paw_base.specs.Bytes.{RoutineAnswers}
 use Rattle.paw_routines.specs.Answers.{StandFor}
 use Rattle.paw_routines.proofs.FunctionAnswers.{answers_of, stand_for}
 use Rattle.paw_routines.specs.Program.{program_routine}
@@ -15,6 +16,6 @@ small_in false false x small = omega (arith, ones_le_self x)
 pub given_stand : {F : Type 0} {count : ℕ} (calls : Shared F (ℕ × (ℕ × Unit {0})) ℕ) (f : F)
     → ((n x : ℕ) → n < count → x < 256 → calls.pre f (n, (x, tt)))
     → ((n x y : ℕ) → n < count → x < 256 → y < 256 → calls.post f (n, (x, tt)) y → y ≡ program_routine n x)
-    → (X : List (List ℕ)) × StandFor calls f count X
+    → (X : RoutineAnswers) × StandFor calls f count X
 given_stand {F} {count} calls f callable gives =
     (answers_of program_routine count, stand_for calls f program_routine count (λ n x below small. small_in (n == 0) (n == 1) x small) callable gives)

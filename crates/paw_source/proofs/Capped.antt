@@ -5,6 +5,7 @@ use Rattle.std.proofs.Common.{Some, None, Result, Ok, Err, refl, sym, ap, ◌∙
 use Rattle.std.specs.Prelude.{nat_lt}
 use Rattle.std.proofs.lemmas.Bool.{ltb-true}
 use Rattle.std.proofs.lemmas.Bool.Decides.{nat_tests}
+use Rattle.paw_base.specs.Bytes.{Name, Tokens}
 use Rattle.paw_base.specs.declared.limits.TheConstants.{LOCATION_LIMIT}
 use Rattle.paw_base.specs.declared.fault.SourceKind.{SourceKind}
 use Rattle.paw_base.specs.declared.fault.SourceKind.TheVariants as kind
@@ -29,7 +30,7 @@ and_false false = refl
 same_number : (n k : ℕ) → k ≤ 256 → eqb (min n 4294967295) k ≡ eqb n k
 same_number n k h = grind (arith, nat_tests, h)
 
-text_capped : (limit n : ℕ) (ts : List (List ℕ)) → length ts ≤ 256 → text_item limit (min n 4294967295) ts ≡ text_item limit n ts
+text_capped : (limit n : ℕ) (ts : Tokens) → length ts ≤ 256 → text_item limit (min n 4294967295) ts ≡ text_item limit n ts
 text_capped limit n ts h =
     ap (λ (b : Bool).
     cond (not b) (Err kind.Range) (cond (not (ltb (length ts) limit)) (Err kind.TooBig) (Ok (ts ++ [] ∷ []))))
@@ -74,7 +75,7 @@ item_capped section.Con d n small = exits_capped d n small.locations
 item_capped section.Obj d n small = refl
 item_capped section.Pro d n small = refl
 
-pub slash_capped : (d : Spelt) (name : List ℕ) (o : Option ℕ) (ts : List (List ℕ)) → IsShortDraft d → slash_line d name (capped_value o) ts
+pub slash_capped : (d : Spelt) (name : Name) (o : Option ℕ) (ts : Tokens) → IsShortDraft d → slash_line d name (capped_value o) ts
     ≡ slash_line d name o ts
 slash_capped d name None ts small = refl
 slash_capped d name (Some n) [] small = item_capped d.section d n small

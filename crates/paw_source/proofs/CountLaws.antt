@@ -12,6 +12,7 @@ use Rattle.std.proofs.lemmas.Bool.{eqb-true, lt-ltb}
 use Rattle.std.proofs.lemmas.Bool.Decides.{nat_tests}
 use Rattle.std.proofs.lemmas.List.{length-append, length-set}
 use Rattle.std.proofs.lemmas.List.Sums.{sum_by-cons}
+use Rattle.paw_base.specs.Bytes.{Tokens}
 use Rattle.paw_base.specs.declared.fault.SourceKind.TheVariants as kind
 use Rattle.paw_lex.specs.Bytes.{is_comment, has_forbidden_byte}
 use Rattle.paw_lex.specs.Tokens.{tokens_of}
@@ -37,7 +38,7 @@ use Rattle.paw_source.proofs.Headers.{table_opened}
 abbrev tables : Spelt → ℕ
 tables d = length d.tables
 
-texts_same : (s : Section) (begun : Bool) (ts : List (List ℕ)) (d : Spelt) → tables (with_texts s begun ts d) ≡ tables d
+texts_same : (s : Section) (begun : Bool) (ts : Tokens) (d : Spelt) → tables (with_texts s begun ts d) ≡ tables d
 texts_same section.Before begun ts d = refl
 texts_same section.Voc begun ts d = refl
 texts_same section.Stx begun ts d = refl
@@ -100,16 +101,16 @@ number_not_pro (b ∷ []) n h = absurd cc
 number_not_pro (b ∷ c ∷ cs) n h =
     rw (digit_no_letter c (is_first_digit c n cs h)) (elim (eqb (to_ascii_lowercase b) 47) as (λ v. (v && false) ≡ false) [ true ↦ refl | false ↦ refl ])
 
-plain_same : (s : Section) (d e : Spelt) (ts : List (List ℕ)) → plain_header s d ts ≡ Ok e → tables e ≡ tables d
+plain_same : (s : Section) (d e : Spelt) (ts : Tokens) → plain_header s d ts ≡ Ok e → tables e ≡ tables d
 plain_same s d e ts h = ap tables (sym (ok_is (section_opened s d) e (at_end ts (Ok (section_opened s d)) e h)))
 
-con_same : (d e : Spelt) (ts : List (List ℕ)) → con_header d ts ≡ Ok e → tables e ≡ tables d
+con_same : (d e : Spelt) (ts : Tokens) → con_header d ts ≡ Ok e → tables e ≡ tables d
 con_same d e ts h =
     let a = at_end ts (cond (eqb (length d.locations) 0) (Err kind.Missing) (Ok (section_opened section.Con d))) e h in
     let b = passes (eqb (length d.locations) 0) kind.Missing (Ok (section_opened section.Con d)) e a in
     ap tables (sym (ok_is (section_opened section.Con d) e b.1))
 
-pro_more : (d e : Spelt) (ts : List (List ℕ)) → pro_header d ts ≡ Ok e → tables e ≡ tables d + 1
+pro_more : (d e : Spelt) (ts : Tokens) → pro_header d ts ≡ Ok e → tables e ≡ tables d + 1
 pro_more d e ts h = ap tables (sym (table_opened d e ts h).is) ∙ length-append d.tables ([] ∷ [])
 
 -- The first of these tokens is the header of a table.
@@ -124,7 +125,7 @@ no_more : (d e : Spelt) (b : Bool) → b ≡ false → tables e ≡ tables d →
 no_more d e true h same = absurd cc
 no_more d e false h same = omega (arith, same)
 
-header_counts : (s : Section) (d e : Spelt) (t : List ℕ) (ts : List (List ℕ))
+header_counts : (s : Section) (d e : Spelt) (t : List ℕ) (ts : Tokens)
     → is_named t (next_header s).0 ≡ true → header_of (next_header s).1 d ts ≡ Ok e
     → tables e ≡ tables d + begun (t ∷ ts)
 header_counts section.Before d e t ts f h = no_more d e (is_named t (codes "/PRO")) (not_pro t (codes "/VOC") f refl) (plain_same section.Voc d e ts h)
@@ -137,7 +138,7 @@ header_counts section.Con d e t ts f h = no_more d e (is_named t (codes "/PRO"))
 header_counts section.Obj d e t ts f h = rw f (pro_more d e ts h)
 header_counts section.Pro d e t ts f h = rw f (pro_more d e ts h)
 
-slash_counts : (d e : Spelt) (t : List ℕ) (o : Option ℕ) (ts : List (List ℕ)) → number (drop 1 t) ≡ o
+slash_counts : (d e : Spelt) (t : List ℕ) (o : Option ℕ) (ts : Tokens) → number (drop 1 t) ≡ o
     → slash_line d t o ts ≡ Ok e → tables e ≡ tables d + begun (t ∷ ts)
 slash_counts d e t (Some n) ts o h =
     no_more d e (is_named t (codes "/PRO")) (number_not_pro t n o) (item_same d.section n d e (at_end ts (item_in d.section d n) e h))
@@ -147,7 +148,7 @@ slash_counts d e t None ts o h =
 
 -- ---- rows
 
-con_row_same : (d e : Spelt) (ts : List (List ℕ)) → con_row d ts ≡ Ok e → tables e ≡ tables d
+con_row_same : (d e : Spelt) (ts : Tokens) → con_row d ts ≡ Ok e → tables e ≡ tables d
 con_row_same d e ts h =
     let a = passes (eqb (length d.exits) 0) kind.Section
     (exit_row d.words (length d.locations) (last_or [] d.exits) ts >>= λ xs.
@@ -155,7 +156,7 @@ con_row_same d e ts h =
     let b = bound (exit_row d.words (length d.locations) (last_or [] d.exits) ts) (λ xs. Ok (record d { exits = with_last xs d.exits })) e a.1 in
     ap tables (sym (ok_is (record d { exits = with_last b.0 d.exits }) e b.2))
 
-pro_row_same : (p : ℕ) (d e : Spelt) (more : Bool) (ts : List (List ℕ)) → pro_row p d more ts ≡ Ok e → tables e ≡ tables d
+pro_row_same : (p : ℕ) (d e : Spelt) (more : Bool) (ts : Tokens) → pro_row p d more ts ≡ Ok e → tables e ≡ tables d
 pro_row_same p d e more ts h =
     let b = bound
     (cond more (more_row (bounds_of p d) d.words (last_or [] d.tables) ts)
@@ -163,7 +164,7 @@ pro_row_same p d e more ts h =
     (λ es. Ok (record d { tables = with_last es d.tables })) e h in
     ap tables (sym (ok_is (record d { tables = with_last b.0 d.tables }) e b.2)) ∙ length-set d.tables (length d.tables - 1) b.0
 
-row_same : (p : ℕ) (s : Section) (d e : Spelt) (more : Bool) (ts : List (List ℕ)) → row_in s p d more ts ≡ Ok e → tables e ≡ tables d
+row_same : (p : ℕ) (s : Section) (d e : Spelt) (more : Bool) (ts : Tokens) → row_in s p d more ts ≡ Ok e → tables e ≡ tables d
 row_same p section.Before d e more ts h = absurd cc
 row_same p section.Voc d e more ts h =
     let b = bound (voc_row d.words ts) (λ ws. Ok (record d { words = ws })) e h in
@@ -180,7 +181,7 @@ row_same p section.Pro d e more ts h = pro_row_same p d e more ts h
 
 -- ---- a line
 
-tokens_count : (p : ℕ) (d e : Spelt) (slash blank : Bool) (ts : List (List ℕ))
+tokens_count : (p : ℕ) (d e : Spelt) (slash blank : Bool) (ts : Tokens)
     → tokens_added p d slash blank ts ≡ Ok e → tables e ≡ tables d + cond (slash && is_pro_token ts) 1 0
 tokens_count p d e true blank [] h = let same = ap tables (ok_is d e h) in omega (arith, same)
 tokens_count p d e false blank [] h = let same = ap tables (ok_is d e h) in omega (arith, same)

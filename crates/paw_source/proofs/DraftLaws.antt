@@ -8,6 +8,7 @@ use Rattle.std.proofs.lemmas.Bool.{eqb-false}
 use Rattle.std.proofs.lemmas.Bool.Decides.{nat_tests}
 use Rattle.std.proofs.lemmas.List.{length-append, length-set, length-replicate}
 use Rattle.std.proofs.lemmas.List.Folds.{list_all-append}
+use Rattle.paw_base.specs.Bytes.{Lines, Name, Tokens}
 use Rattle.paw_base.specs.declared.limits.TheConstants.{SYSTEM_LIMIT, MESSAGE_LIMIT, OBJECT_LIMIT, LOCATION_LEAST}
 use Rattle.paw_base.specs.declared.limits.TheConstants.{LOCATION_LIMIT, TABLE_LIMIT}
 use Rattle.paw_base.specs.declared.fault.SourceKind.{SourceKind}
@@ -57,7 +58,7 @@ pub record AreNone (es : List (List Exit)) (fs : List ObjectFacts) (ts : List (L
 abbrev pub NoRows : Spelt → Type 0
 NoRows d = AreNone d.exits d.facts d.tables
 
-pub record BeforeObjects (ls : List (List ℕ)) (fs : List ObjectFacts) (ts : List (List Entry)) : Type 0 where
+pub record BeforeObjects (ls : Lines) (fs : List ObjectFacts) (ts : List (List Entry)) : Type 0 where
   pub facts : fs ≡ []
   pub tables : ts ≡ []
   pub locations : LOCATION_LEAST ≤ length ls
@@ -65,7 +66,7 @@ pub record BeforeObjects (ls : List (List ℕ)) (fs : List ObjectFacts) (ts : Li
 abbrev pub AtExits : Spelt → Type 0
 AtExits d = BeforeObjects d.locations d.facts d.tables
 
-pub record BeforeTables (ls : List (List ℕ)) (ts : List (List Entry)) : Type 0 where
+pub record BeforeTables (ls : Lines) (ts : List (List Entry)) : Type 0 where
   pub tables : ts ≡ []
   pub locations : LOCATION_LEAST ≤ length ls
 
@@ -139,7 +140,7 @@ no_rows p d heads none order =
 
 -- ---- texts
 
-texts_keep : (p : ℕ) (s : Section) (begun : Bool) (ts : List (List ℕ)) (d : Spelt) → d.section ≡ s → Keeps p d
+texts_keep : (p : ℕ) (s : Section) (begun : Bool) (ts : Tokens) (d : Spelt) → d.section ≡ s → Keeps p d
     → TextsKept (text_limit s) ts → Keeps p (with_texts s begun ts d)
 texts_keep p section.Before begun ts d e k new = k
 texts_keep p section.Voc begun ts d e k new = k
@@ -278,11 +279,11 @@ tables_keep p s begun ts d k all few order = record {
 open_keeps : (p : ℕ) (s : Section) (d : Spelt) → Keeps p d → InOrder s (section_opened s d) → Keeps p (section_opened s d)
 open_keeps p s d k order = tables_keep p s false d.tables d k k.tables k.few_tables order
 
-plain_keeps : (p : ℕ) (s : Section) (d e : Spelt) (ts : List (List ℕ)) → Keeps p d → InOrder s (section_opened s d) → plain_header s d ts ≡ Ok e → Keeps p e
+plain_keeps : (p : ℕ) (s : Section) (d e : Spelt) (ts : Tokens) → Keeps p d → InOrder s (section_opened s d) → plain_header s d ts ≡ Ok e → Keeps p e
 plain_keeps p s d e ts k order h =
     subst (Keeps p) (ok_is (section_opened s d) e (at_end ts (Ok (section_opened s d)) e h)) (open_keeps p s d k order)
 
-con_keeps : (p : ℕ) (d e : Spelt) (ts : List (List ℕ)) → Keeps p d → NoRows d → con_header d ts ≡ Ok e → Keeps p e
+con_keeps : (p : ℕ) (d e : Spelt) (ts : Tokens) → Keeps p d → NoRows d → con_header d ts ≡ Ok e → Keeps p e
 con_keeps p d e ts k none h =
     let a = at_end ts (cond (eqb (length d.locations) 0) (Err kind.Missing) (Ok (section_opened section.Con d))) e h in
     let b = passes (eqb (length d.locations) 0) kind.Missing (Ok (section_opened section.Con d)) e a in
@@ -295,7 +296,7 @@ pub record Ready (d : Spelt) : Type 0 where
   pub locations : LOCATION_LEAST ≤ length d.locations
   pub rows : lacks_rows d ≡ false → length d.names ≤ length d.facts
 
-pro_keeps : (p : ℕ) (d e : Spelt) (ts : List (List ℕ)) → Keeps p d → Ready d → pro_header d ts ≡ Ok e → Keeps p e
+pro_keeps : (p : ℕ) (d e : Spelt) (ts : Tokens) → Keeps p d → Ready d → pro_header d ts ≡ Ok e → Keeps p e
 pro_keeps p d e ts k ready h =
     let t = table_opened d e ts h in
     let made = with_table d in
@@ -313,7 +314,7 @@ first_table d at h =
     let enough : ltb (length d.facts) (length d.names) ≡ false = ap (λ (b : Bool). b && ltb (length d.facts) (length d.names)) (sym first) ∙ h in
     grind (arith, nat_tests, enough)
 
-header_of_keeps : (p : ℕ) (s : Section) (d e : Spelt) (ts : List (List ℕ)) → d.section ≡ s → Keeps p d → header_of (next_header s).1 d ts ≡ Ok e → Keeps p e
+header_of_keeps : (p : ℕ) (s : Section) (d e : Spelt) (ts : Tokens) → d.section ≡ s → Keeps p d → header_of (next_header s).1 d ts ≡ Ok e → Keeps p e
 header_of_keeps p section.Before d e ts here k h = plain_keeps p section.Voc d e ts k (at_section section.Before d here k.order) h
 header_of_keeps p section.Voc d e ts here k h = plain_keeps p section.Stx d e ts k (at_section section.Voc d here k.order) h
 header_of_keeps p section.Stx d e ts here k h = plain_keeps p section.Mtx d e ts k (at_section section.Stx d here k.order) h
@@ -330,7 +331,7 @@ header_of_keeps p section.Pro d e ts here k h =
     let at = at_section section.Pro d here k.order in
     pro_keeps p d e ts k (record { locations = at.locations; rows = λ f. at.rows }) h
 
-slash_keeps : (p : ℕ) (d e : Spelt) (name : List ℕ) (o : Option ℕ) (ts : List (List ℕ)) → Keeps p d → slash_line d name o ts ≡ Ok e → Keeps p e
+slash_keeps : (p : ℕ) (d e : Spelt) (name : Name) (o : Option ℕ) (ts : Tokens) → Keeps p d → slash_line d name o ts ≡ Ok e → Keeps p e
 slash_keeps p d e name (Some n) ts k h = item_keeps p d.section n d e refl k (at_end ts (item_in d.section d n) e h)
 slash_keeps p d e name None ts k h =
     let b = holds (is_named name (next_header d.section).0) kind.Section (header_of (next_header d.section).1 d ts) e h in
@@ -338,7 +339,7 @@ slash_keeps p d e name None ts k h =
 
 -- ---- rows
 
-voc_keeps : (p : ℕ) (d e : Spelt) (ts : List (List ℕ)) → d.section ≡ section.Voc → Keeps p d
+voc_keeps : (p : ℕ) (d e : Spelt) (ts : Tokens) → d.section ≡ section.Voc → Keeps p d
     → (voc_row d.words ts >>= λ ws. Ok (record d { words = ws })) ≡ Ok e → Keeps p e
 voc_keeps p d e ts here k h =
     let b = bound (voc_row d.words ts) (λ ws. Ok (record d { words = ws })) e h in
@@ -349,7 +350,7 @@ voc_keeps p d e ts here k h =
     let heads : Heads made = record { words = words; system = h.system; messages = h.messages; names = h.names; locations = h.locations } in
     subst (Keeps p) (ok_is made e b.2) (no_rows p made heads none (from_section section.Voc made here none))
 
-con_row_keeps : (p : ℕ) (d e : Spelt) (ts : List (List ℕ)) → d.section ≡ section.Con → Keeps p d → con_row d ts ≡ Ok e → Keeps p e
+con_row_keeps : (p : ℕ) (d e : Spelt) (ts : Tokens) → d.section ≡ section.Con → Keeps p d → con_row d ts ≡ Ok e → Keeps p e
 con_row_keeps p d e ts here k h =
     let a = passes (eqb (length d.exits) 0) kind.Section
     (exit_row d.words (length d.locations) (last_or [] d.exits) ts >>= λ xs.
@@ -365,7 +366,7 @@ con_row_keeps p d e ts here k h =
     subst (Keeps p) (ok_is made e b.2)
     (exits_keep p d made.exits here k (record { all = all; few = omega (arith, long, few) }))
 
-obj_row_keeps : (p : ℕ) (d e : Spelt) (ts : List (List ℕ)) → d.section ≡ section.Obj → Keeps p d → obj_row d ts ≡ Ok e → Keeps p e
+obj_row_keeps : (p : ℕ) (d e : Spelt) (ts : Tokens) → d.section ≡ section.Obj → Keeps p d → obj_row d ts ≡ Ok e → Keeps p e
 obj_row_keeps p d e ts here k h =
     let b = bound (object_row d.words (length d.locations) (length d.facts) (length d.names) ts) (λ f. Ok (record d { facts = d.facts ++ f ∷ [] })) e h in
     let made : Spelt = record d { facts = d.facts ++ b.0 ∷ [] } in
@@ -386,14 +387,14 @@ obj_row_keeps p d e ts here k h =
     } in
     subst (Keeps p) (ok_is made e b.2) kept
 
-table_row_ok : (p : ℕ) (d : Spelt) (more : Bool) (g : GameLists) (es fs : List Entry) (ts : List (List ℕ))
+table_row_ok : (p : ℕ) (d : Spelt) (more : Bool) (g : GameLists) (es fs : List Entry) (ts : Tokens)
     → Has (bounds_of p d) d.words g → is_table g es ≡ true
     → cond more (more_row (bounds_of p d) d.words es ts) (entry_row (bounds_of p d) d.words es ts) ≡ Ok fs
     → is_table g fs ≡ true
 table_row_ok p d true g es fs ts has kept h = more_row_ok (bounds_of p d) d.words g es fs ts has kept h
 table_row_ok p d false g es fs ts has kept h = entry_row_ok (bounds_of p d) d.words g es fs ts has kept h
 
-pro_row_keeps : (p : ℕ) (d e : Spelt) (more : Bool) (ts : List (List ℕ)) → d.section ≡ section.Pro → Keeps p d → pro_row p d more ts ≡ Ok e → Keeps p e
+pro_row_keeps : (p : ℕ) (d e : Spelt) (more : Bool) (ts : Tokens) → d.section ≡ section.Pro → Keeps p d → pro_row p d more ts ≡ Ok e → Keeps p e
 pro_row_keeps p d e more ts here k h =
     let b = bound
     (cond more (more_row (bounds_of p d) d.words (last_or [] d.tables) ts)
@@ -413,7 +414,7 @@ pro_row_keeps p d e more ts here k h =
     (tables_keep p d.section d.begun made.tables d k kept (omega (arith, long, few))
     (from_section section.Pro made here at))
 
-row_keeps : (p : ℕ) (s : Section) (d e : Spelt) (more : Bool) (ts : List (List ℕ)) → d.section ≡ s → Keeps p d → row_in s p d more ts ≡ Ok e → Keeps p e
+row_keeps : (p : ℕ) (s : Section) (d e : Spelt) (more : Bool) (ts : Tokens) → d.section ≡ s → Keeps p d → row_in s p d more ts ≡ Ok e → Keeps p e
 row_keeps p section.Before d e more ts here k h = absurd cc
 row_keeps p section.Voc d e more ts here k h = voc_keeps p d e ts here k h
 row_keeps p section.Stx d e more ts here k h = absurd cc
@@ -426,7 +427,7 @@ row_keeps p section.Pro d e more ts here k h = pro_row_keeps p d e more ts here 
 
 -- ---- a line
 
-tokens_keep : (p : ℕ) (d e : Spelt) (slash blank : Bool) (ts : List (List ℕ)) → Keeps p d → tokens_added p d slash blank ts ≡ Ok e → Keeps p e
+tokens_keep : (p : ℕ) (d e : Spelt) (slash blank : Bool) (ts : Tokens) → Keeps p d → tokens_added p d slash blank ts ≡ Ok e → Keeps p e
 tokens_keep p d e slash blank [] k h = subst (Keeps p) (ok_is d e h) k
 tokens_keep p d e true blank (t ∷ ts) k h = slash_keeps p d e t (number (drop 1 t)) ts k h
 tokens_keep p d e false blank (t ∷ ts) k h = row_keeps p d.section d e blank (t ∷ ts) refl k h

@@ -4,6 +4,7 @@ use Rattle.std.proofs.Common.{Result, Ok, Err, refl, sym, ap, ◌∙◌, arith}
 use Rattle.std.specs.Prelude.{nat_lt}
 use Rattle.std.specs.List.{count_by}
 use Rattle.std.proofs.lemmas.Bool.Decides.{nat_tests}
+use Rattle.paw_base.specs.Bytes.{Bytes, Line, Lines}
 use Rattle.paw_base.specs.declared.limits.TheConstants.{SOURCE_LIMIT, IMAGE_LIMIT, TABLE_LEAST}
 use Rattle.paw_base.specs.declared.fault.SourceKind.{SourceKind}
 use Rattle.paw_base.specs.declared.fault.SourceKind.TheVariants as kind
@@ -15,7 +16,7 @@ use Rattle.paw_grammar.specs.GrammarState.{Spelt, nothing_yet, game_of}
 use Rattle.paw_grammar.specs.Spells.{after_line, begins_table, fault, at_line, whole, spelled_after, game_spelled}
 use Rattle.paw_source.specs.inner.Laws.{after_lines, HasFault, HasNone, NamesTheFirst, IsNamedRightly}
 
-found : (p n : ℕ) (d : Spelt) (before : List (List ℕ)) (line : List ℕ) (behind : List (List ℕ)) (e : Spelt)
+found : (p n : ℕ) (d : Spelt) (before : List (List ℕ)) (line : Line) (behind : List (List ℕ)) (e : Spelt)
     (k : SourceKind) → after_lines p d before ≡ Ok e → after_line p e line ≡ Err k
     → spelled_after p n d (before ++ line ∷ behind) ≡ Err (fault (suc (n + length before)) k)
 unfolding spelled_after after_lines
@@ -34,7 +35,7 @@ found p n d (l ∷ before) line behind e k none here =
     ] none
 
 -- A source that isn't too long is read line by line.
-short : (source : List ℕ) → length source ≤ SOURCE_LIMIT
+short : (source : Bytes) → length source ≤ SOURCE_LIMIT
     → game_spelled source ≡ spelled_after (count_by begins_table (lines_of source)) 0 nothing_yet (lines_of source)
 unfolding game_spelled
 short source h =
@@ -71,7 +72,7 @@ ended n d f h =
           ] g
     ] h
 
-named : (p n : ℕ) (d : Spelt) (ls : List (List ℕ)) (f : SourceFault) → spelled_after p n d ls ≡ Err f → Named p n d ls f
+named : (p n : ℕ) (d : Spelt) (ls : Lines) (f : SourceFault) → spelled_after p n d ls ≡ Err f → Named p n d ls f
 unfolding spelled_after after_lines
 named p n d [] f h =
     let at = ended n d f h in

@@ -6,6 +6,7 @@ use Rattle.std.specs.List.{list_all, count_by}
 use Rattle.std.proofs.lemmas.Bool.{and_parts}
 use Rattle.std.proofs.lemmas.Bool.Decides.{nat_tests}
 use Rattle.std.proofs.lemmas.List.Sums.{sum_by-cons}
+use Rattle.paw_base.specs.Bytes.{Lines, Tokens}
 use Rattle.paw_base.specs.declared.limits.TheConstants.{SOURCE_LIMIT, IMAGE_LIMIT, SYSTEM_LIMIT, MESSAGE_LIMIT}
 use Rattle.paw_base.specs.declared.limits.TheConstants.{OBJECT_LIMIT, LOCATION_LEAST, LOCATION_LIMIT, TABLE_LEAST}
 use Rattle.paw_base.specs.declared.limits.TheConstants.{TABLE_LIMIT}
@@ -30,20 +31,20 @@ use Rattle.paw_source.proofs.DraftLaws.{TextsKept, NoRows, AtTables, InOrder, Ke
 use Rattle.paw_source.proofs.DraftLaws.{step_keeps}
 use Rattle.paw_source.proofs.CountLaws.{step_counts, counts_tables}
 
-texts_valid : (limit : ℕ) (ts : List (List ℕ)) → TextsKept limit ts → rows_are_valid limit is_text ts ≡ true
+texts_valid : (limit : ℕ) (ts : Tokens) → TextsKept limit ts → rows_are_valid limit is_text ts ≡ true
 texts_valid limit ts k =
     let few = k.few in
     both (nat_le (length ts) limit) (list_all is_text ts) (grind (arith, nat_tests, few)) k.all
 
 -- ---- objects
 
-objects_count : (ts : List (List ℕ)) (fs : List ObjectFacts) → length ts ≤ length fs → length (objects_of ts fs) ≡ length ts
+objects_count : (ts : Tokens) (fs : List ObjectFacts) → length ts ≤ length fs → length (objects_of ts fs) ≡ length ts
 unfolding objects_of
 objects_count [] fs h = refl
 objects_count (t ∷ ts) [] h = absurd (omega arith)
 objects_count (t ∷ ts) (f ∷ fs) h = ap suc (objects_count ts fs (omega (arith, h)))
 
-objects_all : (ws : List Word) (locations : ℕ) (ts : List (List ℕ)) (fs : List ObjectFacts)
+objects_all : (ws : List Word) (locations : ℕ) (ts : Tokens) (fs : List ObjectFacts)
     → list_all is_text ts ≡ true → list_all (facts_are_valid ws locations) fs ≡ true
     → list_all (is_object ws locations) (objects_of ts fs) ≡ true
 unfolding objects_of
@@ -117,7 +118,7 @@ whole_valid p n d g k counted h =
     let three : TABLE_LEAST ≤ length d.tables = grind (arith, nat_tests, a.0) in
     subst Valid (ok_is (game_of d) g b.1) (valid_game p d k three counted)
 
-reading_valid : (p n : ℕ) (d : Spelt) (ls : List (List ℕ)) (g : GameLists) → Keeps p d
+reading_valid : (p n : ℕ) (d : Spelt) (ls : Lines) (g : GameLists) → Keeps p d
     → length d.tables + count_by begins_table ls ≡ p → spelled_after p n d ls ≡ Ok g → Valid g
 unfolding spelled_after
 reading_valid p n d [] g k counted h = whole_valid p n d g k (omega (arith, counted)) h
@@ -148,7 +149,7 @@ nothing_keeps p =
       order = none;
     }
 
-after_keeps : (p : ℕ) (d e : Spelt) (ls : List (List ℕ)) → Keeps p d → after_lines p d ls ≡ Ok e → Keeps p e
+after_keeps : (p : ℕ) (d e : Spelt) (ls : Lines) → Keeps p d → after_lines p d ls ≡ Ok e → Keeps p e
 unfolding after_lines
 after_keeps p d e [] k h = subst (Keeps p) (ok_is d e h) k
 after_keeps p d e (l ∷ ls) k h =

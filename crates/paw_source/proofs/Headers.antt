@@ -1,8 +1,9 @@
 -- What the header of a table was, in which no fault was found.
-use Rattle.std.proofs.Common.{◌≡◌, ℕ, ◌<◌, false, cond, not, eqb, List, [], ◌∷◌, ◌++◌, length, Result, Ok, Err, arith}
+use Rattle.std.proofs.Common.{◌≡◌, ◌<◌, false, cond, not, eqb, [], ◌∷◌, ◌++◌, length, Result, Ok, Err, arith}
 use Rattle.std.specs.Prelude.{nat_lt}
 use Rattle.std.proofs.lemmas.Bool.{ltb-true}
 use Rattle.std.proofs.lemmas.Bool.Decides.{nat_tests}
+use Rattle.paw_base.specs.Bytes.{Tokens}
 use Rattle.paw_base.specs.declared.limits.TheConstants.{TABLE_LIMIT}
 use Rattle.paw_base.specs.declared.fault.SourceKind.{SourceKind}
 use Rattle.paw_base.specs.declared.fault.SourceKind.TheVariants as kind
@@ -23,7 +24,7 @@ pub record IsOpened (d e : Spelt) : Type 0 where
   pub rows : lacks_rows d ≡ false
   pub is : with_table d ≡ e
 
-pub table_opened : (d e : Spelt) (ts : List (List ℕ)) → pro_header d ts ≡ Ok e → IsOpened d e
+pub table_opened : (d e : Spelt) (ts : Tokens) → pro_header d ts ≡ Ok e → IsOpened d e
 table_opened d e ts h =
     let made = with_table d in
     let last : Result Spelt SourceKind = cond (lacks_rows d) (Err kind.Missing) (Ok made) in

@@ -10,6 +10,7 @@ use Rattle.std.proofs.lemmas.Bool.Decides.{nat_tests}
 use Rattle.std.proofs.lemmas.List.{length-map, length-append, length-set}
 use Rattle.std.proofs.lemmas.List.Folds.{list_all-append}
 use Rattle.std.proofs.lemmas.Map.Steps.{length-le_from_distinct_below}
+use Rattle.paw_base.specs.Bytes.{Name, Tokens}
 use Rattle.paw_base.specs.declared.fault.SourceKind.TheVariants as fault
 use Rattle.paw_base.specs.declared.parts.Condact.{Condact}
 use Rattle.paw_base.specs.declared.rows.ParamKind.{ParamKind}
@@ -48,7 +49,7 @@ use Rattle.paw_source.proofs.TextLaws.{all_set, all_at, all_pushed, both}
 
 -- ---- words
 
-pub voc_row_ok : (ws vs : List Word) (ts : List (List ℕ)) → words_are_valid ws ≡ true → voc_row ws ts ≡ Ok vs → words_are_valid vs ≡ true
+pub voc_row_ok : (ws vs : List Word) (ts : Tokens) → words_are_valid ws ≡ true → voc_row ws ts ≡ Ok vs → words_are_valid vs ≡ true
 unfolding voc_row
 voc_row_ok ws vs ts kept h =
     bound_then _ (word ts) _ vs h (λ a a_ok h.
@@ -158,7 +159,7 @@ exits_few ws locations xs words kept =
     let long = length-map xs (λ (x : Exit). x.verb) in
     both (nat_le (length xs) EXIT_LIMIT) (are_exits ws locations xs) (grind (arith, nat_tests, few, long)) kept
 
-pub exit_row_ok : (ws : List Word) (locations : ℕ) (xs ys : List Exit) (ts : List (List ℕ)) → words_are_valid ws ≡ true
+pub exit_row_ok : (ws : List Word) (locations : ℕ) (xs ys : List Exit) (ts : Tokens) → words_are_valid ws ≡ true
     → exits_are_valid ws locations xs ≡ true → exit_row ws locations xs ts ≡ Ok ys → exits_are_valid ws locations ys ≡ true
 unfolding exit_row
 exit_row_ok ws locations xs ys ts words kept h =
@@ -174,21 +175,21 @@ exit_row_ok ws locations xs ys ts words kept h =
 
 -- ---- objects
 
-place_within : (last : ℕ) (named : List ℕ → Option ℕ) (locations : ℕ) (ts : List (List ℕ)) (x : ℕ × List (List ℕ))
+place_within : (last : ℕ) (named : List ℕ → Option ℕ) (locations : ℕ) (ts : Tokens) (x : ℕ × List (List ℕ))
     → place_up_to last named locations ts ≡ Ok x → (nat_lt x.0 locations || is_within NOT_CREATED_PLACE last x.0) ≡ true
 place_within last named locations ts x h =
     let b = bound (read_by fault.Number (λ t. option_or (number t) (option_map (λ i. NOT_CREATED_PLACE + i) (named t))) ts)
     (in_range (λ n. nat_lt n locations || is_within NOT_CREATED_PLACE last n)) x h in
     in_range_ok (λ n. nat_lt n locations || is_within NOT_CREATED_PLACE last n) b.0 x b.2
 
-first_place_ok : (locations : ℕ) (ts : List (List ℕ)) (x : ℕ × List (List ℕ)) → first_place locations ts ≡ Ok x → is_place locations x.0 ≡ true
+first_place_ok : (locations : ℕ) (ts : Tokens) (x : ℕ × List (List ℕ)) → first_place locations ts ≡ Ok x → is_place locations x.0 ≡ true
 first_place_ok locations ts x h = place_within CARRIED_PLACE (index_among place_names) locations ts x h
 
 pub record ObjectRowKept (ws : List Word) (locations next count : ℕ) (f : ObjectFacts) : Type 0 where
   pub room : next < count
   pub facts : facts_are_valid ws locations f ≡ true
 
-pub object_row_ok : (ws : List Word) (locations next count : ℕ) (ts : List (List ℕ)) (f : ObjectFacts)
+pub object_row_ok : (ws : List Word) (locations next count : ℕ) (ts : Tokens) (f : ObjectFacts)
     → object_row ws locations next count ts ≡ Ok f → ObjectRowKept ws locations next count f
 unfolding object_row
 object_row_ok ws locations next count ts f h =
@@ -223,18 +224,18 @@ pub record Has (bounds : Bounds) (ws : List Word) (g : GameLists) : Type 0 where
   pub locations : length g.locations ≡ bounds.locations
   pub tables : length g.tables ≡ bounds.tables
 
-table_ok : (tables : ℕ) (ts : List (List ℕ)) (x : ℕ × List (List ℕ)) → table tables ts ≡ Ok x → nat_lt x.0 tables ≡ true
+table_ok : (tables : ℕ) (ts : Tokens) (x : ℕ × List (List ℕ)) → table tables ts ≡ Ok x → nat_lt x.0 tables ≡ true
 table_ok tables ts x h =
     let b = bound (number_below tables ts) (λ n. Ok (min n.0 255, n.1)) x h in
     let low = number_ok (λ n. nat_lt n tables) ts b.0 b.1 in
     let made : min b.0.0 255 ≡ x.0 = ap (λ (z : ℕ × List (List ℕ)). z.0) (ok_is (min b.0.0 255, b.0.1) x b.2) in
     rw (← made) (let below = ltb-true b.0.0 tables low in grind (arith, nat_tests, below))
 
-place_ok : (locations : ℕ) (ts : List (List ℕ)) (x : ℕ × List (List ℕ)) → any_place locations ts ≡ Ok x
+place_ok : (locations : ℕ) (ts : Tokens) (x : ℕ × List (List ℕ)) → any_place locations ts ≡ Ok x
     → (nat_lt x.0 locations || is_within NOT_CREATED_PLACE HERE_PLACE x.0) ≡ true
 place_ok locations ts x h = place_within HERE_PLACE (index_among (place_names ++ codes "HERE" ∷ [])) locations ts x h
 
-parameter_ok : (bounds : Bounds) (ws : List Word) (g : GameLists) (k : ParamKind) (ts : List (List ℕ))
+parameter_ok : (bounds : Bounds) (ws : List Word) (g : GameLists) (k : ParamKind) (ts : Tokens)
     (x : ℕ × List (List ℕ)) → Has bounds ws g → parameter bounds ws k ts ≡ Ok x → is_parameter (counts_of g) g.words k x.0 ≡ true
 parameter_ok bounds ws g kind.Absent ts x has h = rw (← ok_is (0, ts) x h) refl
 parameter_ok bounds ws g kind.Location ts x has h = rw has.locations (number_ok (λ n. nat_lt n bounds.locations) ts x h)
@@ -250,12 +251,12 @@ parameter_ok bounds ws g kind.Noun ts x has h = rw has.words (word_or_none_ok ws
 parameter_ok bounds ws g kind.Adjective ts x has h = rw has.words (word_or_none_ok ws ADJECTIVE_CLASS ts x h)
 parameter_ok bounds ws g kind.Preposition ts x has h = rw has.words (word_or_none_ok ws PREPOSITION_CLASS ts x h)
 
-flag_ok : (ts : List (List ℕ)) (x : ℕ × List (List ℕ)) → flag_after_at ts ≡ Ok x → nat_lt x.0 FLAG_COUNT ≡ true
+flag_ok : (ts : Tokens) (x : ℕ × List (List ℕ)) → flag_after_at ts ≡ Ok x → nat_lt x.0 FLAG_COUNT ≡ true
 flag_ok ts x h =
     let b = bound (read_by fault.Number (λ t. number (drop 1 t)) ts) (in_range (λ n. nat_lt n FLAG_COUNT)) x h in
     in_range_ok (λ n. nat_lt n FLAG_COUNT) b.0 x b.2
 
-first_ok : (bounds : Bounds) (ws : List Word) (g : GameLists) (code : ℕ) (indirect : Bool) (ts : List (List ℕ))
+first_ok : (bounds : Bounds) (ws : List Word) (g : GameLists) (code : ℕ) (indirect : Bool) (ts : Tokens)
     (x : ℕ × List (List ℕ)) → Has bounds ws g → (indirect ≡ true → may_be_indirect code ≡ true)
     → first_parameter bounds ws indirect (first_kind code) ts ≡ Ok x
     → is_parameter (counts_of g) g.words (first_kind (code_of indirect code)) x.0 ≡ true
@@ -263,7 +264,7 @@ first_ok bounds ws g code true ts x has may h =
     subst (λ (k : ParamKind). is_parameter (counts_of g) g.words k x.0 ≡ true) (sym (first_kind-indirect code (may refl))) (flag_ok ts x h)
 first_ok bounds ws g code false ts x has may h = parameter_ok bounds ws g (first_kind code) ts x has h
 
-condact_ok : (bounds : Bounds) (ws : List Word) (g : GameLists) (name : List ℕ) (ts : List (List ℕ))
+condact_ok : (bounds : Bounds) (ws : List Word) (g : GameLists) (name : Name) (ts : Tokens)
     (x : Condact × List (List ℕ)) → Has bounds ws g → condact bounds ws name ts ≡ Ok x → is_condact g x.0 ≡ true
 unfolding condact
 condact_ok bounds ws g name ts x has h =
@@ -283,7 +284,7 @@ condact_ok bounds ws g name ts x has h =
     ∙ parameter_ok bounds ws g (second_kind plain) a.1 b has b_ok in
     rw (← same) (and_from (is_code code) _ is (and_from _ _ first second)))))
 
-condacts_ok : (bounds : Bounds) (ws : List Word) (g : GameLists) (skip : ℕ) (ts : List (List ℕ)) (cs : List Condact)
+condacts_ok : (bounds : Bounds) (ws : List Word) (g : GameLists) (skip : ℕ) (ts : Tokens) (cs : List Condact)
     → Has bounds ws g → condacts_in bounds ws skip ts ≡ Ok cs → list_all (is_condact g) cs ≡ true
 unfolding condacts_in
 condacts_ok bounds ws g skip [] cs has h = rw (← ok_is [] cs h) refl
@@ -293,7 +294,7 @@ condacts_ok bounds ws g zero (t ∷ ts) cs has h =
     let c = bound (condacts_in bounds ws (params_of b.0.0.code) ts) (λ ds. Ok (b.0.0 ∷ ds)) cs b.2 in
     rw (← ok_is (b.0.0 ∷ c.0) cs c.2, condact_ok bounds ws g t ts b.0 has b.1) (condacts_ok bounds ws g (params_of b.0.0.code) ts c.0 has c.1)
 
-more_condacts_ok : (bounds : Bounds) (ws : List Word) (g : GameLists) (before : List Condact) (ts : List (List ℕ))
+more_condacts_ok : (bounds : Bounds) (ws : List Word) (g : GameLists) (before : List Condact) (ts : Tokens)
     (cs : List Condact) → Has bounds ws g → list_all (is_condact g) before ≡ true
     → more_condacts bounds ws before ts ≡ Ok cs → (nat_le (length cs) CONDACT_LIMIT ≡ true)
     × (list_all (is_condact g) cs ≡ true)
@@ -309,7 +310,7 @@ more_condacts_ok bounds ws g before ts cs has old h =
 
 -- ---- tables
 
-pub entry_row_ok : (bounds : Bounds) (ws : List Word) (g : GameLists) (es fs : List Entry) (ts : List (List ℕ))
+pub entry_row_ok : (bounds : Bounds) (ws : List Word) (g : GameLists) (es fs : List Entry) (ts : Tokens)
     → Has bounds ws g → is_table g es ≡ true → entry_row bounds ws es ts ≡ Ok fs → is_table g fs ≡ true
 unfolding entry_row
 entry_row_ok bounds ws g es fs ts has kept h =
@@ -355,7 +356,7 @@ its_condacts g e kept =
     (nat_le (length e.condacts) CONDACT_LIMIT && list_all (is_condact g) e.condacts) p.1 in
     (and_parts (nat_le (length e.condacts) CONDACT_LIMIT) (list_all (is_condact g) e.condacts) q.1).1
 
-pub more_row_ok : (bounds : Bounds) (ws : List Word) (g : GameLists) (es fs : List Entry) (ts : List (List ℕ))
+pub more_row_ok : (bounds : Bounds) (ws : List Word) (g : GameLists) (es fs : List Entry) (ts : Tokens)
     → Has bounds ws g → is_table g es ≡ true → more_row bounds ws es ts ≡ Ok fs → is_table g fs ≡ true
 unfolding more_row
 more_row_ok bounds ws g es fs ts has kept h =

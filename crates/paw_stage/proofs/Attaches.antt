@@ -1,16 +1,17 @@
 -- What stands inside an attach, part by part.
-use Rattle.std.proofs.Common.{◌≡◌, ◌⊎◌, ℕ, List, inl, inr, ap, ◌∙◌}
+use Rattle.std.proofs.Common.{◌≡◌, ◌⊎◌, inl, inr, ap, ◌∙◌}
+use Rattle.paw_base.specs.Bytes.{Name}
 use Rattle.paw_stage.specs.Stage.{Standing, Unattached, made_if_missing, with_store_opened}
 use Rattle.paw_stage.specs.Stage.{InAttach}
 
 -- A missing file may be there already, and the store is that before the call or that after it.
-pub record AttachParts (old new : Standing) (name : List ℕ) (m : Standing) : Type 0 where
+pub record AttachParts (old new : Standing) (name : Name) (m : Standing) : Type 0 where
   pub asked : m.asked ≡ old.asked
   pub shown : m.shown ≡ old.shown
   pub files : (m.files ≡ old.files) ⊎ (m.files ≡ made_if_missing name (old.files name) old.files)
   pub store : ((m.attached ≡ old.attached) × (m.disk ≡ old.disk)) ⊎ ((m.attached ≡ new.attached) × (m.disk ≡ new.disk))
 
-at_old : (old new : Standing) (name : List ℕ) (m : Standing) → m ≡ old → AttachParts old new name m
+at_old : (old new : Standing) (name : Name) (m : Standing) → m ≡ old → AttachParts old new name m
 at_old old new name m e = record {
   asked = ap (λ (q : Standing). q.asked) e;
   shown = ap (λ (q : Standing). q.shown) e;
@@ -18,7 +19,7 @@ at_old old new name m e = record {
   store = inl (ap (λ (q : Standing). q.attached) e, ap (λ (q : Standing). q.disk) e);
 }
 
-at_made : (old new : Standing) (name : List ℕ) (m : Standing) →
+at_made : (old new : Standing) (name : Name) (m : Standing) →
     m ≡ record old { files = made_if_missing name (old.files name) old.files } → AttachParts old new name m
 at_made old new name m e = record {
   asked = ap (λ (q : Standing). q.asked) e;
@@ -27,7 +28,7 @@ at_made old new name m e = record {
   store = inl (ap (λ (q : Standing). q.attached) e, ap (λ (q : Standing). q.disk) e);
 }
 
-at_new : (old new : Standing) (name : List ℕ) (m : Standing) → new.asked ≡ old.asked → new.shown ≡ old.shown →
+at_new : (old new : Standing) (name : Name) (m : Standing) → new.asked ≡ old.asked → new.shown ≡ old.shown →
     (new.files ≡ old.files) ⊎ (new.files ≡ made_if_missing name (old.files name) old.files) → m ≡ new →
     AttachParts old new name m
 at_new old new name m asked shown files e = record {
@@ -38,7 +39,7 @@ at_new old new name m asked shown files e = record {
 }
 
 -- Inside an attach that was done.
-pub attach_parts : (old new : Standing) (name : List ℕ) (m : Standing) → new ≡ with_store_opened name old → InAttach old new name m →
+pub attach_parts : (old new : Standing) (name : Name) (m : Standing) → new ≡ with_store_opened name old → InAttach old new name m →
     AttachParts old new name m
 attach_parts old new name m is (inl e) = at_old old new name m e
 attach_parts old new name m is (inr (inl e)) = at_made old new name m e
@@ -47,7 +48,7 @@ attach_parts old new name m is (inr (inr e)) =
     (inr (ap (λ (q : Standing). q.files) is)) e
 
 -- Inside an attach that failed.
-pub unattached_parts : (old new : Standing) (name : List ℕ) (m : Standing) → Unattached old new → InAttach old new name m →
+pub unattached_parts : (old new : Standing) (name : Name) (m : Standing) → Unattached old new → InAttach old new name m →
     AttachParts old new name m
 unattached_parts old new name m is (inl e) = at_old old new name m e
 unattached_parts old new name m is (inr (inl e)) = at_made old new name m e

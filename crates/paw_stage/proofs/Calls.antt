@@ -1,6 +1,7 @@
 -- What each call of the stage in memory does, by its record.
 use Rattle.std.proofs.Common.{◌≡◌, ℕ, ◌+◌, ◌-◌, List, [], ◌∷◌, ◌++◌, length, drop, inl, inr, refl, sym, ap, ◌∙◌, subst, arith}
 use Rattle.std.specs.Prelude.{Some, Bool, true, false}
+use Rattle.paw_base.specs.Bytes.{Bytes, Name}
 use Rattle.paw_stage.specs.Disk.{stable}
 use Rattle.paw_stage.specs.Stage.{Standing, with_store_opened, InAsk, InAttach, InSync}
 use Rattle.paw_stage.specs.Moments.{Passes}
@@ -23,7 +24,7 @@ takes kind.Take = true
 takes _ = false
 
 -- As many lines were asked for after any other call as before it, and at each moment inside it.
-asked_after : (k : CallKind) (name bytes : List ℕ) (s : Standing) → takes k ≡ false → (after_call_of k name bytes s).asked ≡ s.asked
+asked_after : (k : CallKind) (name bytes : Bytes) (s : Standing) → takes k ≡ false → (after_call_of k name bytes s).asked ≡ s.asked
 asked_after kind.Add name bytes s stays = refl
 asked_after kind.Load name bytes s stays = refl
 asked_after kind.Save name bytes s stays = refl
@@ -38,7 +39,7 @@ asked_after kind.Show name bytes s stays = refl
 same_asked : (s m : Standing) → m ≡ s → m.asked ≡ s.asked
 same_asked s m e = ap (λ (q : Standing). q.asked) e
 
-asked_inside : (k : CallKind) (name bytes : List ℕ) (s m : Standing) → takes k ≡ false → MayStand k name bytes s m → m.asked ≡ s.asked
+asked_inside : (k : CallKind) (name bytes : Bytes) (s m : Standing) → takes k ≡ false → MayStand k name bytes s m → m.asked ≡ s.asked
 asked_inside kind.Add name bytes s m stays (inl e) = same_asked s m e
 asked_inside kind.Add name bytes s m stays (inr e) = same_asked (file_replaced name (Some bytes) s) m e
 asked_inside kind.Load name bytes s m stays e = same_asked s m e
@@ -60,7 +61,7 @@ asked_inside kind.Show name bytes s m stays h = ap (λ (q : Standing). q.asked) 
 with_lines : List (List ℕ) → Standing → Standing
 with_lines lines s = record s { lines = lines }
 
-left_inside : (k : CallKind) (name bytes : List ℕ) (l : List (List ℕ)) (s m : Standing) → MayStand k name bytes s m →
+left_inside : (k : CallKind) (name bytes : Bytes) (l : List (List ℕ)) (s m : Standing) → MayStand k name bytes s m →
     MayStand k name bytes (record s { lines = l }) (record m { lines = l })
 unfolding with_lines
 left_inside kind.Add name bytes l s m (inl e) = inl (ap (with_lines l) e)
@@ -149,7 +150,7 @@ passed_take m n l em en more given =
     ])
 
 -- What may stand inside an attach and a sync is what the stage allows there.
-pub in_attach : (old new : Standing) (name : List ℕ) (m : Standing) → new ≡ with_store_opened name old →
+pub in_attach : (old new : Standing) (name : Name) (m : Standing) → new ≡ with_store_opened name old →
     StandsInside old (attached_store name) m → InAttach old new name m
 in_attach old new name m e (inl before) = inl before
 in_attach old new name m e (inr (inl made)) = inr (inl made)

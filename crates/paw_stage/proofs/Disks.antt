@@ -3,6 +3,7 @@ use Rattle.std.proofs.Common.{◌≡◌, ℕ, zero, suc, ◌+◌, ◌-◌, ◌�
 use Rattle.std.proofs.Common.{refl, sym, ap, ◌∙◌, arith, slice_index}
 use Rattle.std.specs.Prelude.{nat_le, nat_lt, ◌&&◌, ◌||◌, ◌==◌, if◌then◌else◌}
 use Rattle.std.proofs.lemmas.Bool.Decides.{nat_tests}
+use Rattle.paw_base.specs.Bytes.{Bytes}
 use Rattle.paw_stage.specs.Disk.{Disk, Range, is_dirty, MayLeave, put_at, disk_written, stable}
 use Rattle.paw_stage.specs.Stage.{Standing, bytes_or_none}
 use Rattle.paw_stage.specs.inner.Done.{DoneCall, standing_after, after_call_of, fresh, after, is_attached}
@@ -16,7 +17,7 @@ pub record IsDisk (d : Disk) : Type 0 where
   pub high : length d.bytes ≤ d.longest
   pub same : (i : ℕ) → i < length d.synced → is_dirty d.dirty i ≡ false → slice_index d.synced i ≡ slice_index d.bytes i
 
-stable_is : (bytes : List ℕ) → IsDisk (stable bytes)
+stable_is : (bytes : Bytes) → IsDisk (stable bytes)
 stable_is bytes = record { low = omega arith; high = omega arith; same = λ i l c. refl }
 
 either_is : (b : Bool) (x y : Disk) → IsDisk x → IsDisk y → IsDisk (if b then x else y)
@@ -34,7 +35,7 @@ or_right false b h = h
 outside : (at n len i : ℕ) → (nat_le at i && nat_lt i (at + n)) ≡ false → i < len → (nat_le (min at len) i && nat_lt i (min at len + n)) ≡ false
 outside at n len i h low = grind (arith, nat_tests)
 
-written_is : (d : Disk) (at : ℕ) (bytes : List ℕ) → IsDisk d → IsDisk (disk_written at (length bytes) bytes d)
+written_is : (d : Disk) (at : ℕ) (bytes : Bytes) → IsDisk d → IsDisk (disk_written at (length bytes) bytes d)
 written_is d at bytes h =
     let n : length (put_at at bytes d.bytes) ≡ max (length d.bytes) (min at (length d.bytes) + length bytes) = length-put at bytes d.bytes in
     record {
@@ -49,7 +50,7 @@ written_is d at bytes h =
           ∙ sym (index-put at bytes d.bytes i ∙ ap (λ b. if b then slice_index bytes (i - min at (length d.bytes)) else slice_index d.bytes i) t);
     }
 
-stepped_is : (k : CallKind) (name bytes : List ℕ) (s : Standing) → IsDisk s.disk → IsDisk (after_call_of k name bytes s).disk
+stepped_is : (k : CallKind) (name bytes : Bytes) (s : Standing) → IsDisk s.disk → IsDisk (after_call_of k name bytes s).disk
 stepped_is kind.Add name bytes s h = either_is (is_attached s.attached name) (stable bytes) s.disk (stable_is bytes) h
 stepped_is kind.Load name bytes s h = h
 stepped_is kind.Save name bytes s h = either_is (is_attached s.attached name) (stable bytes) s.disk (stable_is bytes) h
@@ -69,7 +70,7 @@ pub after_disk : (ds : List DoneCall) → IsDisk (after fresh ds).disk
 after_disk ds = later_disk fresh ds (stable_is [])
 
 -- Once the bytes are synced a crash leaves no more than before.
-pub synced_leaves : (d : Disk) → IsDisk d → (image : List ℕ) → MayLeave (stable d.bytes) image → MayLeave d image
+pub synced_leaves : (d : Disk) → IsDisk d → (image : Bytes) → MayLeave (stable d.bytes) image → MayLeave d image
 synced_leaves d h image l =
     record {
       no_shorter = omega (arith, h.low, l.no_shorter);

@@ -7,6 +7,7 @@ use Rattle.std.specs.Io.KnownBytes.{prepend_known, Consumes, IsAtEnd}
 use Rattle.std.specs.Io.BufRead.{strip_last, first_line, drop_through}
 use Rattle.std.proofs.lemmas.List.{take_all, take-append-le, take-take, length-take, append-nil}
 use Rattle.std.proofs.Math.Seq.{take-append-add}
+use Rattle.paw_base.specs.Bytes.{Bytes}
 use Rattle.paw_base.specs.declared.limits.TheConstants.{LINE_LIMIT}
 use Rattle.paw_stage.specs.inner.Input.{GathersLine, HasLine, longest_line}
 use Rattle.paw_stage.specs.inner.LineParts.{Gathers, HasNoEnd, KeepsPart}
@@ -34,7 +35,7 @@ at_most_or : (m n : ℕ) → (m ≤ n) ⊎ (n < m)
 at_most_or m n = grind arith
 
 -- As many of a part as are among the first 255 bytes.
-part_kept : (bytes : List ℕ) (len n : ℕ) → n ≤ length bytes →
+part_kept : (bytes : Bytes) (len n : ℕ) → n ≤ length bytes →
     take (LINE_LIMIT - len) (take n bytes) ≡ take (min (len + n) LINE_LIMIT - min len LINE_LIMIT) bytes
 part_kept bytes len n low = elim (at_most_or (LINE_LIMIT - len) n) [
   | inl cut ↦
@@ -46,7 +47,7 @@ part_kept bytes len n low = elim (at_most_or (LINE_LIMIT - len) n) [
 ]
 
 -- Nothing was taken yet.
-pub gathers_none : (first : Option (List ℕ)) (into : List ℕ) → Gathers first first into 0 false
+pub gathers_none : (first : Option (List ℕ)) (into : Bytes) → Gathers first first into 0 false
 gathers_none first into =
     record { taken = []; consumed = consumes_none first; count = refl; plain = tt; kept = refl; last = refl }
 
@@ -71,7 +72,7 @@ gathers_part first left now into into' bytes len n returned h k low plain kept =
     }
 
 -- Nothing more was taken.
-pub gathers_on : (first left now : Option (List ℕ)) (into : List ℕ) (len : ℕ) (returned : Bool) →
+pub gathers_on : (first left now : Option (List ℕ)) (into : Bytes) (len : ℕ) (returned : Bool) →
     Gathers first left into len returned → Consumes left now [] → Gathers first now into len returned
 gathers_on first left now into len returned h k =
     record {
@@ -92,11 +93,11 @@ gathers_read first old new before ahead into len returned e k h =
     (subst (λ a. Gathers first (prepend_known a old) into len returned) e h) (consumes_read old new ahead k)
 
 -- A line of known length, which may be too long.
-line_of : (bytes : List ℕ) (left : Option (List ℕ)) (len : ℕ) (into : List ℕ) → HasLine bytes left len into → GathersLine bytes left (Some len) into
+line_of : (bytes : Bytes) (left : Option (List ℕ)) (len : ℕ) (into : Bytes) → HasLine bytes left len into → GathersLine bytes left (Some len) into
 line_of bytes left len into h = (λ low. h, λ high. omega (arith, h.1))
 
 -- More bytes than a line may have, and none is an LF.
-pub gathered_long : (first left now : Option (List ℕ)) (into : List ℕ) (len : ℕ) (returned : Bool) →
+pub gathered_long : (first left now : Option (List ℕ)) (into : Bytes) (len : ℕ) (returned : Bool) →
     Gathers first left into len returned → longest_line + 2 ≤ len → IfSome first (λ bytes. GathersLine bytes now (Some len) into)
 gathered_long None left now into len returned h many = tt
 gathered_long (Some xs) None now into len returned h many = absurd h.consumed
@@ -104,7 +105,7 @@ gathered_long (Some xs) (Some ys) now into len returned h many =
     (λ low. absurd (omega (arith, low, many)), λ high. omega (arith, h.count, ap (λ l. length (first_line l)) h.consumed, first_line-long h.taken ys h.plain))
 
 -- The end of the bytes, with a line that has no end of its own.
-pub gathered_whole : (first left now : Option (List ℕ)) (into : List ℕ) (len : ℕ) (returned : Bool) →
+pub gathered_whole : (first left now : Option (List ℕ)) (into : Bytes) (len : ℕ) (returned : Bool) →
     Gathers first left into len returned → Consumes left now [] → IsAtEnd now → 0 < len →
     IfSome first (λ bytes. GathersLine bytes now (Some len) into)
 gathered_whole None left now into len returned h k end some = tt
@@ -120,7 +121,7 @@ gathered_whole (Some xs) (Some ys) (Some zs) into len returned h k end some =
     )
 
 -- The end of the bytes, of which none was there.
-pub gathered_none : (first left now : Option (List ℕ)) (into : List ℕ) (len : ℕ) (returned : Bool) →
+pub gathered_none : (first left now : Option (List ℕ)) (into : Bytes) (len : ℕ) (returned : Bool) →
     Gathers first left into len returned → Consumes left now [] → IsAtEnd now → len ≡ 0 →
     IfSome first (λ bytes. GathersLine bytes now None into)
 gathered_none None left now into len returned h k end none = tt
@@ -151,7 +152,7 @@ without_return true into taken len count kept =
     (omega (arith, length-take (length taken - 1) taken), cut_last into taken len count kept ∙ ap (λ n. take LINE_LIMIT (take (n - 1) taken)) (sym count))
 
 -- The LF that ends the line.
-pub gathered_end : (first left now : Option (List ℕ)) (into : List ℕ) (len : ℕ) (returned : Bool) →
+pub gathered_end : (first left now : Option (List ℕ)) (into : Bytes) (len : ℕ) (returned : Bool) →
     Gathers first left into len returned → Consumes left now (10 ∷ []) →
     IfSome first (λ bytes. GathersLine bytes now (Some (if returned then len - 1 else len)) into)
 gathered_end None left now into len returned h k = tt

@@ -10,13 +10,14 @@ use Rattle.std.proofs.lemmas.List.{take_more, take_more_set, drop_more, drop-tak
 use Rattle.std.proofs.lemmas.List.{length-take, length-drop, get_or-drop}
 use Rattle.std.proofs.lemmas.List.Sums.{fails_before_first, passes_at_first, position_or_len_is, prefix_len-le-length}
 use Rattle.std.proofs.Math.Seq.{take-add}
+use Rattle.paw_base.specs.Bytes.{Bytes}
 use Rattle.paw_stage.specs.inner.LineParts.{HasNoEnd, KeepsPart, Gathers, line_end}
 use Rattle.paw_stage.proofs.FirstLine.{HasNoEnd-append, HasNoEnd-push}
 use Rattle.paw_stage.proofs.Consumed.{consumes_part}
 use Rattle.paw_stage.proofs.Gathered.{gathers_part}
 
 -- Without the first bytes of a range.
-pub range_taken : (bytes : List ℕ) (from to n : ℕ) → n ≤ length (slice_range bytes from to) →
+pub range_taken : (bytes : Bytes) (from to n : ℕ) → n ≤ length (slice_range bytes from to) →
     slice_range bytes (from + n) to ≡ drop n (slice_range bytes from to)
 range_taken bytes from to n low =
     let rest : ℕ = to - (from + n) in
@@ -25,7 +26,7 @@ range_taken bytes from to n low =
     ∙ (drop-take n rest (drop from bytes) ∙ ap (take rest) (drop-drop n from bytes)))
 
 -- One byte more is copied.
-pub copied_more : (old into bytes : List ℕ) (to at : ℕ) → to + at < length into → at < length bytes →
+pub copied_more : (old into bytes : Bytes) (to at : ℕ) → to + at < length into → at < length bytes →
     take (to + at) into ≡ take to old ++ take at bytes →
     take (to + (at + 1)) (set into (to + at) (get_or bytes at 0)) ≡ take to old ++ take (at + 1) bytes
 copied_more old into bytes to at room low copied =
@@ -37,7 +38,7 @@ copied_more old into bytes to at room low copied =
     ∙ (append_assoc (take to old) (take at bytes) (byte ∷ []) ∙ ap (λ l. take to old ++ l) (sym (take_more bytes at 0 low)))))
 
 -- One byte more that isn't an LF.
-pub plain_more : (bytes : List ℕ) (at : ℕ) → at < length bytes → HasNoEnd (take at bytes) → get_or bytes at 0 ≢ 10 →
+pub plain_more : (bytes : Bytes) (at : ℕ) → at < length bytes → HasNoEnd (take at bytes) → get_or bytes at 0 ≢ 10 →
     HasNoEnd (take (at + 1) bytes)
 plain_more bytes at low plain ne =
     subst HasNoEnd (sym (take_more bytes at 0 low)) (HasNoEnd-push (take at bytes) (get_or bytes at 0) plain ne)
@@ -85,12 +86,12 @@ plain_before xs n e low =
     plain_at n xs low (λ k lt. differs (get_or xs k 0) (fails_before_first (λ byte. byte == 10) xs k 0 (subst (λ m. k < m) e lt)))
 
 -- What stands before the LF in two parts.
-pub plain_both : (bytes : List ℕ) (k m : ℕ) → HasNoEnd (take k bytes) → HasNoEnd (take m (drop k bytes)) → HasNoEnd (take (k + m) bytes)
+pub plain_both : (bytes : Bytes) (k m : ℕ) → HasNoEnd (take k bytes) → HasNoEnd (take m (drop k bytes)) → HasNoEnd (take (k + m) bytes)
 plain_both bytes k m plain more =
     subst HasNoEnd (sym (take-add k m bytes)) (HasNoEnd-append (take k bytes) (take m (drop k bytes)) plain more)
 
 -- The LF at the end of two parts.
-pub end_of_both : (bytes : List ℕ) (k m : ℕ) → m ≡ position_or_len (λ byte. byte == 10) (drop k bytes) → k + m < length bytes →
+pub end_of_both : (bytes : Bytes) (k m : ℕ) → m ≡ position_or_len (λ byte. byte == 10) (drop k bytes) → k + m < length bytes →
     get_or bytes (k + m) 0 ≡ 10
 end_of_both bytes k m e low =
     let within : position_or_len (λ byte. byte == 10) (drop k bytes) < length (drop k bytes) = omega (arith, low, e, length-drop k bytes) in

@@ -6,6 +6,7 @@ use Rattle.std.specs.Prelude.{slice_range}
 use Rattle.std.proofs.Math.Seq.{take-append_seam, drop-append_seam, take-length}
 use Rattle.std.proofs.lemmas.List.{take-append-le, drop-append-le, length-drop, map-append, take_more, drop_more}
 use Rattle.std.proofs.lemmas.List.Sums.{fold-append}
+use Rattle.paw_base.specs.Bytes.{Bytes}
 use Rattle.paw_stage.specs.Stage.{Standing}
 use Rattle.paw_stage.specs.inner.Done.{DoneCall, standing_after, after}
 use Rattle.paw_stage.specs.inner.Log.{done_in, all_done, AreLaid}
@@ -30,7 +31,7 @@ slice_range-seam room bytes extra a b ea eb =
     ∙ (ap (λ k. take k (bytes ++ extra)) n ∙ take-append_seam bytes extra)))
 
 -- The part that was added last.
-slice_range-last : (room bytes : List ℕ) (a b : ℕ) → a ≡ length room → b ≡ length room + length bytes → slice_range (room ++ bytes) a b ≡ bytes
+slice_range-last : (room bytes : Bytes) (a b : ℕ) → a ≡ length room → b ≡ length room + length bytes → slice_range (room ++ bytes) a b ≡ bytes
 slice_range-last room bytes a b ea eb =
     let n : b - a ≡ length bytes = omega arith in
     ap (λ k. take (b - a) (drop k (room ++ bytes))) ea ∙ (ap (take (b - a)) (drop-append_seam room bytes) ∙ (ap (λ k. take k bytes) n ∙ take-length bytes))
@@ -52,7 +53,7 @@ all_done-append room extra (c ∷ calls) start h =
     ap (λ d. d ∷ all_done (room ++ extra) calls) (done_in-append room extra c h.1 h.2 low)
     ∙ ap (λ ds. done_in room c ∷ ds) (all_done-append room extra calls c.to h.3)
 
-pub all_done-push : (room name bytes : List ℕ) (calls : List Call) (c : Call) (start : ℕ) →
+pub all_done-push : (room name bytes : Bytes) (calls : List Call) (c : Call) (start : ℕ) →
     AreLaid calls start (length room) → c.from ≡ length room → c.mid ≡ length room + length name →
     c.to ≡ length room + length name + length bytes →
     all_done ((room ++ name) ++ bytes) (calls ++ c ∷ [])

@@ -3,6 +3,7 @@ use Rattle.std.proofs.Common.{◌≡◌, ◌≢◌, ℕ, Bool, true, false, List
 use Rattle.std.specs.Prelude.{Option, Some, None, if◌then◌else◌}
 use Rattle.std.specs.Str.{bytes_eq}
 use Rattle.std.proofs.lemmas.Slice.Eq.{bytes_eq-Decides}
+use Rattle.paw_base.specs.Bytes.{Name}
 use Rattle.paw_stage.specs.Stage.{Files, file_holding, store_holding}
 
 if_not : (b : Bool) (P : Type 0) (x y : Option (List ℕ)) → (b ≡ true → P) → (P → ⊥) → (if b then x else y) ≡ y
@@ -14,7 +15,7 @@ pub holds_other : (name n : List ℕ) (bytes : Option (List ℕ)) (files : Files
 holds_other name n bytes files ne = if_not (bytes_eq n name) (n ≡ name) bytes (files n) (bytes_eq-Decides n name).0 ne
 
 -- The file of this name is what it was made.
-pub holds_same : (name : List ℕ) (bytes : Option (List ℕ)) (files : Files) → file_holding name bytes files name ≡ bytes
+pub holds_same : (name : Name) (bytes : Option (List ℕ)) (files : Files) → file_holding name bytes files name ≡ bytes
 holds_same name bytes files = ap (λ b. if b then bytes else files name) ((bytes_eq-Decides name name).1 refl)
 
 -- Another file than the attached store's is as it was.

@@ -6,6 +6,7 @@ use Rattle.std.specs.Prelude.{Option, Some, None, Bool, true, false, if◌then�
 use Rattle.std.specs.Str.{bytes_eq}
 use Rattle.std.proofs.lemmas.Slice.Eq.{bytes_eq-Decides}
 use Rattle.std.proofs.Math.Seq.{take-length}
+use Rattle.paw_base.specs.Bytes.{Bytes, Name}
 use Rattle.paw_stage.specs.Disk.{Disk, disk_written, stable}
 use Rattle.paw_stage.specs.Stage.{Standing, Saves, bytes_or_none}
 use Rattle.paw_stage.specs.Moments.{Passes}
@@ -16,7 +17,7 @@ use Rattle.paw_stage.specs.declared.log.CallKind.TheVariants as kind
 use Rattle.paw_stage.proofs.Logs.{after-push}
 
 -- What stands before a call is inside it.
-begins : (k : CallKind) (name bytes : List ℕ) (s m : Standing) → m ≡ s → MayStand k name bytes s m
+begins : (k : CallKind) (name bytes : Bytes) (s m : Standing) → m ≡ s → MayStand k name bytes s m
 begins kind.Add name bytes s m e = inl e
 begins kind.Load name bytes s m e = e
 begins kind.Save name bytes s m e = inl e
@@ -29,7 +30,7 @@ begins kind.End name bytes s m e = e
 begins kind.Show name bytes s m e = (0, e ∙ ap (λ t. record s { shown = t }) (sym (append-nil s.shown)))
 
 -- The disk of a saved file's store.
-not_attached : (a : Option (List ℕ)) (name : List ℕ) (x y : Disk) → a ≢ Some name → (if is_attached a name then x else y) ≡ y
+not_attached : (a : Option (List ℕ)) (name : Name) (x y : Disk) → a ≢ Some name → (if is_attached a name then x else y) ≡ y
 not_attached None name x y ne = refl
 not_attached (Some n) name x y ne = other (bytes_eq n name) (λ e. ne (ap Some ((bytes_eq-Decides n name).0 e)))
   where
@@ -37,10 +38,10 @@ not_attached (Some n) name x y ne = other (bytes_eq n name) (λ e. ne (ap Some (
     other true h = absurd (h refl)
     other false h = refl
 
-attached_yes : (a : Option (List ℕ)) (name : List ℕ) (x y : Disk) → a ≡ Some name → (if is_attached a name then x else y) ≡ x
+attached_yes : (a : Option (List ℕ)) (name : Name) (x y : Disk) → a ≡ Some name → (if is_attached a name then x else y) ≡ x
 attached_yes a name x y e = ap (λ o. if is_attached o name then x else y) e ∙ ap (λ b. if b then x else y) ((bytes_eq-Decides name name).1 refl)
 
-pub saves : (s new : Standing) (name : List ℕ) (bytes : Option (List ℕ)) → new ≡ file_replaced name bytes s → Saves s new name bytes
+pub saves : (s new : Standing) (name : Name) (bytes : Option (List ℕ)) → new ≡ file_replaced name bytes s → Saves s new name bytes
 saves s new name bytes e =
     record {
       disk = (file_replaced name bytes s).disk;
@@ -50,7 +51,7 @@ saves s new name bytes e =
     }
 
 -- What stands after a call is inside it.
-ends : (k : CallKind) (name bytes : List ℕ) (s m : Standing) → m ≡ after_call_of k name bytes s → MayStand k name bytes s m
+ends : (k : CallKind) (name bytes : Bytes) (s m : Standing) → m ≡ after_call_of k name bytes s → MayStand k name bytes s m
 ends kind.Add name bytes s m e = inr e
 ends kind.Load name bytes s m e = e
 ends kind.Save name bytes s m e = inr (Some bytes, saves s m name (Some bytes) e)

@@ -5,6 +5,7 @@ use Rattle.std.proofs.Common.{slice_index}
 use Rattle.std.specs.Prelude.{Option, Some, None, is_some}
 use Rattle.std.proofs.lemmas.Slice.Eq.{bytes_eq-Decides}
 use Rattle.std.proofs.lemmas.List.{ext_get_or, get_or-take, get_or-drop, length-take, length-drop}
+use Rattle.paw_base.specs.Bytes.{Bytes, Name}
 use Rattle.paw_stage.specs.Disk.{put_at, disk_written}
 use Rattle.paw_stage.specs.Stage.{Standing, store_holding, bytes_or_none, with_disk}
 use Rattle.paw_stage.specs.inner.Done.{is_attached}
@@ -13,12 +14,12 @@ use Rattle.paw_stage.specs.declared.replay.Seen.{Seen}
 use Rattle.paw_stage.proofs.Names.{holds_same}
 use Rattle.paw_stage.proofs.Writes.{length-put, index-put, where_is, laid_before, laid_in, laid_behind}
 
-attached_is : (a : Option (List ℕ)) (name : List ℕ) → is_attached a name ≡ true → a ≡ Some name
+attached_is : (a : Option (List ℕ)) (name : Name) → is_attached a name ≡ true → a ≡ Some name
 attached_is None name h = cc
 attached_is (Some n) name h = ap Some ((bytes_eq-Decides n name).0 h)
 
 -- Bytes of a store that was written to.
-written_bytes : (place at : ℕ) (bytes old into new : List ℕ) (j : ℕ) → j < length into → at + j < max (length old) (min place (length old) + length bytes)
+written_bytes : (place at : ℕ) (bytes old into new : Bytes) (j : ℕ) → j < length into → at + j < max (length old) (min place (length old) + length bytes)
     → (at + j < length old → slice_index into j ≡ slice_index old (at + j))
     → slice_index new j ≡ laid_over (min place (length old)) bytes (at + j) (slice_index into j)
     → slice_index new j ≡ slice_index (put_at place bytes old) (at + j)
@@ -33,7 +34,7 @@ written_bytes place at bytes old into new j low within seen e =
           laid_behind p bytes (at + j) (slice_index into j) h ∙ (seen (omega arith) ∙ sym (laid_behind p bytes (at + j) (slice_index old (at + j)) h))
     ] ∙ sym (index-put place bytes old (at + j)))
 
-pub sees_written : (s : Standing) (name : List ℕ) (at place : ℕ) (bytes into new : List ℕ) (seen now : Seen) →
+pub sees_written : (s : Standing) (name : Name) (at place : ℕ) (bytes into new : Bytes) (seen now : Seen) →
     IsFiled s → Sees s name at seen into → seen.attached ≡ true
     → now ≡ record { here = seen.here; attached = seen.attached; len = max seen.len (min place seen.len + length bytes) }
     → length new ≡ length into
@@ -60,7 +61,7 @@ sees_written s name at place bytes into new seen now filed h on is same laid =
     }
 
 -- A slice that the file's bytes fill.
-pub filled : (s : Standing) (name : List ℕ) (at n : ℕ) (seen : Seen) (into : List ℕ) → Sees s name at seen into →
+pub filled : (s : Standing) (name : Name) (at n : ℕ) (seen : Seen) (into : Bytes) → Sees s name at seen into →
     length into ≡ n → at + n ≤ length (bytes_or_none (s.files name)) →
     into ≡ take n (drop at (bytes_or_none (s.files name)))
 filled s name at n seen into h size within =

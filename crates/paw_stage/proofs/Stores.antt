@@ -6,6 +6,7 @@ use Rattle.std.specs.Prelude.{Option, Some, None, ◌||◌, if◌then◌else◌,
 use Rattle.std.specs.Str.{bytes_eq}
 use Rattle.std.proofs.lemmas.List.{take-append-le, drop-append-le, take_all, length-drop}
 use Rattle.std.proofs.lemmas.Slice.Eq.{bytes_eq-Decides}
+use Rattle.paw_base.specs.Bytes.{Bytes, Name}
 use Rattle.paw_stage.specs.Disk.{Disk, is_dirty, stable}
 use Rattle.paw_stage.specs.Stage.{Standing}
 use Rattle.paw_stage.specs.inner.Done.{DoneCall, fresh, standing_after, after, is_attached}
@@ -38,7 +39,7 @@ is_written-push (x ∷ ds) d i =
     ∙ or_grouped (writes x.kind (length x.bytes) i) (is_written ds i) (writes d.kind (length d.bytes) i)
 
 -- A call that neither attaches nor syncs.
-kept_store : (ds : List DoneCall) (d : DoneCall) (name : List ℕ) (n : ℕ) → IsStore ds name n →
+kept_store : (ds : List DoneCall) (d : DoneCall) (name : Name) (n : ℕ) → IsStore ds name n →
     (standing_after (after fresh ds) d).attached ≡ (after fresh ds).attached →
     (standing_after (after fresh ds) d).disk.synced ≡ (after fresh ds).disk.synced
     → ((i : ℕ) → is_dirty (standing_after (after fresh ds) d).disk.dirty i
@@ -59,7 +60,7 @@ kept_store ds d name n h ea es ed =
     }
 
 -- A call after which all of the store's bytes are synced.
-settled_store : (ds : List DoneCall) (d : DoneCall) (name bytes : List ℕ) → (standing_after (after fresh ds) d).attached ≡ Some name →
+settled_store : (ds : List DoneCall) (d : DoneCall) (name bytes : Bytes) → (standing_after (after fresh ds) d).attached ≡ Some name →
     (standing_after (after fresh ds) d).disk ≡ stable bytes → IsStore (ds ++ d ∷ []) name (length ds + 1)
 settled_store ds d name bytes ea ed =
     let last : after fresh (ds ++ d ∷ []) ≡ standing_after (after fresh ds) d = after-push fresh ds d in
@@ -99,7 +100,7 @@ kept_finds : (room : List ℕ) (ds : List DoneCall) (d : DoneCall) (store : Opti
 kept_finds room ds d None h ea es ed = ap (λ (s : Standing). s.attached) (after-push fresh ds d) ∙ (ea ∙ h)
 kept_finds room ds d (Some store) h ea es ed = (h.0, kept_store ds d _ store.synced h.1 ea es ed)
 
-pub quiet_finds : (room : List ℕ) (ds : List DoneCall) (k : CallKind) (name bytes : List ℕ) (store : Option Store) → IsQuiet k →
+pub quiet_finds : (room : List ℕ) (ds : List DoneCall) (k : CallKind) (name bytes : Bytes) (store : Option Store) → IsQuiet k →
     FindsStore room ds store → FindsStore room (ds ++ record { kind = k; name = name; bytes = bytes } ∷ []) store
 quiet_finds room ds kind.Add name bytes store q h = absurd q
 quiet_finds room ds kind.Load name bytes store q h = kept_finds room ds (record { kind = kind.Load; name = name; bytes = bytes }) store h refl refl (λ i. refl)
@@ -120,7 +121,7 @@ quiet_call_finds room ds call store q h =
     quiet_finds room ds call.kind (slice_range room call.from call.mid) (slice_range room call.mid call.to) store q h
 
 -- The store's bytes where its file, or another, was saved.
-same_disk : (s : Standing) (name bytes : List ℕ) → s.attached ≡ Some name → (if is_attached s.attached name then stable bytes else s.disk) ≡ stable bytes
+same_disk : (s : Standing) (name bytes : Bytes) → s.attached ≡ Some name → (if is_attached s.attached name then stable bytes else s.disk) ≡ stable bytes
 same_disk s name bytes e =
     ap (λ a. if is_attached a name then stable bytes else s.disk) e ∙ ap (λ b. if b then stable bytes else s.disk) ((bytes_eq-Decides name name).1 refl)
 
@@ -128,13 +129,13 @@ if_not : (b : Bool) (x y : Disk) → (b ≡ true → ⊥) → (if b then x else 
 if_not true x y n = absurd (n refl)
 if_not false x y n = refl
 
-other_disk : (s : Standing) (name other bytes : List ℕ) → s.attached ≡ Some name → other ≢ name →
+other_disk : (s : Standing) (name other bytes : Bytes) → s.attached ≡ Some name → other ≢ name →
     (if is_attached s.attached other then stable bytes else s.disk) ≡ s.disk
 other_disk s name other bytes e ne =
     ap (λ a. if is_attached a other then stable bytes else s.disk) e
     ∙ if_not (bytes_eq name other) (stable bytes) s.disk (λ t. ne (sym ((bytes_eq-Decides name other).0 t)))
 
-saved_same : (ds : List DoneCall) (k : CallKind) (name bytes : List ℕ) (n : ℕ) → (k ≡ kind.Add) ⊎ (k ≡ kind.Save) →
+saved_same : (ds : List DoneCall) (k : CallKind) (name bytes : Bytes) (n : ℕ) → (k ≡ kind.Add) ⊎ (k ≡ kind.Save) →
     IsStore ds name n → IsStore (ds ++ record { kind = k; name = name; bytes = bytes } ∷ []) name (length ds + 1)
 saved_same ds k name bytes n w h =
     let disk = same_disk (after fresh ds) name bytes h.attached in
@@ -153,7 +154,7 @@ saved_here ds k called name bytes n done e count w h =
     (subst (λ x. IsStore (ds ++ record { kind = k; name = x; bytes = bytes } ∷ []) name (length ds + 1)) (sym e)
     (saved_same ds k name bytes n w h))
 
-pub saved_other : (ds : List DoneCall) (k : CallKind) (name other bytes : List ℕ) (n : ℕ) → (k ≡ kind.Add) ⊎ (k ≡ kind.Save) →
+pub saved_other : (ds : List DoneCall) (k : CallKind) (name other bytes : Bytes) (n : ℕ) → (k ≡ kind.Add) ⊎ (k ≡ kind.Save) →
     other ≢ name → IsStore ds name n → IsStore (ds ++ record { kind = k; name = other; bytes = bytes } ∷ []) name n
 saved_other ds k name other bytes n w ne h =
     let disk = other_disk (after fresh ds) name other bytes h.attached ne in
@@ -167,7 +168,7 @@ saved_other ds k name other bytes n w ne h =
     ]
 
 -- No store is attached by saving.
-pub saved_none : (ds : List DoneCall) (k : CallKind) (name bytes : List ℕ) → (k ≡ kind.Add) ⊎ (k ≡ kind.Save) →
+pub saved_none : (ds : List DoneCall) (k : CallKind) (name bytes : Bytes) → (k ≡ kind.Add) ⊎ (k ≡ kind.Save) →
     (after fresh ds).attached ≡ None → (after fresh
     (ds ++ record { kind = k; name = name; bytes = bytes } ∷ [])).attached ≡ None
 saved_none ds k name bytes w h = elim w [

@@ -7,6 +7,7 @@ use Rattle.std.proofs.lemmas.Bool.Decides.{nat_tests}
 use Rattle.std.proofs.lemmas.List.{get_or-append_right, get_or-take, get_or-drop, get_or_past, length-take, length-drop}
 use Rattle.std.proofs.lemmas.List.{get_or_append_left, get_or-replicate}
 use Rattle.std.proofs.lemmas.List.{length-replicate}
+use Rattle.paw_base.specs.Bytes.{Bytes}
 use Rattle.paw_stage.specs.inner.Crash.{spoiled_if}
 use Rattle.paw_stage.specs.Disk.{put_at}
 use Rattle.paw_stage.specs.inner.Seen.{laid_over}
@@ -24,15 +25,15 @@ pub where_is : (i p n : ℕ) → (i < p) ⊎ ((p ≤ i) × (i < p + n)) ⊎ (p +
 where_is i p n = grind arith
 
 -- Bytes that were laid over others: before, in and after their offsets.
-pub laid_before : (p : ℕ) (bytes : List ℕ) (i old : ℕ) → i < p → laid_over p bytes i old ≡ old
+pub laid_before : (p : ℕ) (bytes : Bytes) (i old : ℕ) → i < p → laid_over p bytes i old ≡ old
 laid_before p bytes i old h =
     let t : (nat_le p i && nat_lt i (p + length bytes)) ≡ false = grind (arith, nat_tests) in ap (λ b. if b then slice_index bytes (i - p) else old) t
 
-pub laid_in : (p : ℕ) (bytes : List ℕ) (i old : ℕ) → p ≤ i → i < p + length bytes → laid_over p bytes i old ≡ slice_index bytes (i - p)
+pub laid_in : (p : ℕ) (bytes : Bytes) (i old : ℕ) → p ≤ i → i < p + length bytes → laid_over p bytes i old ≡ slice_index bytes (i - p)
 laid_in p bytes i old h k =
     let t : (nat_le p i && nat_lt i (p + length bytes)) ≡ true = grind (arith, nat_tests) in ap (λ b. if b then slice_index bytes (i - p) else old) t
 
-pub laid_behind : (p : ℕ) (bytes : List ℕ) (i old : ℕ) → p + length bytes ≤ i → laid_over p bytes i old ≡ old
+pub laid_behind : (p : ℕ) (bytes : Bytes) (i old : ℕ) → p + length bytes ≤ i → laid_over p bytes i old ≡ old
 laid_behind p bytes i old h =
     let t : (nat_le p i && nat_lt i (p + length bytes)) ≡ false = grind (arith, nat_tests) in ap (λ b. if b then slice_index bytes (i - p) else old) t
 
@@ -71,7 +72,7 @@ index-put at new old i =
     ]
 
 -- Bytes laid over those that stand from another offset on.
-pub lays : (place at from to : ℕ) (bytes into new : List ℕ) (j : ℕ) → from ≡ min (at - place) (length bytes) →
+pub lays : (place at from to : ℕ) (bytes into new : Bytes) (j : ℕ) → from ≡ min (at - place) (length bytes) →
     to ≡ min (place - at) (length into) → new ≡ put_at to (take (length into - to) (drop from bytes)) into →
     j < length into → slice_index new j ≡ laid_over place bytes (at + j) (slice_index into j)
 lays place at from to bytes into new j ef et e low =

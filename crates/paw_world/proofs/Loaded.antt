@@ -3,6 +3,7 @@ use Rattle.std.proofs.Common.{◌≡◌, ℕ, suc, ◌+◌, ◌<◌, List, ◌++
 use Rattle.std.proofs.Common.{add-one, length-append, length-drop}
 use Rattle.std.specs.Option.{option_map_or}
 use Rattle.std.proofs.lemmas.List.{length-take-le}
+use Rattle.paw_base.specs.Bytes.{Seed}
 use Rattle.paw_base.specs.declared.limits.TheConstants.{FLAG_COUNT}
 use Rattle.paw_base.specs.declared.parts.ObjectFacts.{ObjectFacts}
 use Rattle.paw_world.specs.World.{World, Position, saved_position_loaded, at_position, IsPosition, IsSavedFor}
@@ -41,7 +42,7 @@ with_parts facts locations saved kept seed draws flags places objects = record {
 }
 
 pub loaded_is : (facts : List ObjectFacts) (locations : ℕ) (flags places : List ℕ) (saved : Option Position)
-    (kept : List (Option Position)) (seed draws : ℕ) (q : Position) (n : ℕ) (front moved : List ℕ) → IsSavedFor (length places) saved
+    (kept : List (Option Position)) (seed : Seed) (draws : ℕ) (q : Position) (n : ℕ) (front moved : List ℕ) → IsSavedFor (length places) saved
     → saved ≡ Some q → front ≡ take (n + 1) q.flags → moved ≡ q.places
     → with_parts facts locations saved kept seed draws (front ++ drop (n + 1) flags) moved (length moved)
     ≡ saved_position_loaded (with_parts facts locations saved kept seed draws flags places (length places)) n

@@ -8,6 +8,7 @@ use Rattle.std.proofs.lemmas.List.{get_or-set_same, get_or-set_other, length-set
 use Rattle.std.proofs.lemmas.List.{get_or_default, length-replicate}
 use Rattle.std.specs.Int.{bit_at}
 use Rattle.std.proofs.lemmas.Nat.Bits.{bit_at-zero}
+use Rattle.paw_base.specs.Bytes.{ObjectPlaces}
 use Rattle.paw_base.specs.declared.limits.TheConstants.{OBJECT_LIMIT}
 use Rattle.paw_world.specs.inner.ObjectSet.{member, Inserts, Removes}
 use Rattle.paw_world.specs.inner.PlaceSets.{stands_in, AreSetsOf}
@@ -32,7 +33,7 @@ written_other : (sets : List (List ℕ)) (p q : ℕ) (words : List ℕ) (o : ℕ
     → stands_in (set sets p words) q o ≡ stands_in sets q o
 written_other sets p q words o other = ap (λ (ws : List ℕ). member ws o) (get_or-set_other sets p q words [] other)
 
-module _ (sets : List (List ℕ)) (n : ℕ) (places : List ℕ) (sound : AreSetsOf sets n places) where
+module _ (sets : List (List ℕ)) (n : ℕ) (places : ObjectPlaces) (sound : AreSetsOf sets n places) where
   -- One object more, number n, at place p.
   module _ (p : ℕ) (words : List ℕ) (small : p < 256) (more : n < OBJECT_LIMIT) (inserted : Inserts n (get_or sets p []) words) where
     here : n < length places
@@ -124,7 +125,7 @@ empty_word i = elim (cases_lt i 4) [
 no_member : (o : ℕ) → member (replicate {A = ℕ} 4 0) o ≡ 0
 no_member o = ap (λ (n : ℕ). bit_at n (o % 64)) (empty_word (o / 64)) ∙ bit_at-zero (o % 64)
 
-pub no_sets : (places : List ℕ) → length places ≡ OBJECT_LIMIT → AreSetsOf (replicate 256 (replicate {A = ℕ} 4 0)) 0 places
+pub no_sets : (places : ObjectPlaces) → length places ≡ OBJECT_LIMIT → AreSetsOf (replicate 256 (replicate {A = ℕ} 4 0)) 0 places
 no_sets places room = record {
   few = omega arith;
   room = room;
@@ -134,13 +135,13 @@ no_sets places room = record {
 }
 
 -- The same where the set that is read comes at any default.
-pub added_at : (sets : List (List ℕ)) (n : ℕ) (places : List ℕ) (p : ℕ) (d words : List ℕ) → AreSetsOf sets n places → p < 256 → n < OBJECT_LIMIT
+pub added_at : (sets : List (List ℕ)) (n : ℕ) (places : ObjectPlaces) (p : ℕ) (d words : List ℕ) → AreSetsOf sets n places → p < 256 → n < OBJECT_LIMIT
     → Inserts n (get_or sets p d) words → AreSetsOf (set sets p words) (n + 1) (set places n p)
 added_at sets n places p d words sound small more inserted =
     let P : List ℕ → Type 0 = λ old. Inserts n old words in
     added sets n places sound p words small more (subst P (get_or_default sets p d [] (omega (arith, sound.for_each))) inserted)
 
-pub relocated_at : (sets : List (List ℕ)) (n : ℕ) (places : List ℕ) (o p : ℕ) (d e without moved : List ℕ) → AreSetsOf sets n places
+pub relocated_at : (sets : List (List ℕ)) (n : ℕ) (places : ObjectPlaces) (o p : ℕ) (d e without moved : List ℕ) → AreSetsOf sets n places
     → p < 256 → get_or places o 0 < 256 → o < n → Removes o (get_or sets (get_or places o 0) d) without
     → Inserts o (get_or (set sets (get_or places o 0) without) p e) moved
     → AreSetsOf (set (set sets (get_or places o 0) without) p moved) n (set places o p)

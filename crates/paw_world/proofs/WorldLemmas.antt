@@ -8,6 +8,7 @@ use Rattle.std.proofs.lemmas.List.{length-set, length-map, length-take-le, get_o
 use Rattle.std.proofs.lemmas.List.{set-get_or}
 use Rattle.std.proofs.lemmas.Bool.{cases_eq}
 use Rattle.std.proofs.lemmas.Bool.Decides.{nat_tests}
+use Rattle.paw_base.specs.Bytes.{ObjectPlaces}
 use Rattle.paw_base.specs.declared.parts.ObjectFacts.{ObjectFacts}
 use Rattle.paw_base.specs.declared.places.TheConstants.{CARRIED_PLACE}
 use Rattle.paw_base.specs.declared.flags.TheConstants.{CARRIED_FLAG}
@@ -33,7 +34,7 @@ pub IsWorld-with_flag : (w : World) (f x : ℕ) → IsWorld w → IsWorld (with_
 IsWorld-with_flag w f x sound =
     record { objects = sound.objects; facts = sound.facts; flags = length-set w.flags f x ∙ sound.flags; saved = sound.saved; kept = sound.kept }
 
-same_count : (w : World) (places : List ℕ) → length places ≡ length w.places → IsWorld w → IsWorld (record w { places = places })
+same_count : (w : World) (places : ObjectPlaces) → length places ≡ length w.places → IsWorld w → IsWorld (record w { places = places })
 same_count w places same sound = record {
   objects = omega (arith, sound.objects);
   facts = sound.facts ∙ sym same;

@@ -2,6 +2,7 @@
 use Rattle.std.proofs.Common.{◌≡◌, ℕ, zero, suc, ◌<◌, ◌≤◌, ◌+◌, Bool, true, false, eqb, ltb, not, cond, ◌||◌, ◌⊎◌, inl}
 use Rattle.std.proofs.Common.{inr, one-add, List, [], ◌∷◌, map, drop, refl, ap, arith}
 use Rattle.std.proofs.lemmas.Bool.{ltb-true, ltb-false}
+use Rattle.paw_base.specs.Bytes.{Bytes, Text}
 use Rattle.paw_wrap.specs.FirstFit.{space, line_feed, word_length, breaks_from}
 
 pub left_true : (x y : Bool) → y ≡ false → x || y ≡ true → x ≡ true
@@ -13,7 +14,7 @@ unfolding breaks_from
 breaks_from-empty w at before = refl
 
 -- A byte ends its line, or a space is a break, or the line goes on after it.
-pub data NextBreak (w at before b : ℕ) (bs : List ℕ) : Type 0 where
+pub data NextBreak (w at before b : ℕ) (bs : Bytes) : Type 0 where
   ends_line : eqb b line_feed ≡ true → breaks_from w at before (b ∷ bs) ≡ breaks_from w (suc at) 0 bs
       → NextBreak w at before b bs
   breaks : eqb b line_feed ≡ false → eqb b space ≡ true → w < before + 1 + word_length bs
@@ -21,7 +22,7 @@ pub data NextBreak (w at before b : ℕ) (bs : List ℕ) : Type 0 where
   goes_on : eqb b line_feed ≡ false → (eqb b space ≡ true → before + 1 + word_length bs ≤ w)
       → breaks_from w at before (b ∷ bs) ≡ breaks_from w (suc at) (suc before) bs → NextBreak w at before b bs
 
-pub step : (w at before b : ℕ) (bs : List ℕ) → NextBreak w at before b bs
+pub step : (w at before b : ℕ) (bs : Bytes) → NextBreak w at before b bs
 unfolding breaks_from
 step w at before b bs =
     elim (eqb b line_feed) as (λ v. eqb b line_feed ≡ v → NextBreak w at before b bs) [
@@ -36,7 +37,7 @@ step w at before b bs =
     ] refl
 
 -- Offsets move with the offset at which the text begins.
-pub breaks_from-suc : (w at before : ℕ) (text : List ℕ) → breaks_from w (suc at) before text ≡ map suc (breaks_from w at before text)
+pub breaks_from-suc : (w at before : ℕ) (text : Text) → breaks_from w (suc at) before text ≡ map suc (breaks_from w at before text)
 unfolding breaks_from
 breaks_from-suc w at before [] = refl
 breaks_from-suc w at before (b ∷ bs) =
@@ -53,7 +54,7 @@ breaks_from-suc w at before (b ∷ bs) =
     ] refl
 
 -- A byte that ends a word, or one more byte of it.
-pub word_length-cons : (b : ℕ) (bs : List ℕ) → (word_length (b ∷ bs) ≡ 0)
+pub word_length-cons : (b : ℕ) (bs : Bytes) → (word_length (b ∷ bs) ≡ 0)
     ⊎ ((eqb b space ≡ false) × (eqb b line_feed ≡ false) × (word_length (b ∷ bs) ≡ suc (word_length bs)))
 word_length-cons b bs =
     elim (eqb b space) as (λ v. eqb b space ≡ v → (cond (not (v || eqb b line_feed)) (1 + word_length bs) 0 ≡ 0)
@@ -67,7 +68,7 @@ word_length-cons b bs =
     ] refl
 
 -- No byte of a word is a break.
-pub breaks_from-word : (w at before n at' before' : ℕ) (text : List ℕ) → at' ≡ at + n → before' ≡ before + n → n ≤ word_length text
+pub breaks_from-word : (w at before n at' before' : ℕ) (text : Text) → at' ≡ at + n → before' ≡ before + n → n ≤ word_length text
     → breaks_from w at before text ≡ breaks_from w at' before' (drop n text)
 unfolding breaks_from
 breaks_from-word w at before zero at' before' text e f h =

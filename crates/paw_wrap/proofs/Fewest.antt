@@ -4,6 +4,7 @@ use Rattle.std.proofs.Common.{refl, sym, ap, ◌∙◌, inl, inr, add-zero, zero
 use Rattle.std.specs.Prelude.{⊤, slice_get, unwrap_or}
 use Rattle.std.specs.List.{onto_first}
 use Rattle.std.proofs.lemmas.Bool.{or_right}
+use Rattle.paw_base.specs.Bytes.{Bytes, Text}
 use Rattle.paw_wrap.specs.FirstFit.{space, line_feed, word_length, breaks_from, with_byte, AreSpaces, AreFewest}
 use Rattle.paw_wrap.proofs.Breaking.{NextBreak, step, breaks_from-empty, word_length-cons}
 use Rattle.paw_wrap.proofs.LineWidths.{lines, has_space, first_line, lines-line_feed, lines-other, first_line-onto}
@@ -17,11 +18,11 @@ Broken (b ∷ bs) [] n = ⊥
 Broken (b ∷ bs) (c ∷ cs) n =
     ((b ≡ c) × Broken bs cs n) ⊎ ((m : ℕ) × (m < n) × (b ≡ space) × (c ≡ line_feed) × Broken bs cs m)
 
-unbroken : (text : List ℕ) → Broken text text 0
+unbroken : (text : Text) → Broken text text 0
 unbroken [] = tt
 unbroken (b ∷ bs) = inl (refl, unbroken bs)
 
-broken_once : (text bytes : List ℕ) (n at : ℕ) → Broken text bytes n → slice_get text at ≡ Some space
+broken_once : (text bytes : Bytes) (n at : ℕ) → Broken text bytes n → slice_get text at ≡ Some space
     → Broken text (set bytes at line_feed) (suc n)
 broken_once [] [] n at broken here = tt
 broken_once [] (c ∷ cs) n at broken here = absurd broken
@@ -40,7 +41,7 @@ broken_at text bytes (at ∷ choice) n broken spaces =
     rw count (broken_at text (set bytes at line_feed) choice (suc n) (broken_once text bytes n at broken spaces.0) spaces.1)
 
 -- The first word of a text stands in the first line of what was broken.
-word_kept : (text bytes : List ℕ) (n : ℕ) → Broken text bytes n → word_length text ≤ length (first_line (lines bytes))
+word_kept : (text bytes : Bytes) (n : ℕ) → Broken text bytes n → word_length text ≤ length (first_line (lines bytes))
 word_kept [] bytes n broken = omega arith
 word_kept (b ∷ bs) [] n broken = absurd broken
 word_kept (b ∷ bs) (c ∷ cs) n broken =
@@ -55,15 +56,15 @@ word_kept (b ∷ bs) (c ∷ cs) n broken =
     ]
 
 -- What an LF or a further byte leaves of lines that fit.
-after_line_feed : (w before b : ℕ) (bs : List ℕ) → eqb b line_feed ≡ true → FitsBehind w before (lines (b ∷ bs)) → FitsBehind w 0 (lines bs)
+after_line_feed : (w before b : ℕ) (bs : Bytes) → eqb b line_feed ≡ true → FitsBehind w before (lines (b ∷ bs)) → FitsBehind w 0 (lines bs)
 after_line_feed w before b bs e fit =
     let here : FitsBehind w before ([] ∷ lines bs) = rw (lines-line_feed b bs e) at fit in
     fits_behind w (lines bs) here.rest
 
-first_line-other : (b : ℕ) (bs : List ℕ) → eqb b line_feed ≡ false → first_line (lines (b ∷ bs)) ≡ b ∷ first_line (lines bs)
+first_line-other : (b : ℕ) (bs : Bytes) → eqb b line_feed ≡ false → first_line (lines (b ∷ bs)) ≡ b ∷ first_line (lines bs)
 first_line-other b bs e = ap first_line (lines-other b bs e) ∙ first_line-onto b (lines bs)
 
-after_other : (w before b : ℕ) (bs : List ℕ) → eqb b line_feed ≡ false → FitsBehind w before (lines (b ∷ bs)) → FitsBehind w (suc before) (lines bs)
+after_other : (w before b : ℕ) (bs : Bytes) → eqb b line_feed ≡ false → FitsBehind w before (lines (b ∷ bs)) → FitsBehind w (suc before) (lines bs)
 after_other w before b bs e fit =
     let size : length (first_line (lines (b ∷ bs))) ≡ suc (length (first_line (lines bs))) = ap length (first_line-other b bs e) in
     record {
@@ -80,7 +81,7 @@ too_long w before other c n bs cs e f begun long broken fit =
     omega (arith, size, fit.first some, word_kept bs cs n broken)
 
 -- The lines of the other choice fit. Its line began no later than first fit's, or it has a break in first fit's line.
-fewest : (w at before other ahead n : ℕ) (text bytes : List ℕ) → Broken text bytes n → (before ≤ other) ⊎ (1 ≤ ahead)
+fewest : (w at before other ahead n : ℕ) (text bytes : Bytes) → Broken text bytes n → (before ≤ other) ⊎ (1 ≤ ahead)
     → FitsBehind w other (lines bytes) → length (breaks_from w at before text) ≤ n + ahead
 fewest w at before other ahead n [] bytes broken begun fit = rw (breaks_from-empty w at before) (omega arith)
 fewest w at before other ahead n (b ∷ bs) [] broken begun fit = absurd broken
@@ -116,7 +117,7 @@ fewest w at before other ahead n (b ∷ bs) (c ∷ cs) (inr (m, less, was, lf, m
     ]
 
 -- First fit has the fewest breaks.
-pub are_fewest : (w : ℕ) (text : List ℕ) → AreFewest w text (breaks_from w 0 0 text)
+pub are_fewest : (w : ℕ) (text : Text) → AreFewest w text (breaks_from w 0 0 text)
 are_fewest w text choice spaces fits =
     let broken : Broken text (with_byte line_feed choice text) (length choice) =
     rw (zero-add (length choice)) at (broken_at text text choice 0 (unbroken text) spaces) in

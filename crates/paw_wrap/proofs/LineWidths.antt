@@ -2,6 +2,7 @@
 use Rattle.std.proofs.Common.{◌≡◌, ℕ, suc, ◌≤◌, ◌+◌, Bool, true, false, eqb, ◌||◌, List, [], ◌∷◌, length, drop, get_or}
 use Rattle.std.proofs.Common.{refl, sym, ap, ◌∙◌, inl, inr, arith}
 use Rattle.std.specs.List.{AllByRecursion, list_any, slice_split, onto_first}
+use Rattle.paw_base.specs.Bytes.{Bytes, Text}
 use Rattle.paw_wrap.specs.FirstFit.{space, line_feed, word_length, breaks_from, FitsLine}
 use Rattle.paw_wrap.proofs.Breaking.{NextBreak, step, left_true}
 use Rattle.paw_wrap.proofs.Undoing.{wrapped, wrapped-kept, wrapped-broken}
@@ -19,10 +20,10 @@ both_false : (x y : Bool) → x || y ≡ false → (x ≡ false) × (y ≡ false
 both_false true y h = absurd (cc)
 both_false false y h = (refl, h)
 
-pub lines-line_feed : (b : ℕ) (bs : List ℕ) → eqb b line_feed ≡ true → lines (b ∷ bs) ≡ [] ∷ lines bs
+pub lines-line_feed : (b : ℕ) (bs : Bytes) → eqb b line_feed ≡ true → lines (b ∷ bs) ≡ [] ∷ lines bs
 lines-line_feed b bs e = rw e refl
 
-pub lines-other : (b : ℕ) (bs : List ℕ) → eqb b line_feed ≡ false → lines (b ∷ bs) ≡ onto_first b (lines bs)
+pub lines-other : (b : ℕ) (bs : Bytes) → eqb b line_feed ≡ false → lines (b ∷ bs) ≡ onto_first b (lines bs)
 lines-other b bs e = rw e refl
 
 pub first_line-onto : (b : ℕ) (ls : List (List ℕ)) → first_line (onto_first b ls) ≡ b ∷ first_line ls
@@ -54,11 +55,11 @@ fits_behind w (l ∷ ls) (inl h, more) = record { first = λ _. omega (arith, h)
 fits_behind w (l ∷ ls) (inr none, more) = record { first = λ some. absurd (cc); rest = more }
 
 -- A line begins after an LF.
-pub behind_line_feed : (w before b : ℕ) (bs : List ℕ) → eqb b line_feed ≡ true → FitsBehind w 0 (lines bs) → FitsBehind w before (lines (b ∷ bs))
+pub behind_line_feed : (w before b : ℕ) (bs : Bytes) → eqb b line_feed ≡ true → FitsBehind w 0 (lines bs) → FitsBehind w before (lines (b ∷ bs))
 behind_line_feed w before b bs e f = rw (lines-line_feed b bs e) (record { first = λ never. absurd (cc); rest = fits_all w (lines bs) f })
 
 -- One more byte of a line.
-pub behind_other : (w before b n : ℕ) (bs : List ℕ) → eqb b line_feed ≡ false → FitsBehind w (suc before) (lines bs)
+pub behind_other : (w before b n : ℕ) (bs : Bytes) → eqb b line_feed ≡ false → FitsBehind w (suc before) (lines bs)
     → (eqb b space ≡ true → before + 1 + n ≤ w) → (has_space (first_line (lines bs)) ≡ false → length (first_line (lines bs)) ≤ n)
     → FitsBehind w before (lines (b ∷ bs))
 behind_other w before b n bs e f short word =
@@ -73,7 +74,7 @@ behind_other w before b n bs e f short word =
     })
 
 -- The first line of a wrapped text is its first word, where it has no space.
-first_word : (w before : ℕ) (text : List ℕ) → has_space (first_line (lines (wrapped w before text))) ≡ false
+first_word : (w before : ℕ) (text : Text) → has_space (first_line (lines (wrapped w before text))) ≡ false
     → length (first_line (lines (wrapped w before text))) ≤ word_length text
 unfolding breaks_from
 first_word w before [] h = omega arith
@@ -90,7 +91,7 @@ first_word w before (b ∷ bs) h =
     ]
 
 -- Each line of a wrapped text fits.
-pub wrapped_fits : (w before : ℕ) (text : List ℕ) → FitsBehind w before (lines (wrapped w before text))
+pub wrapped_fits : (w before : ℕ) (text : Text) → FitsBehind w before (lines (wrapped w before text))
 unfolding breaks_from
 wrapped_fits w before [] = record { first = λ never. absurd (cc); rest = tt }
 wrapped_fits w before (b ∷ bs) =

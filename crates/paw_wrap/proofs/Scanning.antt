@@ -5,19 +5,20 @@ use Rattle.std.proofs.Common.{add-one, zero-add, drop-cons, append-nil, append_a
 use Rattle.std.proofs.lemmas.Bool.{eqb-true, lt-ltb, le-ltb, ne_eqb}
 use Rattle.std.proofs.lemmas.List.{get_or-drop, drop-drop, take_all, drop_all}
 use Rattle.std.proofs.lemmas.List.Sums.{passes_at_first}
+use Rattle.paw_base.specs.Bytes.{Bytes, Text}
 use Rattle.paw_wrap.specs.FirstFit.{space, line_feed, ends_word, word_length, breaks_from}
 use Rattle.paw_wrap.proofs.Breaking.{NextBreak, step, left_true, breaks_from-empty, breaks_from-word}
 
-after_line_feed : (w at before b : ℕ) (bs : List ℕ) → b ≡ line_feed → breaks_from w at before (b ∷ bs) ≡ breaks_from w (suc at) 0 bs
+after_line_feed : (w at before b : ℕ) (bs : Bytes) → b ≡ line_feed → breaks_from w at before (b ∷ bs) ≡ breaks_from w (suc at) 0 bs
 unfolding breaks_from
 after_line_feed w at before b bs e = rw e refl
 
-after_break : (w at before b : ℕ) (bs : List ℕ) → b ≡ space → w < before + 1 + word_length bs
+after_break : (w at before b : ℕ) (bs : Bytes) → b ≡ space → w < before + 1 + word_length bs
     → breaks_from w at before (b ∷ bs) ≡ at ∷ breaks_from w (suc at) 0 bs
 unfolding breaks_from
 after_break w at before b bs e h = rw (e, lt-ltb _ _ h) refl
 
-after_space : (w at before b : ℕ) (bs : List ℕ) → b ≡ space → before + 1 + word_length bs ≤ w
+after_space : (w at before b : ℕ) (bs : Bytes) → b ≡ space → before + 1 + word_length bs ≤ w
     → breaks_from w at before (b ∷ bs) ≡ breaks_from w (suc at) (suc before) bs
 unfolding breaks_from
 after_space w at before b bs e h = rw (e, le-ltb _ _ h) refl
@@ -30,11 +31,11 @@ pub record Reached (w : ℕ) (text breaks : List ℕ) (line at : ℕ) : Type 0 w
   pub so_far : breaks ++ breaks_from w at (at - line) (drop at text) ≡ breaks_from w 0 0 text
 
 -- After the offset `at` there are n bytes before the next space or LF, or before the end.
-pub record Word (text : List ℕ) (at n : ℕ) : Type 0 where
+pub record Word (text : Text) (at n : ℕ) : Type 0 where
   pub size : n ≡ word_length (drop (suc at) text)
   pub within : suc at + n ≤ length text
 
-pub word_in : (text : List ℕ) (at n : ℕ) → at < length text → n ≡ word_length (take (length text - (at + 1)) (drop (at + 1) text))
+pub word_in : (text : Text) (at n : ℕ) → at < length text → n ≡ word_length (take (length text - (at + 1)) (drop (at + 1) text))
     → n ≤ length (take (length text - (at + 1)) (drop (at + 1) text)) → Word text at n
 word_in text at n h e within =
     let all : take (length text - (at + 1)) (drop (at + 1) text) ≡ drop (suc at) text =
@@ -44,13 +45,13 @@ word_in text at n h e within =
       within = omega (arith, h, within, ap length all, length-drop (suc at) text);
     }
 
-word_ends : (text : List ℕ) (from n : ℕ) → n ≡ word_length (drop from text) → from + n < length text → ends_word (get_or text (from + n) 0) ≡ true
+word_ends : (text : Text) (from n : ℕ) → n ≡ word_length (drop from text) → from + n < length text → ends_word (get_or text (from + n) 0) ≡ true
 word_ends text from n e h =
     ap ends_word (sym (get_or-drop from text n 0) ∙ ap (λ k. get_or (drop from text) k 0) e)
     ∙ passes_at_first ends_word (drop from text) 0 (omega (arith, e, length-drop from text))
 
 -- What first fit does after a word.
-next_word : (w before after at n : ℕ) (text : List ℕ) → Word text at n → after ≡ before + n
+next_word : (w before after at n : ℕ) (text : Text) → Word text at n → after ≡ before + n
     → breaks_from w (suc at) before (drop (suc at) text) ≡ breaks_from w (at + 1 + n) after (drop (at + 1 + n) text)
 next_word w before after at n text word e =
     breaks_from-word w (suc at) before n (at + 1 + n) after (drop (suc at) text) (omega arith) e (omega (arith, word.size))
@@ -72,7 +73,7 @@ passed w line next at n text breaks more r h word begins e =
       so_far = append_assoc breaks more _ ∙ ap (λ (left : List ℕ). breaks ++ left) (sym rest) ∙ r.so_far;
     }
 
-pub begins : (w n : ℕ) (text : List ℕ) → n ≡ word_length text → n ≤ length text → Reached w text [] 0 n
+pub begins : (w n : ℕ) (text : Text) → n ≡ word_length text → n ≤ length text → Reached w text [] 0 n
 begins w n text e h = record {
   begun = omega arith;
   within = h;
@@ -115,7 +116,7 @@ more_inside : (at size : ℕ) (places : List ℕ) → ((i : ℕ) → i < length 
 more_inside at size places inside zero h = omega arith
 more_inside at size places inside (suc i) h = inside i (omega (arith, h))
 
-inside_from : (w at before : ℕ) (text : List ℕ) (i : ℕ) → i < length (breaks_from w at before text)
+inside_from : (w at before : ℕ) (text : Text) (i : ℕ) → i < length (breaks_from w at before text)
     → get_or (breaks_from w at before text) i 0 < at + length text
 inside_from w at before [] i = rw (breaks_from-empty w at before) (λ h. absurd (omega (arith, h)))
 inside_from w at before (b ∷ bs) i =

@@ -1,6 +1,7 @@
-use Rattle.std.proofs.Common.{◌≡◌, ◌⊎◌, ◌∙◌, ℕ, List, sym, subst, inl, inr, Some}
+use Rattle.std.proofs.Common.{◌≡◌, ◌⊎◌, ◌∙◌, sym, subst, inl, inr, Some}
 use Rattle.std.proofs.lemmas.Result.{on_ok_weaker}
 use Rattle.std.specs.Option.{option_copied}
+use Rattle.paw_base.specs.Bytes.{RoutineAnswers}
 use Rattle.paw_stage.specs.Stage.{Standing, Unattached, file_bytes, with_store_opened}
 use Rattle.paw_stage.specs.AcrossCalls.{EachMoment}
 use Rattle.paw_stage.proofs.Time.{Passes_map, Passes_on}
@@ -21,7 +22,7 @@ use Rattle.paw_host.proofs.answer.answer.Goals as goal
 -- ---- the attach ----
 
 -- Nothing is answered while the store is attached.
-attaches : (g : Over) (c : After-attach g) (tells : g.S.Stage.Tells c.args.stage.now) (X : List (List ℕ)) (before after : NamedSession)
+attaches : (g : Over) (c : After-attach g) (tells : g.S.Stage.Tells c.args.stage.now) (X : RoutineAnswers) (before after : NamedSession)
     → Stores (story_of c.args.player.now.game X) before (file_bytes (g.S.Stage.standing c.args.stage.now) c.args.store.now)
     → (g.S.Stage.standing c.attach.new.stage ≡ with_store_opened c.args.store.now (g.S.Stage.standing c.args.stage.now))
     ⊎ Unattached (g.S.Stage.standing c.args.stage.now) (g.S.Stage.standing c.attach.new.stage)

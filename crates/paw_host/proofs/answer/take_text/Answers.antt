@@ -1,4 +1,5 @@
-use Rattle.std.proofs.Common.{◌≡◌, ◌+◌, ◌++◌, ◌∙◌, ◌<◌, ℕ, List, ap, arith, length}
+use Rattle.std.proofs.Common.{◌≡◌, ◌+◌, ◌++◌, ◌∙◌, ◌<◌, ap, arith, length}
+use Rattle.paw_base.specs.Bytes.{Lines, RoutineAnswers, Seed}
 use Rattle.paw_base.specs.declared.limits.TheConstants.{EVENT_LIMIT}
 use Rattle.paw_stage.specs.Stage.{Standing}
 use Rattle.paw_stage.specs.AcrossCalls.{EachMoment}
@@ -59,8 +60,8 @@ returns-in-Some-clause-promises g c = λ tells X answers seed es s count stands.
     }
 
 -- Whether the commit was done or failed, its moments are of the line that was taken.
-commits : (g : Over) (c : After-commit g) (tells : g.S.Stage.Tells c.args.stage.now) (X : List (List ℕ))
-    → AreAnswersOf g.F.Fn c.args.player.now.routines X → (seed : ℕ) (es : List (List ℕ))
+commits : (g : Over) (c : After-commit g) (tells : g.S.Stage.Tells c.args.stage.now) (X : RoutineAnswers)
+    → AreAnswersOf g.F.Fn c.args.player.now.routines X → (seed : Seed) (es : Lines)
     → SitsAt (story_of c.args.player.now.game X) seed es c.args.player.now → c.args.opened.events ≡ length es
     → Stands (story_of c.args.player.now.game X) seed es (g.S.Stage.standing c.args.stage.now).disk.bytes
     → EachMoment g.S.Stage c.args.stage.now c.commit.new.stage (InFile (StoresEither (story_of c.args.player.now.game X) (At seed es)

@@ -1,7 +1,8 @@
-use Rattle.std.proofs.Common.{ℕ, Bool, List, not, sym, ap, ◌∙◌}
+use Rattle.std.proofs.Common.{ℕ, Bool, not, sym, ap, ◌∙◌}
 use Rattle.std.specs.List.{list_any}
 use Rattle.std.proofs.lemmas.List.{take_all}
 use Rattle.std.proofs.lemmas.List.Folds.{list_any_more}
+use Rattle.paw_base.specs.Bytes.{Bytes}
 use Rattle.paw_lex.specs.Bytes.{is_allowed}
 use Rattle.paw_lex.proofs.bytes.any_is_forbidden.Goals as goal
 
@@ -15,4 +16,4 @@ pub returns : goal.returns
 returns c =
     let forbidden : ℕ → Bool = λ b. not (is_allowed c.args.text b) in
     let all = take_all c.loop-byte.byte-index c.args.line.now c.loop-byte-test.false in
-    record { value = c.loop-byte.invariant ∙ ap (λ (bs : List ℕ). list_any forbidden bs) all }
+    record { value = c.loop-byte.invariant ∙ ap (λ (bs : Bytes). list_any forbidden bs) all }

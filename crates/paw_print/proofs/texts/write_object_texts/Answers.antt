@@ -1,6 +1,7 @@
 use Rattle.std.proofs.Common.{ℕ, List, [], ◌∷◌, ◌++◌, ◌∙◌, sym, ap, arith}
 use Rattle.std.specs.Prelude.{codes}
 use Rattle.std.proofs.lemmas.List.{take_all}
+use Rattle.paw_base.specs.Bytes.{Lines}
 use Rattle.paw_game.specs.declared.parts.ObjectRow.{ObjectRow}
 use Rattle.paw_print.specs.Lines.{text_lines}
 use Rattle.paw_print.specs.Canonical.{numbered_lines, with_line_ends}
@@ -22,6 +23,6 @@ returns c =
     record {
       writes =
           c.loop-number.invariant
-          ∙ ap (λ (ls : List (List ℕ)). c.args.out.now.items ++ with_line_ends (codes "/OTX" ∷ ls))
+          ∙ ap (λ (ls : Lines). c.args.out.now.items ++ with_line_ends (codes "/OTX" ∷ ls))
           (ap (numbered_lines text_rows 0) all ∙ sym (numbered-map text_lines (λ (o : ObjectRow). o.text) 0 c.args.objects.now));
     }

@@ -1,4 +1,5 @@
-use Rattle.std.proofs.Common.{◌≡◌, ◌∙◌, ℕ, List, refl, sym, subst, inl, inr, Some, None}
+use Rattle.std.proofs.Common.{◌≡◌, ◌∙◌, ℕ, refl, sym, subst, inl, inr, Some, None}
+use Rattle.paw_base.specs.Bytes.{RoutineAnswers}
 use Rattle.paw_stage.specs.declared.StageCall.TheVariants as call
 use Rattle.paw_stage.specs.Stage.{Standing, InAsk}
 use Rattle.paw_stage.specs.AcrossCalls.{EachMoment}
@@ -85,7 +86,7 @@ returns-in-Ok-show-clause-meaning g c = λ tells X answers first start n small b
 -- ---- the moments ----
 
 -- No line came, and nothing changed.
-waits : (g : Over) (c : After-ask g) (tells : g.S.Stage.Tells c.args.stage.now) (X : List (List ℕ)) (first : Sessions) (start : Standing) (n : ℕ)
+waits : (g : Over) (c : After-ask g) (tells : g.S.Stage.Tells c.args.stage.now) (X : RoutineAnswers) (first : Sessions) (start : Standing) (n : ℕ)
     → IsServing (story_of c.args.self.now.player.game X) c.args.hosted.now.seed first start (g.S.Stage.standing c.args.stage.now) n
     → g.S.Stage.standing c.ask.new.self ≡ g.S.Stage.standing c.args.stage.now
     → EachMoment g.S.Stage c.args.stage.now c.ask.new.self (InAsk (g.S.Stage.standing c.args.stage.now) (g.S.Stage.standing c.ask.new.self))
@@ -99,7 +100,7 @@ waits g c tells X first start n s same time =
     (elim i [ inl e ↦ e | inr e ↦ e ∙ same ]))
 
 -- A line came, and what it asks for is done.
-works : (g : Over) (c : After-reply g) (tells : g.S.Stage.Tells c.args.stage.now) (X : List (List ℕ))
+works : (g : Over) (c : After-reply g) (tells : g.S.Stage.Tells c.args.stage.now) (X : RoutineAnswers)
     → AreAnswersOf g.F.Fn c.args.self.now.player.routines X → (first : Sessions) (start : Standing) (n : ℕ)
     → IsServing (story_of c.args.self.now.player.game X) c.args.hosted.now.seed first start (g.S.Stage.standing c.args.stage.now) n
     → EachMoment g.S.Stage c.args.stage.now c.reply.new.stage (InHost (story_of c.args.self.now.player.game X) c.args.hosted.now.seed first start)
@@ -118,7 +119,7 @@ works g c tells X answers first start n s =
     (in_doing story seed first start old mid n a.0 s holds a.1 a.3 _ (cut_request a.0 _ _ _ a.2 refl))
 
 -- And then the reply is shown.
-shows : (g : Over) (c : After-show g) (tells : g.S.Stage.Tells c.args.stage.now) (X : List (List ℕ))
+shows : (g : Over) (c : After-show g) (tells : g.S.Stage.Tells c.args.stage.now) (X : RoutineAnswers)
     → AreAnswersOf g.F.Fn c.args.self.now.player.routines X → (first : Sessions) (start : Standing) (n : ℕ)
     → IsServing (story_of c.args.self.now.player.game X) c.args.hosted.now.seed first start (g.S.Stage.standing c.args.stage.now) n
     → EachMoment g.S.Stage c.args.stage.now c.reply.new.stage (InHost (story_of c.args.self.now.player.game X) c.args.hosted.now.seed first start)

@@ -1,4 +1,5 @@
-use Rattle.std.proofs.Common.{◌≤◌, ℕ, List, None}
+use Rattle.std.proofs.Common.{◌≤◌, None}
+use Rattle.paw_base.specs.Bytes.{RoutineAnswers}
 use Rattle.paw_stage.specs.Disk.{IsStable}
 use Rattle.paw_stage.specs.AcrossCalls.{FailsOnlyBy}
 use Rattle.paw_stage.specs.Moments.{Passes}
@@ -21,10 +22,10 @@ invariant-loop g l = record {
   serves : FailsOnlyBy g.S.Stage session_calls None l.fn.stage l.stage;
   synced : g.S.Stage.Tells l.stage → IsStable (g.S.Stage.standing l.stage).disk;
   taken : g.S.Stage.Tells l.fn.stage → HasTaken (g.S.Stage.standing l.fn.stage) (g.S.Stage.standing l.stage) l.counter;
-  serving : g.S.Stage.Tells l.fn.stage → (X : List (List ℕ)) → AreAnswersOf g.F.Fn l.fn.self.player.routines X → (first : Sessions) →
+  serving : g.S.Stage.Tells l.fn.stage → (X : RoutineAnswers) → AreAnswersOf g.F.Fn l.fn.self.player.routines X → (first : Sessions) →
       BeginsWith (story_of l.fn.self.player.game X) first (g.S.Stage.standing l.fn.stage) →
       IsServing (story_of l.fn.self.player.game X) l.fn.hosted.seed first (g.S.Stage.standing l.fn.stage) (g.S.Stage.standing l.stage) l.counter;
-  passes : g.S.Stage.Tells l.fn.stage → (X : List (List ℕ)) → AreAnswersOf g.F.Fn l.fn.self.player.routines X → (first : Sessions) →
+  passes : g.S.Stage.Tells l.fn.stage → (X : RoutineAnswers) → AreAnswersOf g.F.Fn l.fn.self.player.routines X → (first : Sessions) →
       BeginsWith (story_of l.fn.self.player.game X) first (g.S.Stage.standing l.fn.stage) →
       Passes (g.S.Stage.clock l.fn.stage) (g.S.Stage.clock l.stage) (g.S.Stage.since l.fn.stage) (g.S.Stage.since l.stage)
       (InHost (story_of l.fn.self.player.game X) l.fn.hosted.seed first (g.S.Stage.standing l.fn.stage));
