@@ -7,7 +7,7 @@ use paw_routines::routines::Routines;
 use paw_turn::Player;
 use std::alloc::Global;
 
-/// What a walk shows before each piece.
+/// What a walk shows before each piece, and the player whose steps that needs.
 pub trait Preface: Drop {
     ghost use Rattle.std.specs.Prelude.{◌≡◌, IfOk};
     ghost use Rattle.paw_effects.specs.declared.act.Prompt.TheVariants as prompt;
