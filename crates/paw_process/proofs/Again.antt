@@ -13,6 +13,7 @@ use Rattle.paw_effects.specs.declared.act.Prompt.{Prompt}
 use Rattle.paw_effects.specs.declared.act.Prompt.TheVariants as prompt
 use Rattle.paw_reading.specs.declared.frames.Frame.{Frame}
 use Rattle.paw_reading.specs.declared.frames.OpenLoop.{OpenLoop}
+use Rattle.paw_process.specs.declared.machine.TheConstants.{MOST_FRAMES}
 use Rattle.paw_process.specs.declared.kept.Frames.{Frames}
 use Rattle.paw_process.specs.inner.OpenTables.{OpenTables}
 use Rattle.paw_process.specs.inner.OpenTables.{refilled_to_keep}
@@ -29,7 +30,7 @@ use Rattle.paw_process.specs.inner.Kept.{machine_restored, waiting_at, WaitsAtPr
 
 -- The frames of a path hold it.
 pub path_again : (path : List Frame) (turning : Option OpenLoop) → take (length path) (frames_at path turning).rows ≡ path
-path_again path turning = take-append_seam path (replicate (11 - length path) blank_frame)
+path_again path turning = take-append_seam path (replicate (MOST_FRAMES - length path) blank_frame)
 
 again_at : (m : OpenTables) (waiting : Option Prompt) → m.waiting ≡ waiting → machine_restored (machine_kept m) waiting ≡ refilled_to_keep STEP_LIMIT m
 again_at m waiting is =
@@ -98,19 +99,19 @@ used_then_not g code caller (suc n) d (f ∷ fs) h =
         rw l (ap (λ (s : List Frame). f ∷ s) (later (rw m at q)))
     go later false e q = cc
 
-kept_of : (count : ℕ) (rows : List Frame) (turning : Option OpenLoop) → count ≤ 11 → length rows ≡ 11
+kept_of : (count : ℕ) (rows : List Frame) (turning : Option OpenLoop) → count ≤ MOST_FRAMES → length rows ≡ MOST_FRAMES
     → rows ≡ take count rows ++ replicate (length rows - count) blank_frame
     → frames_at (reverse (reverse (take count rows))) turning ≡ record { count = count; rows = rows; turning = turning }
 kept_of count rows turning low size split =
-    let few : replicate (length rows - count) blank_frame ≡ replicate (11 - count) blank_frame = ap (λ n. replicate (n - count) blank_frame) size in
+    let few : replicate (length rows - count) blank_frame ≡ replicate (MOST_FRAMES - count) blank_frame = ap (λ n. replicate (n - count) blank_frame) size in
     rw (reverse-reverse (take count rows), length_frames rows count (omega arith))
     (ap (λ (s : List Frame). record { count = count; rows = s; turning = turning }) (ap (λ (s : List Frame). take count rows ++ s) (sym few) ∙ sym split))
 
-low_count : (code : Option ℕ) (n : ℕ) → count_fits code n ≡ true → n ≤ 11
+low_count : (code : Option ℕ) (n : ℕ) → count_fits code n ≡ true → n ≤ MOST_FRAMES
 low_count None n h = let z = eqb-true n 0 h in omega arith
-low_count (Some code) n h = leb-true n 11 (second (nat_lt 0 n) _ h)
+low_count (Some code) n h = leb-true n MOST_FRAMES (second (nat_lt 0 n) _ h)
 
-kept_at : (g : GameLists) (code : Option ℕ) (waiting : Option Prompt) (k : Frames) → length k.rows ≡ 11 → fault_at g code k ≡ None
+kept_at : (g : GameLists) (code : Option ℕ) (waiting : Option Prompt) (k : Frames) → length k.rows ≡ MOST_FRAMES → fault_at g code k ≡ None
     → machine_kept (machine_restored k waiting) ≡ k
 kept_at g code waiting k size h = go (count_fits code k.count) refl h
   where
@@ -124,16 +125,16 @@ kept_at g code waiting k size h = go (count_fits code k.count) refl h
     go false e q = cc
 
 -- Frames with no fault are at most eleven.
-pub few_frames : (g : GameLists) (p : Prompt) (k : Frames) → frames_fault g p k ≡ None → k.count ≤ 11
+pub few_frames : (g : GameLists) (p : Prompt) (k : Frames) → frames_fault g p k ≡ None → k.count ≤ MOST_FRAMES
 few_frames g p k h = go (count_fits (waiting_code p) k.count) refl h
   where
     go : (b : Bool) → count_fits (waiting_code p) k.count ≡ b
         → ◌≡◌ {A = Option ℕ}
         (if b then option_or (first_frame_fault g (unwrap_or (waiting_code p) 0) None k.count 0 k.rows) (loop_fault g k k.turning) else Some 0) None
-        → k.count ≤ 11
+        → k.count ≤ MOST_FRAMES
     go true e q = low_count (waiting_code p) k.count e
     go false e q = cc
 
-pub restored_kept : (g : GameLists) (p : Prompt) (waiting : Option Prompt) (k : Frames) → length k.rows ≡ 11 → frames_fault g p k ≡ None
+pub restored_kept : (g : GameLists) (p : Prompt) (waiting : Option Prompt) (k : Frames) → length k.rows ≡ MOST_FRAMES → frames_fault g p k ≡ None
     → machine_kept (machine_restored k waiting) ≡ k
 restored_kept g p waiting k size h = kept_at g (waiting_code p) waiting k size h

@@ -8,6 +8,7 @@ use Rattle.std.specs.Option.{option_or}
 use Rattle.std.proofs.lemmas.Bool.Decides.{nat_tests}
 use Rattle.std.proofs.lemmas.Bool.{eqb-true, ltb-true, leb-true}
 use Rattle.std.proofs.lemmas.List.{length-replicate, length-take, reverse-reverse}
+use Rattle.paw_base.specs.declared.codes.TheConstants.{QUIT, END, ANYKEY, PROCESS, DOALL}
 use Rattle.paw_base.specs.declared.parts.Condact.{Condact}
 use Rattle.paw_game.specs.Game.{GameLists}
 use Rattle.paw_game.specs.Tables.{condact_at}
@@ -25,6 +26,7 @@ use Rattle.paw_process.proofs.OpenFrames.{table_of}
 use Rattle.paw_process.specs.Kept.{count_fits}
 use Rattle.paw_process.specs.inner.Kept.{is_that_table}
 use Rattle.paw_process.specs.inner.Kept.{loop_stands, loop_fault, fault_at, frames_fault}
+use Rattle.paw_process.specs.declared.machine.TheConstants.{MOST_FRAMES}
 use Rattle.paw_process.specs.declared.kept.Frames.{Frames}
 use Rattle.paw_process.proofs.PathFrames.{unused_stand, frame_calls, path_stands, loop_fits, both_none}
 use Rattle.paw_process.proofs.Restored.{first_of, second, no_first, none_open}
@@ -38,22 +40,22 @@ some_table g code (f ∷ path) leads = omega arith
 pub places_fit : (g : GameLists) (code : Option ℕ) (path : List Frame) (turning : Option OpenLoop) → AreOpenAt g code path turning
     → fault_at g code (frames_at path turning) ≡ None
 places_fit g None path turning at =
-    rw (at.0, at.1) (both_none (first_frame_fault g 0 None 0 0 (replicate 11 blank_frame)) None (unused_stand g 0 None 0 11) refl)
+    rw (at.0, at.1) (both_none (first_frame_fault g 0 None 0 0 (replicate MOST_FRAMES blank_frame)) None (unused_stand g 0 None 0 MOST_FRAMES) refl)
 places_fit g (Some code) path turning at =
     let fits : count_fits (Some code) (length path) ≡ true = let few = at.few in let some = some_table g code path at.leads in grind (arith, nat_tests) in
     let opens : may_open None (first_table path) ≡ true = let low = at.outermost in grind (arith, nat_tests) in
     rw fits
-    (both_none (first_frame_fault g code None (length path) 0 (path ++ replicate (11 - length path) blank_frame))
+    (both_none (first_frame_fault g code None (length path) 0 (path ++ replicate (MOST_FRAMES - length path) blank_frame))
     (loop_fault g (frames_at path turning) turning)
-    (path_stands g code None path 0 (11 - length path) at.leads opens)
-    (loop_fits g path (replicate (11 - length path) blank_frame) (length path) turning turning refl at.loop))
+    (path_stands g code None path 0 (MOST_FRAMES - length path) at.leads opens)
+    (loop_fits g path (replicate (MOST_FRAMES - length path) blank_frame) (length path) turning turning refl at.loop))
 
 -- There are eleven frames.
 pub eleven_frames : (g : GameLists) (code : Option ℕ) (path : List Frame) (turning : Option OpenLoop) → AreOpenAt g code path turning
-    → length (frames_at path turning).rows ≡ 11
+    → length (frames_at path turning).rows ≡ MOST_FRAMES
 eleven_frames g None path turning at = rw at.0 refl
 eleven_frames g (Some code) path turning at =
-    omega (arith, length-append path (replicate (11 - length path) blank_frame), length-replicate (11 - length path) blank_frame, at.few)
+    omega (arith, length-append path (replicate (MOST_FRAMES - length path) blank_frame), length-replicate (MOST_FRAMES - length path) blank_frame, at.few)
 
 -- ---- frames that stand are those of a run ----
 
@@ -100,7 +102,7 @@ frames_lead g code caller zero d (f ∷ fs) size h =
 frames_lead g code caller (suc n) d (f ∷ []) size h = absurd (omega arith)
 frames_lead g code caller (suc n) d (f ∷ i ∷ fs) size h =
     let rows = later_frames g code caller (suc n) d f (i ∷ fs) h in
-    let row = frame_says g 85 caller f (sym (frame_calls g code caller n f) ∙ rows.0) in
+    let row = frame_says g PROCESS caller f (sym (frame_calls g code caller n f) ∙ rows.0) in
     let rest = frames_lead g code (Some (parameter_of (condact_at_frame g f))) n (suc d) (i ∷ fs) (omega arith) rows.1 in (
       (
         record {
@@ -126,12 +128,12 @@ loop_in : (g : GameLists) (k : Frames) (o : Option OpenLoop) → loop_fault g k 
 loop_in g k None h = tt
 loop_in g k (Some l) h = go (loop_stands g k l) refl h
   where
-    go : (b : Bool) → loop_stands g k l ≡ b → ◌≡◌ {A = Option ℕ} (if b then None else Some 11) None → IsLoopIn g (tables_of (take k.count k.rows)) l
+    go : (b : Bool) → loop_stands g k l ≡ b → ◌≡◌ {A = Option ℕ} (if b then None else Some MOST_FRAMES) None → IsLoopIn g (tables_of (take k.count k.rows)) l
     go true e q =
         let own = second (nat_lt l.level k.count) _ e in
         let later = second (is_that_table (table_of (slice_get k.rows l.level)) l.table) _ own in
-        let last = second (has_code 86 (condact_at g l.table l.entry l.at)) _ later in
-        let at = coded 86 (condact_at g l.table l.entry l.at) (first_of (has_code 86 (condact_at g l.table l.entry l.at)) _ later) in
+        let last = second (has_code DOALL (condact_at g l.table l.entry l.at)) _ later in
+        let at = coded DOALL (condact_at g l.table l.entry l.at) (first_of (has_code DOALL (condact_at g l.table l.entry l.at)) _ later) in
         record {
           level =
               table_in k.rows k.count l.level l.table (ltb-true l.level k.count (first_of (nat_lt l.level k.count) _ e))
@@ -142,10 +144,11 @@ loop_in g k (Some l) h = go (loop_stands g k l) refl h
         }
     go false e q = cc
 
-open_places : (g : GameLists) (code : ℕ) (k : Frames) → length k.rows ≡ 11 → fault_at g (Some code) k ≡ None → AreOpenTo g code (take k.count k.rows) k.turning
+open_places : (g : GameLists) (code : ℕ) (k : Frames) → length k.rows ≡ MOST_FRAMES → fault_at g (Some code) k ≡ None
+    → AreOpenTo g code (take k.count k.rows) k.turning
 open_places g code k size h = go (count_fits (Some code) k.count) refl h
   where
-    at : (n : ℕ) → 0 < n → n ≤ 11 → n ≡ k.count → first_frame_fault g code None n 0 k.rows ≡ None → loop_fault g k k.turning ≡ None
+    at : (n : ℕ) → 0 < n → n ≤ MOST_FRAMES → n ≡ k.count → first_frame_fault g code None n 0 k.rows ≡ None → loop_fault g k k.turning ≡ None
         → AreOpenTo g code (take k.count k.rows) k.turning
     at zero some few is rows loop = absurd (omega arith)
     at (suc n) some few is rows loop =
@@ -162,14 +165,14 @@ open_places g code k size h = go (count_fits (Some code) k.count) refl h
         → AreOpenTo g code (take k.count k.rows) k.turning
     go true e q =
         let fits = no_first (first_frame_fault g code None k.count 0 k.rows) (loop_fault g k k.turning) q in
-        at k.count (ltb-true 0 k.count (first_of (nat_lt 0 k.count) _ e)) (leb-true k.count 11 (second (nat_lt 0 k.count) _ e)) refl fits.0 fits.1
+        at k.count (ltb-true 0 k.count (first_of (nat_lt 0 k.count) _ e)) (leb-true k.count MOST_FRAMES (second (nat_lt 0 k.count) _ e)) refl fits.0 fits.1
     go false e q = cc
 
 -- The other way round: kept frames that follow their rules are those of a run.
-pub kept_places : (g : GameLists) (p : Prompt) (k : Frames) → length k.rows ≡ 11 → frames_fault g p k ≡ None
+pub kept_places : (g : GameLists) (p : Prompt) (k : Frames) → length k.rows ≡ MOST_FRAMES → frames_fault g p k ≡ None
     → AreFramesAndLoop g p (reverse (reverse (take k.count k.rows))) k.turning
 kept_places g prompt.Main k size h = let closed = none_open g k h in (ap (λ (s : List Frame). reverse s) closed.frames, closed.turning)
-kept_places g prompt.Quit k size h = rw (reverse-reverse (take k.count k.rows)) (open_places g 27 k size h)
-kept_places g prompt.Again k size h = rw (reverse-reverse (take k.count k.rows)) (open_places g 31 k size h)
-kept_places g prompt.Key k size h = rw (reverse-reverse (take k.count k.rows)) (open_places g 35 k size h)
+kept_places g prompt.Quit k size h = rw (reverse-reverse (take k.count k.rows)) (open_places g QUIT k size h)
+kept_places g prompt.Again k size h = rw (reverse-reverse (take k.count k.rows)) (open_places g END k size h)
+kept_places g prompt.Key k size h = rw (reverse-reverse (take k.count k.rows)) (open_places g ANYKEY k size h)
 kept_places g prompt.Over k size h = let closed = none_open g k h in (ap (λ (s : List Frame). reverse s) closed.frames, closed.turning)

@@ -8,6 +8,7 @@ use Rattle.paw_base.specs.inner.Steps.{KeptSteps}
 use Rattle.paw_effects.specs.declared.act.Prompt.{Prompt}
 use Rattle.paw_reading.specs.declared.frames.Frame.{Frame}
 use Rattle.paw_reading.specs.declared.frames.OpenLoop.{OpenLoop}
+use Rattle.paw_process.specs.declared.machine.TheConstants.{MOST_FRAMES}
 use Rattle.paw_process.specs.inner.Kept.{machine_kept, blank_frame}
 use Rattle.paw_process.specs.inner.OpenTables.{OpenTables}
 use Rattle.paw_process.specs.inner.OpenTables.{below}
@@ -62,7 +63,7 @@ length_frames rows n low = omega (arith, length-take n rows)
 
 pub kept_frames : (v : OpenTables) (rows copied : List Frame) (n : ℕ)
     (turning : Option OpenLoop) (waiting : Option Prompt) (left : ℕ) (steps : KeptSteps)
-    → seen rows n turning waiting left steps ≡ v → copied ≡ take n rows → n ≤ 11 → length rows ≡ 11
-    → record { count = n; rows = copied ++ drop n (replicate 11 blank_frame); turning = turning } ≡ machine_kept v
+    → seen rows n turning waiting left steps ≡ v → copied ≡ take n rows → n ≤ MOST_FRAMES → length rows ≡ MOST_FRAMES
+    → record { count = n; rows = copied ++ drop n (replicate MOST_FRAMES blank_frame); turning = turning } ≡ machine_kept v
 kept_frames v rows copied n turning waiting left steps e c low size =
-    rw (← e, c, reverse-reverse (take n rows), length_frames rows n (omega arith), drop_replicate n 11 blank_frame low) refl
+    rw (← e, c, reverse-reverse (take n rows), length_frames rows n (omega arith), drop_replicate n MOST_FRAMES blank_frame low) refl

@@ -6,6 +6,7 @@ use Rattle.std.proofs.Common.{arith}
 use Rattle.std.specs.Prelude.{◌==◌, nat_lt, IfSome}
 use Rattle.std.specs.Option.{option_or}
 use Rattle.std.proofs.lemmas.Bool.Decides.{nat_tests}
+use Rattle.paw_base.specs.declared.codes.TheConstants.{PROCESS, DOALL}
 use Rattle.paw_base.specs.declared.parts.Condact.{Condact}
 use Rattle.paw_game.specs.Game.{GameLists}
 use Rattle.paw_game.specs.Tables.{condact_at}
@@ -39,7 +40,7 @@ frame_goes g code caller n d f fs stands later = let m : suc n - 1 ≡ n = omega
 
 -- A frame before the last that is used.
 pub frame_calls : (g : GameLists) (code : ℕ) (caller : Option ℕ) (n : ℕ) (f : Frame)
-    → frame_stands g code caller (suc (suc n)) f ≡ (may_open caller f.table && has_code 85 (condact_at_frame g f))
+    → frame_stands g code caller (suc (suc n)) f ≡ (may_open caller f.table && has_code PROCESS (condact_at_frame g f))
 frame_calls g code caller n f =
     let some : (suc (suc n) == 0) ≡ false = grind (arith, nat_tests) in
     let more : (suc (suc n) == 1) ≡ false = grind (arith, nat_tests) in
@@ -53,7 +54,7 @@ path_stands g code caller (f ∷ []) d k leads opens =
     (unused_stand g code (Some (parameter_of (condact_at_frame g f))) (suc d) k)
 path_stands g code caller (f ∷ h ∷ path) d k leads opens =
     frame_goes g code caller (suc (length path)) d f ((h ∷ path) ++ replicate k blank_frame)
-    (frame_calls g code caller (length path) f ∙ rw (opens, has 85 leads.0.condact (condact_at_frame g f) leads.0.stands leads.0.process) refl)
+    (frame_calls g code caller (length path) f ∙ rw (opens, has PROCESS leads.0.condact (condact_at_frame g f) leads.0.stands leads.0.process) refl)
     (path_stands g code (Some (parameter_of (condact_at_frame g f))) (h ∷ path) (suc d) k leads.1
     (names leads.0.condact h.table (condact_at_frame g f) leads.0.stands leads.0.called))
 
@@ -79,7 +80,7 @@ loop_fits g path rows count (Some l) p size k =
     rw (
       level,
       frame_of_table path rows l.level l.table k.level,
-      has 86 k.doall.condact (condact_at g l.table l.entry l.at)
+      has DOALL k.doall.condact (condact_at g l.table l.entry l.at)
           k.doall.stands k.doall.is,
       k.place,
       last,

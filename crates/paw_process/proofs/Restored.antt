@@ -8,6 +8,7 @@ use Rattle.std.proofs.lemmas.Bool.Decides.{nat_tests}
 use Rattle.std.proofs.lemmas.Bool.{eqb-true, ltb-true, leb-true}
 use Rattle.std.proofs.lemmas.List.{length-reverse, length-take}
 use Rattle.paw_game.specs.Tables.{condact_at}
+use Rattle.paw_base.specs.declared.codes.TheConstants.{QUIT, END, ANYKEY, PROCESS, DOALL}
 use Rattle.paw_base.specs.declared.parts.Condact.{Condact}
 use Rattle.paw_game.specs.Game.{GameLists}
 use Rattle.paw_game.specs.Valid.{Valid}
@@ -23,6 +24,7 @@ use Rattle.paw_process.proofs.OpenFrames.{table_of}
 use Rattle.paw_process.specs.Kept.{count_fits}
 use Rattle.paw_process.specs.inner.Kept.{loop_stands, loop_fault, fault_at, frames_fault}
 use Rattle.paw_process.specs.inner.Kept.{machine_restored, waiting_at, WaitsAtPrompt}
+use Rattle.paw_process.specs.declared.machine.TheConstants.{MOST_FRAMES}
 use Rattle.paw_process.specs.declared.kept.Frames.{Frames}
 use Rattle.paw_process.specs.inner.OpenTables.{below, IsAtCondact, AtCondacts, InTable, IsLoopWithin, LoopFits}
 use Rattle.paw_process.specs.inner.OpenTables.{IsWaiting, IsClosed}
@@ -63,7 +65,7 @@ second false b h = cc
 used_frame : (g : GameLists) (code : ℕ) (caller : Option ℕ) (n : ℕ) (f : Frame) → Valid g → frame_stands g code caller (suc n) f ≡ true → IsAtCondact f
 used_frame g code caller n f v h =
     let t : (suc n == 0) ≡ false = grind (arith, nat_tests) in
-    coded g f (if suc n == 1 then code else 85) (condact_at_frame g f) v refl (second (may_open caller f.table) _ (rw t at h))
+    coded g f (if suc n == 1 then code else PROCESS) (condact_at_frame g f) v refl (second (may_open caller f.table) _ (rw t at h))
 
 pub at_condacts : (g : GameLists) (code : ℕ) (caller : Option ℕ) (n d : ℕ) (rows : List Frame) → Valid g → first_frame_fault g code caller n d rows ≡ None
     → AtCondacts (take n rows)
@@ -101,13 +103,13 @@ loop_in : (g : GameLists) (k : Frames) (o : Option OpenLoop) → Valid g → loo
 loop_in g k None v h = tt
 loop_in g k (Some l) v h = go (loop_stands g k l) refl h
   where
-    go : (b : Bool) → loop_stands g k l ≡ b → ◌≡◌ {A = Option ℕ} (if b then None else Some 11) None →
+    go : (b : Bool) → loop_stands g k l ≡ b → ◌≡◌ {A = Option ℕ} (if b then None else Some MOST_FRAMES) None →
         IsLoopWithin k.count l
     go true e q =
         let later = second (nat_lt l.level k.count) _ e in
-        let coded_at = first_of (has_code 86 (condact_at g l.table l.entry l.at)) _
+        let coded_at = first_of (has_code DOALL (condact_at g l.table l.entry l.at)) _
         (second (is_that_table (table_of (slice_get k.rows l.level)) l.table) _ later) in
-        let c = coded g (record { table = l.table; entry = l.entry; at = l.at; acted = false }) 86 (condact_at g l.table l.entry l.at) v refl coded_at in
+        let c = coded g (record { table = l.table; entry = l.entry; at = l.at; acted = false }) DOALL (condact_at g l.table l.entry l.at) v refl coded_at in
         record { at = c.at; entry = c.entry; level = ltb-true l.level k.count (first_of (nat_lt l.level k.count) _ e) }
     go false e q = cc
 
@@ -120,7 +122,7 @@ below_in [] h = tt
 below_in (f ∷ fs) h = h.1
 
 -- Kept frames, one to eleven of them, are those of a machine that waits.
-waits_at : (g : GameLists) (p : Prompt) (code : ℕ) (k : Frames) → Valid g → length k.rows ≡ 11 → fault_at g (Some code) k ≡ None
+waits_at : (g : GameLists) (p : Prompt) (code : ℕ) (k : Frames) → Valid g → length k.rows ≡ MOST_FRAMES → fault_at g (Some code) k ≡ None
     → IsWaiting p (machine_restored k (Some p))
 waits_at g p code k v size h = go (count_fits (Some code) k.count) refl h
   where
@@ -130,7 +132,7 @@ waits_at g p code k v size h = go (count_fits (Some code) k.count) refl h
     go true e q =
         let fits = no_first (first_frame_fault g code None k.count 0 k.rows) (loop_fault g k k.turning) q in
         let some : 0 < k.count = ltb-true 0 k.count (first_of (nat_lt 0 k.count) _ e) in
-        let low : k.count ≤ 11 = leb-true k.count 11 (second (nat_lt 0 k.count) _ e) in
+        let low : k.count ≤ MOST_FRAMES = leb-true k.count MOST_FRAMES (second (nat_lt 0 k.count) _ e) in
         let n : length (reverse (take k.count k.rows)) ≡ k.count = omega (arith, length-reverse (take k.count k.rows), length-take k.count k.rows) in
         let all : AtCondacts (reverse (take k.count k.rows)) = reverse_condacts (take k.count k.rows) (at_condacts g code None k.count 0 k.rows v fits.0) in
         record {
@@ -166,10 +168,10 @@ none_open g k h = go (count_fits None k.count) refl h
         record { frames = rw z refl; turning = loop_gone k.turning z fits.1; waiting = refl }
     go false e q = cc
 
-pub stands_at : (g : GameLists) (p : Prompt) (k : Frames) → Valid g → length k.rows ≡ 11 → frames_fault g p k ≡ None →
+pub stands_at : (g : GameLists) (p : Prompt) (k : Frames) → Valid g → length k.rows ≡ MOST_FRAMES → frames_fault g p k ≡ None →
     WaitsAtPrompt p (machine_restored k (waiting_at p))
 stands_at g prompt.Main k v size h = none_open g k h
-stands_at g prompt.Quit k v size h = waits_at g prompt.Quit 27 k v size h
-stands_at g prompt.Again k v size h = waits_at g prompt.Again 31 k v size h
-stands_at g prompt.Key k v size h = waits_at g prompt.Key 35 k v size h
+stands_at g prompt.Quit k v size h = waits_at g prompt.Quit QUIT k v size h
+stands_at g prompt.Again k v size h = waits_at g prompt.Again END k v size h
+stands_at g prompt.Key k v size h = waits_at g prompt.Key ANYKEY k v size h
 stands_at g prompt.Over k v size h = none_open g k h

@@ -5,7 +5,7 @@ use Rattle.std.specs.Prelude.{nat_le, reverse}
 use Rattle.std.proofs.lemmas.Bool.Decides.{nat_tests}
 use Rattle.paw_base.specs.declared.fault.SpentKind.TheVariants as spent
 use Rattle.paw_base.specs.inner.Piece.{Puts}
-use Rattle.paw_base.specs.declared.limits.TheConstants.{PIECE_LIMIT}
+use Rattle.paw_base.specs.declared.limits.TheConstants.{PIECE_LIMIT, LEVEL_LIMIT}
 use Rattle.paw_effects.specs.Story.{Story}
 use Rattle.paw_effects.specs.declared.act.Prompt.{Prompt}
 use Rattle.paw_reading.specs.declared.frames.Frame.{Frame}
@@ -21,6 +21,7 @@ use Rattle.paw_process.proofs.Steps.{settled_waits}
 use Rattle.paw_process.specs.inner.OpenTables.{below}
 use Rattle.paw_process.specs.inner.Meaning.{going_in, SamePast}
 use Rattle.paw_process.specs.inner.Moves.{Continues, loop_resolved, past_of}
+use Rattle.paw_process.specs.declared.machine.TheConstants.{MOST_FRAMES}
 use Rattle.paw_process.specs.declared.Turned.{Turned}
 use Rattle.paw_process.specs.declared.Turned.TheVariants as turned
 
@@ -35,16 +36,16 @@ stops_halted g x t halt fs r s unclosed e h past = rw e (unclosed, s, h, past)
 
 -- ---- calls ----
 
-pub call_deep : (g : Story) (fs : List Frame) (u : ℕ) (r : Run) → 11 ≤ length fs →
+pub call_deep : (g : Story) (fs : List Frame) (u : ℕ) (r : Run) → MOST_FRAMES ≤ length fs →
     along g fs (deeper g (length (below fs)) u r) ≡ halts (halt.TooDeep u) r
 call_deep g fs u r h =
-    let low : 10 ≤ length (below fs) = omega (arith, length_below fs (omega arith)) in
+    let low : LEVEL_LIMIT ≤ length (below fs) = omega (arith, length_below fs (omega arith)) in
     ap (along g fs) (deeper_none g (length (below fs)) u r low) ∙ along_stopped g fs (Halts (halt.TooDeep u)) r
 
-pub call_goes : (g : Story) (fs : List Frame) (u : ℕ) (r : Run) → 0 < length fs → length fs < 11
+pub call_goes : (g : Story) (fs : List Frame) (u : ℕ) (r : Run) → 0 < length fs → length fs < MOST_FRAMES
     → along g fs (deeper g (length (below fs)) u r) ≡ going_in g (record { table = u; entry = 0; at = 0; acted = false } ∷ fs) r
 call_goes g fs u r some low =
-    let deep : length (below fs) < 10 = omega (arith, length_below fs some) in
+    let deep : length (below fs) < LEVEL_LIMIT = omega (arith, length_below fs some) in
     ap (along g fs) (deeper_rest g (length (below fs)) u r deep) ∙ rw (length_below fs some) refl
 
 -- ---- prompts ----

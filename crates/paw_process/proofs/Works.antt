@@ -1,6 +1,7 @@
 -- The measure of reading.
-use Rattle.std.proofs.Common.{◌≡◌, ◌+◌, ◌-◌, ◌*◌, ◌≤◌, ◌<◌, List, [], ◌∷◌, Option, Some, None, refl, ◌∙◌, length}
+use Rattle.std.proofs.Common.{◌≡◌, suc, ◌+◌, ◌-◌, ◌*◌, ◌≤◌, ◌<◌, List, [], ◌∷◌, Option, Some, None, refl, ◌∙◌, length}
 use Rattle.std.proofs.Common.{arith}
+use Rattle.paw_base.specs.declared.limits.TheConstants.{ENTRY_LIMIT}
 use Rattle.paw_reading.specs.declared.frames.Frame.{Frame}
 use Rattle.paw_reading.specs.declared.frames.OpenLoop.{OpenLoop}
 use Rattle.paw_process.specs.inner.OpenTables.{OpenTables}
@@ -14,7 +15,7 @@ pub taking_falls : (old new : OpenTables) (f : Frame) (l l' : OpenLoop) → old.
     → new.frames ≡ f ∷ below old.frames → new.turning ≡ Some l' → l.last < l'.last → l'.last < 256
     → machine_work new ≤ frames_work (below old.frames) + loop_work old.turning
 taking_falls old new f l l' is ef et later low =
-    let a : machine_work new ≡ (4001 - f.entry) + 1 + frames_work (below old.frames) + (256 - l'.last) * 5000 = rw (ef, et) refl in
+    let a : machine_work new ≡ (suc ENTRY_LIMIT - f.entry) + 1 + frames_work (below old.frames) + (256 - l'.last) * 5000 = rw (ef, et) refl in
     let b : loop_work old.turning ≡ (256 - l.last) * 5000 = rw is refl in
     omega arith
 

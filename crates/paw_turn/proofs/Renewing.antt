@@ -9,7 +9,7 @@ use Rattle.paw_base.specs.declared.parts.ObjectFacts.{ObjectFacts}
 use Rattle.paw_base.specs.inner.Piece.{Puts}
 use Rattle.paw_base.specs.declared.messages.TheConstants.{GOODBYE_MESSAGE}
 use Rattle.paw_base.specs.declared.words.TheConstants.{NO_WORD}
-use Rattle.paw_base.specs.declared.limits.TheConstants.{PIECE_LIMIT}
+use Rattle.paw_base.specs.declared.limits.TheConstants.{PIECE_LIMIT, FLAG_COUNT}
 use Rattle.paw_game.specs.Game.{GameLists}
 use Rattle.paw_effects.specs.Story.{Story}
 use Rattle.paw_world.specs.World.{World, flags_with, world_restarted}
@@ -191,7 +191,7 @@ again_told g old new line w false some hears declines world puts stays bytes ear
 
 -- ---- worlds ----
 
-pub length_flags : (carried : ℕ) → length (flags_with carried) ≡ 256
+pub length_flags : (carried : ℕ) → length (flags_with carried) ≡ FLAG_COUNT
 unfolding flags_with
 length_flags carried = refl
 

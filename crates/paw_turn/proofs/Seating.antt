@@ -9,6 +9,7 @@ use Rattle.paw_base.specs.declared.limits.TheConstants.{READ_LIMIT, STEP_LIMIT}
 use Rattle.paw_base.specs.inner.Steps.{KeptSteps}
 use Rattle.paw_base.specs.inner.Steps.{no_steps, steps_only_counted}
 use Rattle.paw_base.specs.declared.words.TheConstants.{NO_WORD}
+use Rattle.paw_base.specs.declared.codes.TheConstants.{QUIT, END, ANYKEY}
 use Rattle.paw_game.specs.Game.{GameLists}
 use Rattle.paw_routines.specs.declared.routines.Routines.{Routines}
 use Rattle.paw_world.specs.World.{World}
@@ -31,6 +32,7 @@ use Rattle.paw_process.specs.Kept.{count_fits, waiting_code}
 use Rattle.paw_process.specs.inner.Kept.{fault_at, frames_fault}
 use Rattle.paw_process.specs.inner.Kept.{machine_restored, waiting_at}
 use Rattle.paw_process.specs.inner.Kept.{WaitsAtPrompt as MachineStandsAt}
+use Rattle.paw_process.specs.declared.machine.TheConstants.{MOST_FRAMES}
 use Rattle.paw_process.specs.declared.kept.Frames.{Frames}
 use Rattle.paw_process.proofs.Restored.{first_of, second, no_first}
 use Rattle.paw_process.proofs.OpenFrames.{table_of}
@@ -57,7 +59,8 @@ first_loop : (g : GameLists) (k : Frames) (o : Option OpenLoop) → loop_fault g
 first_loop g k None h = tt
 first_loop g k (Some l) h = go (loop_stands g k l) refl h
   where
-    go : (b : Bool) → loop_stands g k l ≡ b → ◌≡◌ {A = Option ℕ} (if b then None else Some 11) None → l.level ≡ 0 → l.table ≡ first_table (take k.count k.rows)
+    go : (b : Bool) → loop_stands g k l ≡ b → ◌≡◌ {A = Option ℕ} (if b then None else Some MOST_FRAMES) None
+        → l.level ≡ 0 → l.table ≡ first_table (take k.count k.rows)
     go true e q = λ outermost.
         let low = ltb-true l.level k.count (first_of (nat_lt l.level k.count) _ e) in
         let own = first_of (is_that_table (table_of (slice_get k.rows l.level)) l.table) _ (second (nat_lt l.level k.count) _ e) in
@@ -82,9 +85,9 @@ waits_again g p code k m is stands sound =
 stands_again : (g : GameLists) (at : Prompt) (k : Frames) (m : OpenTables) → m ≡ machine_restored k (waiting_at at) → MachineStandsAt at m
     → frames_fault g at k ≡ None → StandsClosed (prompt_step at) m
 stands_again g prompt.Main k m is stands sound = stands
-stands_again g prompt.Quit k m is stands sound = waits_again g prompt.Quit 27 k m is stands sound
-stands_again g prompt.Again k m is stands sound = waits_again g prompt.Again 31 k m is stands sound
-stands_again g prompt.Key k m is stands sound = waits_again g prompt.Key 35 k m is stands sound
+stands_again g prompt.Quit k m is stands sound = waits_again g prompt.Quit QUIT k m is stands sound
+stands_again g prompt.Again k m is stands sound = waits_again g prompt.Again END k m is stands sound
+stands_again g prompt.Key k m is stands sound = waits_again g prompt.Key ANYKEY k m is stands sound
 stands_again g prompt.Over k m is stands sound = stands
 
 pub restored_fits : RestoredFits
