@@ -4,6 +4,7 @@ use Rattle.std.proofs.Common.{refl, length, arith, length-append}
 use Rattle.paw_base.specs.declared.parts.Condact.{Condact}
 use Rattle.paw_base.specs.declared.fault.SpentKind.TheVariants as spent
 use Rattle.paw_base.specs.declared.flags.TheConstants.{LOCATION_FLAG, VERB_FLAG}
+use Rattle.paw_base.specs.declared.limits.TheConstants.{LEVEL_LIMIT}
 use Rattle.paw_effects.specs.Story.{Story}
 use Rattle.paw_game.specs.Tables.{exit_at}
 use Rattle.paw_world.specs.World.{flag, with_flag}
@@ -170,7 +171,7 @@ called_counts g zero lv u v r h = h
 called_counts g (suc n) lv u v r h = reads_count g (table_called g n (suc lv)) (suc lv) (called_counts g n (suc lv)) u 0 0 false v r h
 
 table_counts : (g : Story) (t : ℕ) → IsCounting (table_read g t)
-table_counts g t = reads_count g (deeper g 0) 0 (called_counts g 10 0) t 0 0 false
+table_counts g t = reads_count g (deeper g 0) 0 (called_counts g LEVEL_LIMIT 0) t 0 0 false
 
 -- ---- turns ----
 

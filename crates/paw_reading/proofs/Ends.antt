@@ -7,6 +7,7 @@ use Rattle.paw_base.specs.declared.fault.SpentKind.TheVariants as spent
 use Rattle.paw_base.specs.declared.flags.TheConstants.{LOCATION_FLAG, VERB_FLAG, PRONOUN_NOUN_FLAG}
 use Rattle.paw_base.specs.declared.flags.TheConstants.{PRONOUN_ADJECTIVE_FLAG}
 use Rattle.paw_base.specs.declared.messages.TheConstants.{TIMEOUT_MESSAGE}
+use Rattle.paw_base.specs.declared.limits.TheConstants.{READ_LIMIT}
 use Rattle.paw_effects.specs.Story.{Story}
 use Rattle.paw_game.specs.Tables.{exit_at}
 use Rattle.paw_world.specs.World.{flag, with_flag}
@@ -96,7 +97,7 @@ at_main_ends : (g : Story) (n : ℕ) (go : TurnPhase → Run → Ending) → End
 unfolding at_main
 at_main_ends g n go h r [] k = λ e. cc
 at_main_ends g n go h r (line ∷ lines) k =
-    let m : brought (line ∷ lines) ≡ length line + 200001 + brought lines = brought_more line lines in
+    let m : brought (line ∷ lines) ≡ length line + (READ_LIMIT + 1) + brought lines = brought_more line lines in
     let s : Run = record r { events = lines } in
     let said : List ℕ = say_text g.game (with_timeout true r.world) TIMEOUT_MESSAGE in
     by_test (is_ignored r.world line) (is_timeout line)

@@ -5,7 +5,7 @@ use Rattle.std.proofs.Common.{None, refl, sym, ap, ◌∙◌, length, arith, app
 use Rattle.std.specs.Prelude.{if◌then◌else◌, nat_lt}
 use Rattle.std.specs.Option.{option_map_or}
 use Rattle.std.proofs.lemmas.Option.{slice_get_past}
-use Rattle.paw_base.specs.declared.limits.TheConstants.{READ_LIMIT}
+use Rattle.paw_base.specs.declared.limits.TheConstants.{READ_LIMIT, LEVEL_LIMIT}
 use Rattle.paw_base.specs.declared.parts.Condact.{Condact}
 use Rattle.paw_base.specs.declared.fault.SpentKind.TheVariants as spent
 use Rattle.paw_game.specs.declared.parts.Entry.{Entry}
@@ -302,15 +302,15 @@ module _ (g : Story) (ps : List (List ℕ)) (ts : List (List Step)) (lines : Lis
   -- ---- levels ----
 
   -- n levels are left.
-  calls_extend : (n lv : ℕ) → 10 - lv ≡ n → AreExtending lv
+  calls_extend : (n lv : ℕ) → LEVEL_LIMIT - lv ≡ n → AreExtending lv
   calls_extend zero lv e u r =
-      let deep : 10 ≤ lv = omega arith in rw (deeper_none g lv u (around ps ts lines r) deep, deeper_none g lv u r deep) refl
+      let deep : LEVEL_LIMIT ≤ lv = omega arith in rw (deeper_none g lv u (around ps ts lines r) deep, deeper_none g lv u r deep) refl
   calls_extend (suc n) lv e u r =
-      let low : lv < 10 = omega arith in
+      let low : lv < LEVEL_LIMIT = omega arith in
       rw (deeper_rest g lv u (around ps ts lines r) low, deeper_rest g lv u r low) (reads_extend (suc lv) (calls_extend n (suc lv) (omega arith)) u 0 0 false r)
 
   pub rest_extends : (lv t e k : ℕ) (a : Bool) (r : Run) → rest_of_table g lv t e k a (around ps ts lines r) ≡ extends lv (rest_of_table g lv t e k a r)
-  rest_extends lv = reads_extend lv (calls_extend (10 - lv) lv refl)
+  rest_extends lv = reads_extend lv (calls_extend (LEVEL_LIMIT - lv) lv refl)
 
   after_call_extends : (lv : ℕ) (f : Frame) (x : Out) → Stops x →
       after_call f (rest_of_table g lv f.table f.entry (suc f.at)) (extends (suc lv) x)
@@ -323,6 +323,6 @@ module _ (g : Story) (ps : List (List ℕ)) (ts : List (List Step)) (lines : Lis
   -- So does going on along a path.
   pub path_extends : (p : Prompt) (lv : ℕ) (path : List Frame) (r : Run) → on_path g p lv path (around ps ts lines r) ≡ extends lv (on_path g p lv path r)
   path_extends p lv [] r = refl
-  path_extends p lv (f ∷ []) r = asked_extends lv (calls_extend (10 - lv) lv refl) p f r
+  path_extends p lv (f ∷ []) r = asked_extends lv (calls_extend (LEVEL_LIMIT - lv) lv refl) p f r
   path_extends p lv (f ∷ h ∷ path) r =
       rw (path_extends p (suc lv) (h ∷ path) r) (after_call_extends lv f (on_path g p (suc lv) (h ∷ path) r) (path_stops g p (suc lv) (h ∷ path) r))

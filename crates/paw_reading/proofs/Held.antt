@@ -5,7 +5,7 @@ use Rattle.std.proofs.Common.{sym, ap, ◌∙◌, subst, length, drop, slice_get
 use Rattle.std.specs.Prelude.{if◌then◌else◌, nat_lt, IfSome}
 use Rattle.std.proofs.lemmas.Bool.Decides.{nat_tests}
 use Rattle.std.proofs.lemmas.Option.{same_Some}
-use Rattle.paw_base.specs.declared.limits.TheConstants.{READ_LIMIT}
+use Rattle.paw_base.specs.declared.limits.TheConstants.{READ_LIMIT, LEVEL_LIMIT}
 use Rattle.paw_base.specs.declared.codes.TheConstants.{QUIT, PROCESS, DOALL}
 use Rattle.paw_base.specs.declared.parts.Condact.{Condact}
 use Rattle.paw_base.specs.declared.parts.ObjectFacts.{ObjectFacts}
@@ -80,7 +80,7 @@ pub record Sound (g : GameLists) (tables : List ℕ) (w : World) (turning : Opti
 pub record WaitsAbove (g : GameLists) (ts : List ℕ) (u : ℕ) (p : Prompt) (path : List Frame) (w : World) (turning : Option OpenLoop) : Type 0 where
   pub code : ℕ
   pub asks : AsksAt code p
-  pub few : length ts + length path ≤ 11
+  pub few : length ts + length path ≤ suc LEVEL_LIMIT
   pub first : first_table path ≡ u
   pub leads : LeadsTo g code path
   pub sound : Sound g (ts ++ tables_of path) w turning
@@ -165,7 +165,7 @@ cancelled g ts w false o k = k
 -- ---- one table ----
 
 -- Table u is read at level lv, above the tables ts.
-module _ (g : Story) (v : Valid g.game) (ts : List ℕ) (lv : ℕ) (deep : length ts ≡ lv) (low : lv ≤ 10) (u : ℕ) where
+module _ (g : Story) (v : Valid g.game) (ts : List ℕ) (lv : ℕ) (deep : length ts ≡ lv) (low : lv ≤ LEVEL_LIMIT) (u : ℕ) where
   -- With these tables and this one.
   abbrev IsSound : Run → Type 0
   IsSound r = Sound g.game (ts ++ u ∷ []) r.world r.turning
@@ -360,7 +360,7 @@ module _ (g : Story) (v : Valid g.game) (ts : List ℕ) (lv : ℕ) (deep : lengt
 one_more : (ts : List ℕ) (u lv : ℕ) → length ts ≡ lv → length (ts ++ u ∷ []) ≡ suc lv
 one_more ts u lv h = omega (arith, length-append ts (u ∷ []), h)
 
-called_held : (g : Story) (v : Valid g.game) (n lv : ℕ) (ts : List ℕ) → length ts ≡ suc lv → n + lv ≡ 10
+called_held : (g : Story) (v : Valid g.game) (n lv : ℕ) (ts : List ℕ) → length ts ≡ suc lv → n + lv ≡ LEVEL_LIMIT
     → (u : ℕ) (r : Run) → Sound g.game ts r.world r.turning → Held g.game ts ts u (table_called g n lv u r)
 unfolding table_called
 called_held g v zero lv ts deep levels u r h = tt
@@ -368,11 +368,11 @@ called_held g v (suc n) lv ts deep levels u r h =
     reads_held g v ts (suc lv) deep (omega arith) u (table_called g n (suc lv))
     (called_held g v n (suc lv) (ts ++ u ∷ []) (one_more ts u (suc lv) deep) (omega arith)) 0 0 false r (widened g.game ts u r.world r.turning h)
 
-deeper_held : (g : Story) (v : Valid g.game) (ts : List ℕ) (lv u : ℕ) → length ts ≡ lv → lv ≤ 10
+deeper_held : (g : Story) (v : Valid g.game) (ts : List ℕ) (lv u : ℕ) → length ts ≡ lv → lv ≤ LEVEL_LIMIT
     → (t : ℕ) (r : Run) → Sound g.game (ts ++ u ∷ []) r.world r.turning → Held g.game (ts ++ u ∷ []) (ts ++ u ∷ []) t (deeper g lv t r)
-deeper_held g v ts lv u deep low = called_held g v (10 - lv) lv (ts ++ u ∷ []) (one_more ts u lv deep) (omega arith)
+deeper_held g v ts lv u deep low = called_held g v (LEVEL_LIMIT - lv) lv (ts ++ u ∷ []) (one_more ts u lv deep) (omega arith)
 
-rest_held : (g : Story) (v : Valid g.game) (ts : List ℕ) (lv u e k : ℕ) → length ts ≡ lv → lv ≤ 10
+rest_held : (g : Story) (v : Valid g.game) (ts : List ℕ) (lv u e k : ℕ) → length ts ≡ lv → lv ≤ LEVEL_LIMIT
     → (a : Bool) (r : Run) → Sound g.game (ts ++ u ∷ []) r.world r.turning → Held g.game ts ts u (rest_of_table g lv u e k a r)
 rest_held g v ts lv u e k deep low a r h = reads_held g v ts lv deep low u (deeper g lv) (deeper_held g v ts lv u deep low) e k a r h
 
@@ -384,7 +384,7 @@ table_held g v t r of none =
 
 -- Going on along a path.
 pub path_held : (g : Story) (v : Valid g.game) (p : Prompt) (code : ℕ) (ts : List ℕ) (lv : ℕ) (f : Frame) (path : List Frame) (r : Run)
-    → length ts ≡ lv → AsksAt code p → length ts + length (f ∷ path) ≤ 11 → LeadsTo g.game code (f ∷ path)
+    → length ts ≡ lv → AsksAt code p → length ts + length (f ∷ path) ≤ suc LEVEL_LIMIT → LeadsTo g.game code (f ∷ path)
     → Sound g.game (ts ++ tables_of (f ∷ path)) r.world r.turning
     → Held g.game ts ts f.table (on_path g p lv (f ∷ path) r)
 path_held g v p code ts lv f [] r deep asks few leads k =

@@ -6,6 +6,7 @@ use Rattle.std.specs.Prelude.{◌==◌, if◌then◌else◌}
 use Rattle.std.specs.Option.{option_map_or}
 use Rattle.std.proofs.lemmas.Bool.Decides.{nat_tests}
 use Rattle.std.proofs.lemmas.Bool.{eqb-true}
+use Rattle.paw_base.specs.declared.limits.TheConstants.{LEVEL_LIMIT}
 use Rattle.paw_base.specs.declared.parts.Condact.{Condact}
 use Rattle.paw_base.specs.declared.fault.SpentKind.TheVariants as spent
 use Rattle.paw_effects.specs.Story.{Story}
@@ -208,4 +209,4 @@ called_keeps g zero lv u r = tt
 called_keeps g (suc n) lv u r = reads_keeps g (table_called g n (suc lv)) (suc lv) (called_keeps g n (suc lv)) u 0 0 false r
 
 pub deeper_keeps : (g : Story) (lv : ℕ) → CallsKeeping (deeper g lv)
-deeper_keeps g lv = called_keeps g (10 - lv) lv
+deeper_keeps g lv = called_keeps g (LEVEL_LIMIT - lv) lv

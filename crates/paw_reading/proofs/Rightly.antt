@@ -4,9 +4,10 @@ use Rattle.std.proofs.Common.{None, refl, sym, ap}
 use Rattle.std.proofs.Common.{subst, length, arith, append-nil}
 use Rattle.std.specs.Prelude.{All}
 use Rattle.std.proofs.Math.ListN.{get_or}
-use Rattle.paw_base.specs.declared.limits.TheConstants.{READ_LIMIT}
+use Rattle.paw_base.specs.declared.limits.TheConstants.{READ_LIMIT, LEVEL_LIMIT}
 use Rattle.paw_base.specs.declared.fault.SpentKind.TheVariants as spent
 use Rattle.paw_base.specs.declared.flags.TheConstants.{LOCATION_FLAG, VERB_FLAG}
+use Rattle.paw_base.specs.declared.codes.TheConstants.{QUIT, END, ANYKEY}
 use Rattle.paw_game.specs.Game.{GameLists}
 use Rattle.paw_game.specs.Tables.{exit_at}
 use Rattle.paw_game.specs.Valid.{Valid}
@@ -62,21 +63,21 @@ time_frame_placed g w k =
 
 -- ---- waits in tables ----
 
-open_to : (g : GameLists) (code t : ℕ) (path : List Frame) (w : World) (o : Option OpenLoop) → t ≤ 2 → length path ≤ 11 → first_table path ≡ t →
+open_to : (g : GameLists) (code t : ℕ) (path : List Frame) (w : World) (o : Option OpenLoop) → t ≤ 2 → length path ≤ suc LEVEL_LIMIT → first_table path ≡ t →
     LeadsTo g code path
     → Sound g (tables_of path) w o → AreOpenTo g code path o
 open_to g code t path w o low few first leads k = record { few = few; outermost = subst (λ u. u ≤ 2) (sym first) low; leads = leads; loop = k.loop }
 
 -- A wait in tables.
-waits_rightly : (g : GameLists) (t code : ℕ) (p : Prompt) (path : List Frame) (r : Run) → t ≤ 2 → AsksAt code p → length path ≤ 11 → first_table path ≡ t
-    → LeadsTo g code path → Sound g (tables_of path) r.world r.turning → (p ≢ prompt.Over) × AreFramesAndLoop g p path r.turning
+waits_rightly : (g : GameLists) (t code : ℕ) (p : Prompt) (path : List Frame) (r : Run) → t ≤ 2 → AsksAt code p → length path ≤ suc LEVEL_LIMIT
+    → first_table path ≡ t → LeadsTo g code path → Sound g (tables_of path) r.world r.turning → (p ≢ prompt.Over) × AreFramesAndLoop g p path r.turning
 waits_rightly g t code prompt.Main path r low asks few first leads k = absurd asks
 waits_rightly g t code prompt.Quit path r low asks few first leads k =
-    (λ e. cc, open_to g 27 t path r.world r.turning low few first (subst (λ c. LeadsTo g c path) asks leads) k)
+    (λ e. cc, open_to g QUIT t path r.world r.turning low few first (subst (λ c. LeadsTo g c path) asks leads) k)
 waits_rightly g t code prompt.Again path r low asks few first leads k =
-    (λ e. cc, open_to g 31 t path r.world r.turning low few first (subst (λ c. LeadsTo g c path) asks leads) k)
+    (λ e. cc, open_to g END t path r.world r.turning low few first (subst (λ c. LeadsTo g c path) asks leads) k)
 waits_rightly g t code prompt.Key path r low asks few first leads k =
-    (λ e. cc, open_to g 35 t path r.world r.turning low few first (subst (λ c. LeadsTo g c path) asks leads) k)
+    (λ e. cc, open_to g ANYKEY t path r.world r.turning low few first (subst (λ c. LeadsTo g c path) asks leads) k)
 waits_rightly g t code prompt.Over path r low asks few first leads k = absurd asks
 
 some_path : (g : GameLists) (code : ℕ) (path : List Frame) (r : Run) → LeadsTo g code path → IsLineTaken path r
@@ -192,9 +193,9 @@ module _ (g : Story) (v : Valid g.game) where
       IsRightly (goes_on g n p path r)
   goes_on_rightly n prompt.Main path r of at =
       at_main_rightly (turn g n) (turn_rightly n) r r.events (record { of = of; none = at.places.1 }) (at.line at.places.0)
-  goes_on_rightly n prompt.Quit path r of at = in_table_rightly n prompt.Quit 27 path r of refl at.places
-  goes_on_rightly n prompt.Again path r of at = in_table_rightly n prompt.Again 31 path r of refl at.places
-  goes_on_rightly n prompt.Key path r of at = in_table_rightly n prompt.Key 35 path r of refl at.places
+  goes_on_rightly n prompt.Quit path r of at = in_table_rightly n prompt.Quit QUIT path r of refl at.places
+  goes_on_rightly n prompt.Again path r of at = in_table_rightly n prompt.Again END path r of refl at.places
+  goes_on_rightly n prompt.Key path r of at = in_table_rightly n prompt.Key ANYKEY path r of refl at.places
   goes_on_rightly n prompt.Over path r of at = record { places = (refl, at.places.1); line = λ e. at.line at.places.0 }
 
 -- ---- all that holds ----

@@ -6,7 +6,7 @@ use Rattle.std.specs.Option.{option_map_or}
 use Rattle.std.proofs.lemmas.Bool.Decides.{nat_tests}
 use Rattle.std.proofs.lemmas.List.{length-drop}
 use Rattle.std.proofs.lemmas.Option.{slice_get_past}
-use Rattle.paw_base.specs.declared.limits.TheConstants.{READ_LIMIT}
+use Rattle.paw_base.specs.declared.limits.TheConstants.{READ_LIMIT, LEVEL_LIMIT}
 use Rattle.paw_base.specs.declared.parts.Condact.{Condact}
 use Rattle.paw_base.specs.declared.fault.SpentKind.TheVariants as spent
 use Rattle.paw_base.specs.declared.flags.TheConstants.{VERB_FLAG, NOUN_FLAG}
@@ -138,14 +138,14 @@ module _ (g : Story) (sub : ℕ → Run → Out) (lv : ℕ) where
   after_call_again f go (Stopped stop r) = refl
 
 -- A table that is called is read at the next level.
-pub deeper_rest : (g : Story) (lv u : ℕ) (r : Run) → lv < 10 → deeper g lv u r ≡ rest_of_table g (suc lv) u 0 0 false r
+pub deeper_rest : (g : Story) (lv u : ℕ) (r : Run) → lv < LEVEL_LIMIT → deeper g lv u r ≡ rest_of_table g (suc lv) u 0 0 false r
 unfolding table_called
-deeper_rest g lv u r h = let e : 10 - lv ≡ suc (10 - suc lv) = omega arith in rw e refl
+deeper_rest g lv u r h = let e : LEVEL_LIMIT - lv ≡ suc (LEVEL_LIMIT - suc lv) = omega arith in rw e refl
 
 -- At the deepest level no table can be called.
-pub deeper_none : (g : Story) (lv u : ℕ) (r : Run) → 10 ≤ lv → deeper g lv u r ≡ halts (halt.TooDeep u) r
+pub deeper_none : (g : Story) (lv u : ℕ) (r : Run) → LEVEL_LIMIT ≤ lv → deeper g lv u r ≡ halts (halt.TooDeep u) r
 unfolding table_called
-deeper_none g lv u r h = let e : 10 - lv ≡ 0 = omega arith in rw e refl
+deeper_none g lv u r h = let e : LEVEL_LIMIT - lv ≡ 0 = omega arith in rw e refl
 
 -- The entry that matches next isn't below the one from which it is looked for, and stands in the table.
 found_within : (verb noun e : ℕ) (es : List Entry) (found : ℕ) → first_match verb noun e es ≡ Some found → (e ≤ found) × (found < e + length es)

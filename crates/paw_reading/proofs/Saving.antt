@@ -2,7 +2,7 @@
 use Rattle.std.proofs.Common.{◌≡◌, ℕ, zero, suc, ◌-◌, Bool, true, false, ◌||◌, List, [], ◌∷◌, Option, Some, None, refl}
 use Rattle.std.proofs.Common.{ap, ◌∙◌, length, drop}
 use Rattle.std.specs.Prelude.{nat_lt}
-use Rattle.paw_base.specs.declared.limits.TheConstants.{READ_LIMIT}
+use Rattle.paw_base.specs.declared.limits.TheConstants.{READ_LIMIT, LEVEL_LIMIT}
 use Rattle.paw_base.specs.declared.parts.Condact.{Condact}
 use Rattle.paw_base.specs.declared.parts.ObjectFacts.{ObjectFacts}
 use Rattle.paw_base.specs.declared.fault.SpentKind.TheVariants as spent
@@ -202,7 +202,7 @@ module _ (g : Story) (never : NeverSaves g.game) (ks : List (Option Position)) w
   called_keeps (suc n) lv u r h = reads_keep (table_called g n (suc lv)) (suc lv) (called_keeps n (suc lv)) u 0 0 false r h
 
   deeper_keeps : (lv : ℕ) → CallsKeeping (deeper g lv)
-  deeper_keeps lv = called_keeps (10 - lv) lv
+  deeper_keeps lv = called_keeps (LEVEL_LIMIT - lv) lv
 
   rest_keeps : (lv t e k : ℕ) → GoesKeeping (rest_of_table g lv t e k)
   rest_keeps lv t e k a r h = reads_keep (deeper g lv) lv (deeper_keeps lv) t e k a r h

@@ -8,6 +8,7 @@ use Rattle.std.proofs.Math.Nat.{min-le_left}
 use Rattle.std.proofs.lemmas.Bool.{ltb-true, leb-true}
 use Rattle.std.proofs.lemmas.List.Elements.{All-append}
 use Rattle.paw_base.specs.declared.limits.TheConstants.{READ_LIMIT, ENTRY_LIMIT, PIECE_LIMIT, CONDACT_LIMIT}
+use Rattle.paw_base.specs.declared.limits.TheConstants.{LEVEL_LIMIT}
 use Rattle.paw_base.specs.declared.parts.Condact.{Condact}
 use Rattle.paw_base.specs.declared.parts.ObjectFacts.{ObjectFacts}
 use Rattle.paw_base.specs.declared.fault.SpentKind.TheVariants as spent
@@ -442,16 +443,17 @@ module _ (g : Story) (valid : ValidStory g) (seed base : ℕ) where
   called_sounds (suc n) lv u r h = reads_sound (table_called g n (suc lv)) (suc lv) (called_sounds n (suc lv)) u 0 0 false r h
 
   table_sounds : (t : ℕ) (r : Run) → Is r → Sounds (table_read g t r)
-  table_sounds t r h = reads_sound (deeper g 0) 0 (called_sounds 10 0) t 0 0 false r h
+  table_sounds t r h = reads_sound (deeper g 0) 0 (called_sounds LEVEL_LIMIT 0) t 0 0 false r h
 
   -- Going on along a path.
   path_sounds : (p : Prompt) (lv : ℕ) (path : List Frame) (r : Run) → Rests r → Sounds (on_path g p lv path r)
   path_sounds p lv [] r k = k.sound
   path_sounds p lv (f ∷ []) r k =
-      again_sounds lv (rest_of_loop g (deeper g lv) lv) (looped_sounds (deeper g lv) lv (called_sounds (10 - lv) lv)) _
-      (asked_sounds p f _ (plain_sounds (deeper g lv) lv (called_sounds (10 - lv) lv) f.table f.entry (suc f.at)) r r.events k k.sound.lines)
+      again_sounds lv (rest_of_loop g (deeper g lv) lv) (looped_sounds (deeper g lv) lv (called_sounds (LEVEL_LIMIT - lv) lv)) _
+      (asked_sounds p f _ (plain_sounds (deeper g lv) lv (called_sounds (LEVEL_LIMIT - lv) lv) f.table f.entry (suc f.at)) r r.events k k.sound.lines)
   path_sounds p lv (f ∷ h ∷ path) r k =
-      after_call_sounds f _ (reads_sound (deeper g lv) lv (called_sounds (10 - lv) lv) f.table f.entry (suc f.at)) _ (path_sounds p (suc lv) (h ∷ path) r k)
+      after_call_sounds f _ (reads_sound (deeper g lv) lv (called_sounds (LEVEL_LIMIT - lv) lv) f.table f.entry (suc f.at)) _
+      (path_sounds p (suc lv) (h ∷ path) r k)
 
   -- ---- turns ----
 

@@ -3,7 +3,7 @@ use Rattle.std.proofs.Common.{◌≡◌, ℕ, zero, suc, ◌+◌, ◌-◌, ◌�
 use Rattle.std.proofs.Common.{arith, length-append}
 use Rattle.std.specs.Prelude.{if◌then◌else◌, sum_by}
 use Rattle.std.proofs.lemmas.List.Sums.{sum_by-cons}
-use Rattle.paw_base.specs.declared.limits.TheConstants.{READ_LIMIT}
+use Rattle.paw_base.specs.declared.limits.TheConstants.{READ_LIMIT, LEVEL_LIMIT}
 use Rattle.paw_base.specs.declared.parts.Condact.{Condact}
 use Rattle.paw_base.specs.declared.fault.SpentKind.TheVariants as spent
 use Rattle.paw_base.specs.declared.flags.TheConstants.{PRONOUN_NOUN_FLAG, PRONOUN_ADJECTIVE_FLAG}
@@ -40,11 +40,11 @@ use Rattle.paw_reading.proofs.EachCondact.{plain_goes}
 
 -- What lines bring.
 abbrev pub brought : List (List ℕ) → ℕ
-brought lines = sum_by (λ line. length line + 200001) lines
+brought lines = sum_by (λ line. length line + (READ_LIMIT + 1)) lines
 
 -- One line more brings so much more.
-pub brought_more : (line : List ℕ) (lines : List (List ℕ)) → brought (line ∷ lines) ≡ length line + 200001 + brought lines
-brought_more line lines = sum_by-cons (λ l. length l + 200001) line lines
+pub brought_more : (line : List ℕ) (lines : List (List ℕ)) → brought (line ∷ lines) ≡ length line + (READ_LIMIT + 1) + brought lines
+brought_more line lines = sum_by-cons (λ l. length l + (READ_LIMIT + 1)) line lines
 
 -- What comes out leaves at most so much to read, and less where the turn begins anew.
 abbrev pub Spends : ℕ → Out → Type 0
@@ -112,7 +112,7 @@ unfolding prompt_asked
 asked_spends g p f go h r [] = tt
 asked_spends g p f go h r (line ∷ lines) =
     let v : ℕ = length r.pending + brought (line ∷ lines) in
-    let m : brought (line ∷ lines) ≡ length line + 200001 + brought lines = brought_more line lines in
+    let m : brought (line ∷ lines) ≡ length line + (READ_LIMIT + 1) + brought lines = brought_more line lines in
     either (Spends v) (is_ignored r.world line) _ _
     (Spends_up (length r.pending + brought lines) v (omega (arith, m)) _ (asked_spends g p f go h (piece_closed (record r { events = lines })) lines))
     (answered_spends g p f go h (reply line) (with_line_heard line (record r { events = lines })) v (omega (arith, m)) (omega (arith, m)))
@@ -201,7 +201,7 @@ called_spend g (suc n) lv u r = reads_spend g (table_called g n (suc lv)) (suc l
 
 -- Reading on at a level spends.
 pub rest_spends : (g : Story) (lv t e k : ℕ) → AreSpending (rest_of_table g lv t e k)
-rest_spends g lv t e k a r = reads_spend g (deeper g lv) lv (called_spend g (10 - lv) lv) t e k a r
+rest_spends g lv t e k a r = reads_spend g (deeper g lv) lv (called_spend g (LEVEL_LIMIT - lv) lv) t e k a r
 
 pub table_spends : (g : Story) (t : ℕ) → IsSpending (table_read g t)
 table_spends g t r = rest_spends g 0 t 0 0 false r
@@ -211,7 +211,7 @@ pub path_spends : (g : Story) (p : Prompt) (lv : ℕ) (path : List Frame) → Is
 path_spends g p lv [] r = omega arith
 path_spends g p lv (f ∷ []) r =
     Spends_up (length r.pending + brought r.events) _ (omega arith) _
-    (again_looped_spends g (deeper g lv) lv (called_spend g (10 - lv) lv) (length r.pending + brought r.events) _
-    (asked_spends g p f _ (plain_spends g (deeper g lv) lv (called_spend g (10 - lv) lv) f.table f.entry (suc f.at)) r r.events))
+    (again_looped_spends g (deeper g lv) lv (called_spend g (LEVEL_LIMIT - lv) lv) (length r.pending + brought r.events) _
+    (asked_spends g p f _ (plain_spends g (deeper g lv) lv (called_spend g (LEVEL_LIMIT - lv) lv) f.table f.entry (suc f.at)) r r.events))
 path_spends g p lv (f ∷ h ∷ path) r =
     after_call_spends f _ (rest_spends g lv f.table f.entry (suc f.at)) (left_to_read r) _ (path_spends g p (suc lv) (h ∷ path) r)

@@ -2,6 +2,7 @@
 use Rattle.std.proofs.Common.{◌≡◌, ℕ, zero, suc, ◌-◌, Bool, true, false, ◌||◌, List, [], ◌∷◌, Option, Some, None, refl}
 use Rattle.std.proofs.Common.{sym, ◌∙◌, subst, length}
 use Rattle.std.specs.Prelude.{if◌then◌else◌}
+use Rattle.paw_base.specs.declared.limits.TheConstants.{LEVEL_LIMIT}
 use Rattle.paw_base.specs.declared.parts.Condact.{Condact}
 use Rattle.paw_base.specs.declared.fault.SpentKind.TheVariants as spent
 use Rattle.paw_effects.specs.Story.{Story}
@@ -175,13 +176,13 @@ module _ (t : ℕ) where
   called_stays g (suc n) lv u r h = reads_stay g (table_called g n (suc lv)) (suc lv) (called_stays g n (suc lv)) u 0 0 (λ z. cc) false r h
 
   pub rest_stays : (g : Story) (lv u e k : ℕ) → IsOwn lv u → GoesStaying lv (rest_of_table g lv u e k)
-  rest_stays g lv u e k own a r h = reads_stay g (deeper g lv) lv (called_stays g (10 - lv) lv) u e k own a r h
+  rest_stays g lv u e k own a r h = reads_stay g (deeper g lv) lv (called_stays g (LEVEL_LIMIT - lv) lv) u e k own a r h
 
   path_stays : (g : Story) (p : Prompt) (lv : ℕ) (f : Frame) (path : List Frame) (r : Run) → IsInner p → IsOwn lv f.table → IsLoopOf t r.turning
       → Stays t lv (on_path g p lv (f ∷ path) r)
   path_stays g p lv f [] r inner own h =
-      again_stays lv (rest_of_loop g (deeper g lv) lv) (looped_stays g (deeper g lv) lv (called_stays g (10 - lv) lv)) _
-      (asked_stays g p lv f _ inner own (plain_stays g (deeper g lv) lv (called_stays g (10 - lv) lv) f.table f.entry (suc f.at) own) r r.events h)
+      again_stays lv (rest_of_loop g (deeper g lv) lv) (looped_stays g (deeper g lv) lv (called_stays g (LEVEL_LIMIT - lv) lv)) _
+      (asked_stays g p lv f _ inner own (plain_stays g (deeper g lv) lv (called_stays g (LEVEL_LIMIT - lv) lv) f.table f.entry (suc f.at) own) r r.events h)
   path_stays g p lv f (i ∷ path) r inner own h =
       after_call_stays lv f _ own (rest_stays g lv f.table f.entry (suc f.at) own) _ (path_stays g p (suc lv) i path r inner (λ z. cc) h)
 

@@ -1,6 +1,7 @@
 -- Where reading stops: a wait has a table open and has taken every line, and where the turn begins anew no loop is
 -- open.
 use Rattle.std.proofs.Common.{◌≡◌, ◌≢◌, ℕ, zero, suc, ◌-◌, Bool, true, false, ◌||◌, List, [], ◌∷◌, None, refl, length}
+use Rattle.paw_base.specs.declared.limits.TheConstants.{LEVEL_LIMIT}
 use Rattle.paw_base.specs.declared.parts.Condact.{Condact}
 use Rattle.paw_base.specs.declared.fault.SpentKind.TheVariants as spent
 use Rattle.paw_effects.specs.Story.{Story}
@@ -146,7 +147,7 @@ called_stops g zero lv u r = tt
 called_stops g (suc n) lv u r = reads_stop g (table_called g n (suc lv)) (suc lv) (called_stops g n (suc lv)) u 0 0 false r
 
 pub deeper_stops : (g : Story) (lv : ℕ) → CallsStopping (deeper g lv)
-deeper_stops g lv = called_stops g (10 - lv) lv
+deeper_stops g lv = called_stops g (LEVEL_LIMIT - lv) lv
 
 -- Reading on at a level stops so.
 pub rest_stops : (g : Story) (lv t e k : ℕ) → AreStopping (rest_of_table g lv t e k)
