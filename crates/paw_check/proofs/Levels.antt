@@ -7,6 +7,7 @@ use Rattle.std.specs.List.{list_any, list_all, AllByRecursion}
 use Rattle.std.proofs.lemmas.Bool.{leb-true}
 use Rattle.std.proofs.lemmas.Bool.Decides.{nat_tests}
 use Rattle.paw_base.specs.declared.codes.TheConstants.{PROCESS}
+use Rattle.paw_base.specs.declared.limits.TheConstants.{LEVEL_LIMIT}
 use Rattle.paw_base.specs.declared.parts.Condact.{Condact}
 use Rattle.paw_base.specs.Condacts.{plain_code}
 use Rattle.paw_game.specs.Game.{GameLists}
@@ -41,7 +42,7 @@ describing : (s : Story) (w : World) (c : Condact) → (effect_of s w c).act.eff
 describing s w c e = subst (MayLead (plain_code c.code)) e (effect_goes s w c)
 
 module _ (s : Story) (v : Valid s.game) (ts : List ℕ) (few : (t : ℕ) → In t ts → t < length s.game.tables) (Describes : Type 0)
-    (may : (n t : ℕ) → n ≤ 10 → In t (called_below s.game ts n) → list_any redescribes (table_condacts s.game t) ≡ true → Describes) where
+    (may : (n t : ℕ) → n ≤ LEVEL_LIMIT → In t (called_below s.game ts n) → list_any redescribes (table_condacts s.game t) ≡ true → Describes) where
   abbrev TablesAt : ℕ → ℕ → Type 0
   TablesAt n t = In t (called_below s.game ts n)
 
@@ -53,7 +54,7 @@ module _ (s : Story) (v : Valid s.game) (ts : List ℕ) (few : (t : ℕ) → In 
     calls : c.code ≡ PROCESS → TablesAt (suc n) c.a
     describes : redescribes c ≡ true → Describes
 
-  on_level : (n t : ℕ) → n ≤ 10 → TablesAt n t → AllByRecursion (λ en. AllByRecursion (OnLevel n) en.condacts) (table_at s.game t)
+  on_level : (n t : ℕ) → n ≤ LEVEL_LIMIT → TablesAt n t → AllByRecursion (λ en. AllByRecursion (OnLevel n) en.condacts) (table_at s.game t)
   on_level n t low at =
       each_of_table s.game v t (OnLevel n)
       (λ c is kept. record { calls = calls_below s.game v ts n t at c is kept; describes = λ e. may n t low at (is redescribes e) })
@@ -87,7 +88,7 @@ module _ (s : Story) (v : Valid s.game) (ts : List ℕ) (few : (t : ℕ) → In 
       inr (subst Empty one none.0, subst Empty other none.1)
 
   -- A table that is called from level lv reads alike with n levels left and with m, where these are all of ten.
-  called_alike : (n m lv : ℕ) → lv + m ≡ 10 → Enough n m lv → (u : ℕ) → TablesAt (suc lv) u → (r : Run) → AtMost lv r.turning →
+  called_alike : (n m lv : ℕ) → lv + m ≡ LEVEL_LIMIT → Enough n m lv → (u : ℕ) → TablesAt (suc lv) u → (r : Run) → AtMost lv r.turning →
       Alike Describes lv (table_called s n lv u r) (table_called s m lv u r)
   unfolding table_called
   called_alike zero zero lv ten enough u at r low = (refl, tt)
@@ -113,19 +114,19 @@ module _ (s : Story) (v : Valid s.game) (ts : List ℕ) (few : (t : ℕ) → In 
   none_there : (lv : ℕ) (o : Option _) → o ≡ None → at_level lv o ≡ None
   none_there lv o e = subst (λ q. at_level lv q ≡ None) (sym e) refl
 
-  from_start : (n : ℕ) → (n ≡ 10) ⊎ (Empty (suc n) × Empty 11) → Enough n 10 0
+  from_start : (n : ℕ) → (n ≡ LEVEL_LIMIT) ⊎ (Empty (suc n) × Empty (suc LEVEL_LIMIT)) → Enough n LEVEL_LIMIT 0
   from_start n (inl e) = inl e
   from_start n (inr none) = let e : suc n ≡ suc (0 + n) = omega arith in inr (subst Empty e none.0, none.1)
 
   -- So does a table at level 0.
-  pub table_alike : (n t : ℕ) → (n ≡ 10) ⊎ (Empty (suc n) × Empty 11) → In t ts → (r : Run) → r.turning ≡ None →
+  pub table_alike : (n t : ℕ) → (n ≡ LEVEL_LIMIT) ⊎ (Empty (suc n) × Empty (suc LEVEL_LIMIT)) → In t ts → (r : Run) → r.turning ≡ None →
       Alike Describes 0 (read_at_level s (table_called s n 0) 0 t 0 0 false r) (table_read s t r)
   unfolding called_below
   table_alike n t enough at r none =
-      reads_alike s Describes 0 0 t (table_called s n 0) (table_called s 10 0) (called_keeps s n 0) (called_keeps s 10 0) r (none_open 0 r.turning none)
-      (none_there 0 r.turning none)
-      (plain_alike s Describes 0 (table_called s n 0) (table_called s 10 0) (TablesAt 1) (called_alike n 10 0 refl (from_start n enough)) (OnLevel 0)
-      (leads_on 0) t
+      reads_alike s Describes 0 0 t (table_called s n 0) (table_called s LEVEL_LIMIT 0) (called_keeps s n 0) (called_keeps s LEVEL_LIMIT 0) r
+      (none_open 0 r.turning none) (none_there 0 r.turning none)
+      (plain_alike s Describes 0 (table_called s n 0) (table_called s LEVEL_LIMIT 0) (TablesAt 1) (called_alike n LEVEL_LIMIT 0 refl (from_start n enough))
+      (OnLevel 0) (leads_on 0) t
       (on_level 0 t (omega arith) at) false r (none_open 0 r.turning none))
 
 -- ---- the tables of a turn ----
@@ -151,7 +152,7 @@ one_of_two t at = grind (arith, nat_tests)
 pub levels_hold : (s : Story) → ValidStory s → call_too_deep s.game ≡ None → CallsWithin (most_levels s.game) s
 levels_hold s valid calm t r low none =
     (table_alike s valid.game turn_tables (λ u at. omega (arith, one_of_three u at, some_tables s.game valid.game)) (Unit {0}) (λ n u few at h. tt)
-    (most_levels s.game) t (inr (none_behind s.game valid.game calm, none_called s.game valid.game turn_tables 10 calm)) (in_three t low) r none).0
+    (most_levels s.game) t (inr (none_behind s.game valid.game calm, none_called s.game valid.game turn_tables LEVEL_LIMIT calm)) (in_three t low) r none).0
 
 never : (x : Out) → Settled ⊥ 0 x → LeavesDescribed x
 never (Left a r) h = tt
@@ -169,4 +170,4 @@ tables_leave_described s t r valid quiet at none =
     (table_alike s valid.game (1 ∷ 2 ∷ []) few ⊥
     (λ n u low two h.
     no_first s.game redescribes _ quiet u (in_reached s.game valid.game (1 ∷ 2 ∷ []) n u low two (of_game s.game valid.game (1 ∷ 2 ∷ []) few n u two)) h)
-    10 t (inl refl) at r none).1
+    LEVEL_LIMIT t (inl refl) at r none).1

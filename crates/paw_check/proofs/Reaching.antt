@@ -8,7 +8,7 @@ use Rattle.std.specs.Option.{option_map_or}
 use Rattle.std.proofs.lemmas.Bool.{or_cases, eqb-true, ltb-true, ltb-false}
 use Rattle.std.proofs.lemmas.Bool.Decides.{nat_tests}
 use Rattle.std.proofs.lemmas.List.Sums.{sum_by-cons}
-use Rattle.paw_base.specs.declared.limits.TheConstants.{ENTRY_LIMIT, CONDACT_LIMIT}
+use Rattle.paw_base.specs.declared.limits.TheConstants.{ENTRY_LIMIT, CONDACT_LIMIT, LEVEL_LIMIT}
 use Rattle.paw_base.specs.declared.codes.TheConstants.{PROCESS}
 use Rattle.paw_base.specs.declared.parts.Condact.{Condact}
 use Rattle.paw_base.specs.declared.rows.ParamKind.TheVariants as kind
@@ -137,10 +137,10 @@ module _ (g : GameLists) (v : Valid g) (ts : List ℕ) where
       )
 
   -- Within ten levels they are reached.
-  pub in_reached : (n t : ℕ) → n ≤ 10 → In t (called_below g ts n) → t < length g.tables → In t (reached_from g ts)
+  pub in_reached : (n t : ℕ) → n ≤ LEVEL_LIMIT → In t (called_below g ts n) → t < length g.tables → In t (reached_from g ts)
   in_reached n t low at few =
-      in_filtered (is_among (flat_map (called_below g ts) (range_with_len 0 11))) (all_tables g) t
-      (any_within (λ m. m == t) (called_below g ts) (range_with_len 0 11) n (in_range 0 11 n (omega arith) (omega arith)) at)
+      in_filtered (is_among (flat_map (called_below g ts) (range_with_len 0 (suc LEVEL_LIMIT)))) (all_tables g) t
+      (any_within (λ m. m == t) (called_below g ts) (range_with_len 0 (suc LEVEL_LIMIT)) n (in_range 0 (suc LEVEL_LIMIT) n (omega arith) (omega arith)) at)
       (in_range 0 (length g.tables) t (omega arith) (omega arith))
 
   -- No table stands at this level.
@@ -208,9 +208,9 @@ module _ (g : GameLists) (v : Valid g) where
           inr (omega (arith, one, more, all))
 
   -- Below as many levels as there are stands no table.
-  pub none_behind : first_with g calls_table (called_below g turn_tables 10) ≡ None → None_at (suc (most_levels g))
-  none_behind calm = go (first_levels 1 10)
+  pub none_behind : first_with g calls_table (called_below g turn_tables LEVEL_LIMIT) ≡ None → None_at (suc (most_levels g))
+  none_behind calm = go (first_levels 1 LEVEL_LIMIT)
     where
-      go : None_at (1 + most_levels g) ⊎ (most_levels g ≡ 10) → None_at (suc (most_levels g))
+      go : None_at (1 + most_levels g) ⊎ (most_levels g ≡ LEVEL_LIMIT) → None_at (suc (most_levels g))
       go (inl none) = let e : 1 + most_levels g ≡ suc (most_levels g) = omega arith in subst None_at e none
-      go (inr all) = let e : suc 10 ≡ suc (most_levels g) = ap suc (sym all) in subst None_at e (none_called g v turn_tables 10 calm)
+      go (inr all) = let e : suc LEVEL_LIMIT ≡ suc (most_levels g) = ap suc (sym all) in subst None_at e (none_called g v turn_tables LEVEL_LIMIT calm)

@@ -7,6 +7,7 @@ use Rattle.std.proofs.Math.Nat.{add-mul, one-mul, mul_comm, mul_assoc, suc-mul}
 use Rattle.std.proofs.lemmas.Bool.{cases_lt}
 use Rattle.std.proofs.lemmas.List.Sums.{sum_by-cons}
 use Rattle.paw_base.specs.declared.codes.TheConstants.{DOALL}
+use Rattle.paw_base.specs.declared.limits.TheConstants.{LEVEL_LIMIT}
 use Rattle.paw_base.specs.declared.parts.Condact.{Condact}
 use Rattle.paw_game.specs.declared.parts.Entry.{Entry}
 use Rattle.paw_game.specs.Game.{GameLists}
@@ -89,6 +90,6 @@ greatest_within f a (suc n) v low high =
 
 -- No verb takes more.
 pub verb_most : (g : GameLists) (own : Condact → ℕ) (t verb : ℕ) → verb < 256 →
-    cost g own (counting (verb_may_change g) verb) 10 t ≤ most_cost g own t
+    cost g own (counting (verb_may_change g) verb) LEVEL_LIMIT t ≤ most_cost g own t
 verb_most g own t verb small =
-    greatest_within (λ v. cost g own (counting (verb_may_change g) v) 10 t) 0 256 verb (omega arith) (omega (arith, small))
+    greatest_within (λ v. cost g own (counting (verb_may_change g) v) LEVEL_LIMIT t) 0 256 verb (omega arith) (omega (arith, small))

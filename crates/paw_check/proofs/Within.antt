@@ -5,7 +5,7 @@ use Rattle.std.proofs.Common.{subst, length, arith, IsTrue}
 use Rattle.std.specs.Prelude.{IfSome, sum_by}
 use Rattle.std.specs.List.{flat_map, list_any}
 use Rattle.std.proofs.lemmas.Bool.Decides.{nat_tests}
-use Rattle.paw_base.specs.declared.limits.TheConstants.{READ_LIMIT, PIECE_LIMIT}
+use Rattle.paw_base.specs.declared.limits.TheConstants.{READ_LIMIT, PIECE_LIMIT, LEVEL_LIMIT}
 use Rattle.paw_base.specs.declared.codes.TheConstants.{PROCESS, DOALL}
 use Rattle.paw_base.specs.declared.parts.Condact.{Condact}
 use Rattle.paw_base.specs.declared.fault.SpentKind.{SpentKind}
@@ -106,7 +106,7 @@ module _ (g : Story) (valid : ValidStory g) (flat : call_too_deep g.game ≡ Non
   of_turn t at = omega (arith, one_of_three t at, some_tables g.game valid.game)
 
   -- Where the verb doesn't change no condact of a table that is reached may write it.
-  quiet : (lv t : ℕ) → lv ≤ 10 → In t (called_below g.game turn_tables lv) → (c : Condact) → Stands t c → changing ≡ false → may_write_verb c ≡ false
+  quiet : (lv t : ℕ) → lv ≤ LEVEL_LIMIT → In t (called_below g.game turn_tables lv) → (c : Condact) → Stands t c → changing ≡ false → may_write_verb c ≡ false
   quiet lv t few at c stands still =
       none_such may_write_verb (flat_map (table_condacts g.game) (reached_from g.game turn_tables)) still c
       (λ p k. any_within p (table_condacts g.game) (reached_from g.game turn_tables) t
@@ -123,7 +123,7 @@ module _ (g : Story) (valid : ValidStory g) (flat : call_too_deep g.game ≡ Non
   loops_take k c h = rw h refl
 
   -- A table that is read from its start.
-  table_end : (n lv t : ℕ) → lv ≤ 10 → In t (called_below g.game turn_tables lv) → CallsEnd n lv t → (m : ℕ) (r : Run) → Steadily lv r →
+  table_end : (n lv t : ℕ) → lv ≤ LEVEL_LIMIT → In t (called_below g.game turn_tables lv) → CallsEnd n lv t → (m : ℕ) (r : Run) → Steadily lv r →
       at_level lv r.turning ≡ None → used kind r ≤ m → m + cost g.game own count n t ≤ limit →
       EndsSo (Shut lv (m + cost g.game own count n t)) (m + cost g.game own count n t) (read_at_level g (table_called g n lv) lv t 0 0 false r)
   table_end n lv t few at calls m r k none u fits =
@@ -161,11 +161,11 @@ module _ (g : Story) (valid : ValidStory g) (flat : call_too_deep g.game ≡ Non
     closed = k.closed;
   }
 
-  calls_end : (n lv t : ℕ) → n + lv ≡ 10 → In t (called_below g.game turn_tables lv) → CallsEnd n lv t
+  calls_end : (n lv t : ℕ) → n + lv ≡ LEVEL_LIMIT → In t (called_below g.game turn_tables lv) → CallsEnd n lv t
   unfolding table_called
   calls_end zero lv t deep at c stands calls m r k u fits =
-      let ten : lv ≡ 10 = omega (arith, deep) in
-      absurd (no_first g.game calls_table (called_below g.game turn_tables 10) flat t (rw ten at at) (stands.0 calls_table (rw calls refl)))
+      let ten : lv ≡ LEVEL_LIMIT = omega (arith, deep) in
+      absurd (no_first g.game calls_table (called_below g.game turn_tables LEVEL_LIMIT) flat t (rw ten at at) (stands.0 calls_table (rw calls refl)))
   calls_end (suc n) lv t deep at c stands calls m r k u fits =
       let under : In c.a (called_below g.game turn_tables (suc lv)) =
       calls_below g.game valid.game turn_tables lv t at c stands.0 stands.1 calls in
@@ -180,16 +180,16 @@ module _ (g : Story) (valid : ValidStory g) (flat : call_too_deep g.game ≡ Non
 
   -- A table of a turn.
   pub turn_table_end : (t m : ℕ) (r : Run) → In t turn_tables → Steadily 0 r → r.turning ≡ None → used kind r ≤ m →
-      m + cost g.game own count 10 t ≤ limit →
-      EndsSo (Shut 0 (m + cost g.game own count 10 t)) (m + cost g.game own count 10 t) (table_read g t r)
+      m + cost g.game own count LEVEL_LIMIT t ≤ limit →
+      EndsSo (Shut 0 (m + cost g.game own count LEVEL_LIMIT t)) (m + cost g.game own count LEVEL_LIMIT t) (table_read g t r)
   unfolding called_below
   turn_table_end t m r at k none u fits =
-      table_end 10 0 t (omega arith) at (calls_end 10 0 t refl at) m r k (rw none refl) u fits
+      table_end LEVEL_LIMIT 0 t (omega arith) at (calls_end LEVEL_LIMIT 0 t refl at) m r k (rw none refl) u fits
 
   -- The same for a run outside tables, where the table costs at most this.
   pub ready_table_end : (t m most condacts text : ℕ) (r : Run) → In t turn_tables → IsReadyWithin condacts text pending g.game r →
       (changing ≡ false → flag r.world VERB_FLAG ≡ verb) → Closed kind limit r.traces r.pieces → used kind r ≤ m →
-      cost g.game own count 10 t ≤ most → m + most ≤ limit → EndsSo (Shut 0 (m + most)) (m + most) (table_read g t r)
+      cost g.game own count LEVEL_LIMIT t ≤ most → m + most ≤ limit → EndsSo (Shut 0 (m + most)) (m + most) (table_read g t r)
   ready_table_end t m most condacts text r at ready speaks closed u least fits =
       ends_up g valid kind limit pending changing verb low bye _ (Shut 0 (m + most)) _ (m + most) (omega (arith, least))
       (λ s i. (i.0, (i.1.0, omega (arith, i.1.1, least)))) (table_read g t r)
@@ -255,8 +255,8 @@ tables_within g condacts text pending reads bytes t r valid flat bound low ready
     let no_bye : (w : World) → IsWorldOf g.game w → 0 ≤ condacts = λ w k. omega arith in
     let bye : (w : World) → IsWorldOf g.game w → length (say_text g.game w GOODBYE_MESSAGE) ≤ text =
     λ w k. omega (arith, say_most g.game w GOODBYE_MESSAGE, bound.goodbye) in
-    let reads_most : cost g.game (λ c. 1) (counting (verb_may_change g.game) verb) 10 t ≤ reads_of g.game t = verb_most g.game (λ c. 1) t verb small in
-    let text_most : cost g.game (most_text g.game) (counting (verb_may_change g.game) verb) 10 t ≤ table_text g.game t =
+    let reads_most : cost g.game (λ c. 1) (counting (verb_may_change g.game) verb) LEVEL_LIMIT t ≤ reads_of g.game t = verb_most g.game (λ c. 1) t verb small in
+    let text_most : cost g.game (most_text g.game) (counting (verb_may_change g.game) verb) LEVEL_LIMIT t ≤ table_text g.game t =
     verb_most g.game (most_text g.game) t verb small in
     both g valid condacts text pending verb (reads + reads_of g.game t) (bytes + table_text g.game t) bound.reads bound.bytes no_bye bye (table_read g t r)
     (ready_table_end g valid flat spent.Condacts condacts pending verb bound.reads no_bye t reads (reads_of g.game t) condacts text r at ready

@@ -1,5 +1,6 @@
 use Rattle.std.proofs.Common.{◌≡◌, arith}
 use Rattle.std.proofs.Math.Numerals.{add-one}
+use Rattle.paw_base.specs.declared.limits.TheConstants.{LEVEL_LIMIT}
 use Rattle.paw_check.specs.inner.Own.{own_in}
 use Rattle.paw_check.proofs.LevelLaws.{first_costs, next_costs}
 use Rattle.paw_check.proofs.costs.costs.Goals as goal
@@ -20,6 +21,6 @@ loop-preserved c = record {
 
 pub returns-clause-value : goal.returns-clause-value
 returns-clause-value c =
-    let last : c.loop.counter ≡ 10 = omega (arith, c.loop-test.false, c.loop.auto.counter-end) in
+    let last : c.loop.counter ≡ LEVEL_LIMIT = omega (arith, c.loop-test.false, c.loop.auto.counter-end) in
     let costs = rw last at c.loop.invariant.costs in
     costs

@@ -1,6 +1,7 @@
 use Rattle.std.proofs.Common.{◌≡◌, ap, ◌∙◌, sym, refl, arith, cond, suc, length, nat_lt, ℕ, false, filter, rules}
 use Rattle.std.specs.List.{slice_index_or, range_with_len}
 use Rattle.std.proofs.Math.Numerals.{add-one}
+use Rattle.paw_base.specs.declared.limits.TheConstants.{LEVEL_LIMIT}
 use Rattle.paw_game.specs.Game.{GameLists}
 use Rattle.paw_check.specs.Calls.{called_below}
 use Rattle.paw_check.specs.Verbs.{is_among}
@@ -38,8 +39,8 @@ loop-preserved c =
 
 pub returns-clause-all : goal.returns-clause-all
 returns-clause-all c =
-    let last : c.loop.counter ≡ 10 = omega (arith, c.loop-test.false, c.loop.auto.counter-end) in
+    let last : c.loop.counter ≡ LEVEL_LIMIT = omega (arith, c.loop-test.false, c.loop.auto.counter-end) in
     let marks = rw last at c.loop.invariant.marks in
     c.in_ok-all.ensures.value
     ∙ ap (λ (n : ℕ). filter (λ u. slice_index_or c.loop.marks u false) (range_with_len 0 n)) (search rules)
-    ∙ marked_filter c.args.parts.now c.args.from.now 11 c.loop.marks (length c.args.parts.now.tables) c.requires.few marks
+    ∙ marked_filter c.args.parts.now c.args.from.now (suc LEVEL_LIMIT) c.loop.marks (length c.args.parts.now.tables) c.requires.few marks
