@@ -10,7 +10,7 @@ use Rattle.std.proofs.lemmas.List.{get_or_past}
 use Rattle.std.proofs.lemmas.List.Elements.{All-set, All-map, All-replicate}
 use Rattle.std.proofs.lemmas.Option.{slice_get-get_or}
 use Rattle.paw_base.specs.declared.places.TheConstants.{NOT_CREATED_PLACE, HERE_PLACE, CARRIED_PLACE}
-use Rattle.paw_base.specs.declared.limits.TheConstants.{LOCATION_LIMIT}
+use Rattle.paw_base.specs.declared.limits.TheConstants.{LOCATION_LIMIT, POSITION_COUNT}
 use Rattle.paw_base.specs.declared.codes.TheConstants.{AUTOP, PUTIN, PLACE, PUTO, DOALL}
 use Rattle.paw_base.specs.declared.parts.Condact.{Condact}
 use Rattle.paw_base.specs.declared.parts.ObjectFacts.{ObjectFacts}
@@ -119,7 +119,7 @@ begins_placed : (g : GameLists) (facts : List ObjectFacts) → Valid g → facts
 begins_placed g facts v is = subst (λ fs. ArePlacesOf g (opening_places fs)) (sym is) (opening_at g v)
 
 pub opened_placed : (g : GameLists) (seed : ℕ) → Valid g → IsPlaced g (starting_world (map (λ o. o.facts) g.objects) (length g.locations) seed)
-opened_placed g seed v = (refl, (refl, (opening_at g v, (tt, All-replicate (StandsIn g) 4 None tt))))
+opened_placed g seed v = (refl, (refl, (opening_at g v, (tt, All-replicate (StandsIn g) POSITION_COUNT None tt))))
 
 pub restarted_placed : (g : GameLists) (w : World) → Valid g → IsPlaced g w → IsPlaced g (world_restarted w)
 restarted_placed g w v k = (k.0, (k.1.0, (begins_placed g w.facts v k.0, k.1.1.1)))

@@ -12,10 +12,12 @@ use Rattle.std.proofs.lemmas.List.{length-set, length-map, get_or_past}
 use Rattle.std.proofs.lemmas.List.Elements.{All-set, All-replicate}
 use Rattle.std.proofs.lemmas.List.Sums.{count_by-le-length}
 use Rattle.std.proofs.lemmas.Option.{slice_get-map}
-use Rattle.paw_base.specs.declared.words.TheConstants.{LEAST_WORD, GREATEST_WORD, NO_WORD}
+use Rattle.paw_base.specs.declared.words.TheConstants.{LEAST_WORD, GREATEST_WORD, NO_WORD, ADVERB_CLASS, NOUN_CLASS}
+use Rattle.paw_base.specs.declared.words.TheConstants.{ADJECTIVE_CLASS, PREPOSITION_CLASS}
 use Rattle.paw_base.specs.declared.places.TheConstants.{NOT_CREATED_PLACE, CARRIED_PLACE, HERE_PLACE}
 use Rattle.paw_base.specs.declared.limits.TheConstants.{LOCATION_LIMIT, WORD_LIMIT, STARTING_CARRIED, STARTING_WEIGHT}
-use Rattle.paw_base.specs.declared.limits.TheConstants.{OBJECT_LIMIT}
+use Rattle.paw_base.specs.declared.limits.TheConstants.{OBJECT_LIMIT, POSITION_COUNT, MESSAGE_LIMIT, SYSTEM_LIMIT}
+use Rattle.paw_base.specs.declared.limits.TheConstants.{TABLE_LEAST, TABLE_LIMIT, WEIGHT_LEVELS, FLAG_COUNT}
 use Rattle.paw_base.specs.declared.parts.ObjectFacts.{ObjectFacts}
 use Rattle.paw_base.specs.declared.rows.ParamKind.{ParamKind}
 use Rattle.paw_base.specs.declared.rows.ParamKind.TheVariants as kind
@@ -46,7 +48,7 @@ pub record IsWorldAt (g : GameLists) (seed n : ℕ) (w : World) : Type 0 where
   pub places : ArePlacesOf g w.places
   pub flags : AreBytes w.flags
   pub saved : MayBePosition g w.saved
-  pub four : length w.kept ≡ 4
+  pub four : length w.kept ≡ POSITION_COUNT
   pub kept : All (MayBePosition g) w.kept
   pub seeded : w.seed ≡ seed
   pub draws : w.draws ≤ n
@@ -82,14 +84,16 @@ pub few_objects : (g : GameLists) → Valid g → length g.objects ≤ OBJECT_LI
 few_objects g v = leb-true (length g.objects) OBJECT_LIMIT
     (first_of_and (nat_le (length g.objects) OBJECT_LIMIT) _ v.objects)
 
-few_messages : (g : GameLists) → Valid g → length g.messages ≤ 256
-few_messages g v = leb-true (length g.messages) 256 (first_of_and (nat_le (length g.messages) 256) _ v.messages)
+few_messages : (g : GameLists) → Valid g → length g.messages ≤ MESSAGE_LIMIT
+few_messages g v = leb-true (length g.messages) MESSAGE_LIMIT (first_of_and (nat_le (length g.messages) MESSAGE_LIMIT) _ v.messages)
 
-few_system : (g : GameLists) → Valid g → length g.system ≤ 256
-few_system g v = leb-true (length g.system) 256 (first_of_and (nat_le (length g.system) 256) _ v.system)
+few_system : (g : GameLists) → Valid g → length g.system ≤ SYSTEM_LIMIT
+few_system g v = leb-true (length g.system) SYSTEM_LIMIT (first_of_and (nat_le (length g.system) SYSTEM_LIMIT) _ v.system)
 
-few_tables : (g : GameLists) → Valid g → length g.tables ≤ 256
-few_tables g v = leb-true (length g.tables) 256 (second_of_and (nat_le 3 (length g.tables)) _ (first_of_and (is_within 3 256 (length g.tables)) _ v.tables))
+few_tables : (g : GameLists) → Valid g → length g.tables ≤ TABLE_LIMIT
+few_tables g v =
+    leb-true (length g.tables) TABLE_LIMIT
+    (second_of_and (nat_le TABLE_LEAST (length g.tables)) _ (first_of_and (is_within TABLE_LEAST TABLE_LIMIT (length g.tables)) _ v.tables))
 
 value_small : (w : Word) → IsTrue (is_word w) → w.value < 256
 value_small w h =
@@ -131,10 +135,10 @@ parameter_small g v kind.Number x h = ltb-true x 256 h
 parameter_small g v kind.Message x h = omega (arith, ltb-true x (length g.messages) h, few_messages g v)
 parameter_small g v kind.System x h = omega (arith, ltb-true x (length g.system) h, few_system g v)
 parameter_small g v kind.Table x h = omega (arith, ltb-true x (length g.tables) h, few_tables g v)
-parameter_small g v kind.Adverb x h = word_or_none_small g v 1 x h
-parameter_small g v kind.Noun x h = word_or_none_small g v 2 x h
-parameter_small g v kind.Adjective x h = word_or_none_small g v 3 x h
-parameter_small g v kind.Preposition x h = word_or_none_small g v 4 x h
+parameter_small g v kind.Adverb x h = word_or_none_small g v ADVERB_CLASS x h
+parameter_small g v kind.Noun x h = word_or_none_small g v NOUN_CLASS x h
+parameter_small g v kind.Adjective x h = word_or_none_small g v ADJECTIVE_CLASS x h
+parameter_small g v kind.Preposition x h = word_or_none_small g v PREPOSITION_CLASS x h
 
 -- So is one that arises in play.
 pub argument_small : (g : GameLists) → Valid g → (k : ParamKind) (x : ℕ) → IsTrue (is_argument g k x) → x < 256
@@ -153,10 +157,10 @@ pub facts_small : (g : GameLists) → Valid g → (o : ℕ) (f : ObjectFacts) �
 facts_small g v o f e =
     let kept = facts_kept g v o f e in
     record {
-      noun = word_or_none_small g v 2 f.noun (first_of_and (is_word_or_none g.words 2 f.noun) _ kept);
+      noun = word_or_none_small g v NOUN_CLASS f.noun (first_of_and (is_word_or_none g.words NOUN_CLASS f.noun) _ kept);
       adjective =
-          word_or_none_small g v 3 f.adjective
-          (first_of_and (is_word_or_none g.words 3 f.adjective) _ (second_of_and (is_word_or_none g.words 2 f.noun) _ kept));
+          word_or_none_small g v ADJECTIVE_CLASS f.adjective
+          (first_of_and (is_word_or_none g.words ADJECTIVE_CLASS f.adjective) _ (second_of_and (is_word_or_none g.words NOUN_CLASS f.noun) _ kept));
     }
 
 -- The facts of a world are those of the game.
@@ -277,7 +281,7 @@ module _ (g : GameLists) (v : Valid g) (seed : ℕ) where
         subst (λ found. filled_weight found contents < 256) (sym (facts_are w k o)) (filled_small o contents (facts_at g o) refl)
 
     pub weight_small : (w : World) → IsWorldAt g seed n w → (o : ℕ) → weight w o < 256
-    weight_small w k o = weight_down_small w k 10 o
+    weight_small w k o = weight_down_small w k WEIGHT_LEVELS o
 
   -- ---- places and flags at the start ----
 
@@ -294,8 +298,8 @@ module _ (g : GameLists) (v : Valid g) (seed : ℕ) where
       ArePlacesOf g (opening_places (map (λ o. o.facts) os))
   starts_are_places [] all k d low = absurd (omega arith)
   starts_are_places (o ∷ os) all zero d low =
-      first_of_and (is_place (length g.locations) o.facts.start) _ (second_of_and (is_word_or_none g.words 3 o.facts.adjective) _
-      (second_of_and (is_word_or_none g.words 2 o.facts.noun) _
+      first_of_and (is_place (length g.locations) o.facts.start) _ (second_of_and (is_word_or_none g.words ADJECTIVE_CLASS o.facts.adjective) _
+      (second_of_and (is_word_or_none g.words NOUN_CLASS o.facts.noun) _
       (second_of_and (is_text o.text) _ (first_of_and (is_object g.words (length g.locations) o) _ all))))
   starts_are_places (o ∷ os) all (suc k) d low = starts_are_places os (second_of_and (is_object g.words (length g.locations) o) _ all) k d (omega arith)
 
@@ -307,7 +311,7 @@ module _ (g : GameLists) (v : Valid g) (seed : ℕ) where
 
   -- 256 flags that are bytes.
   record AreFlags (flags : List ℕ) : Type 0 where
-    all : length flags ≡ 256
+    all : length flags ≡ FLAG_COUNT
     bytes : AreBytes flags
 
   one_set : (flags : List ℕ) → AreFlags flags → (f x : ℕ) → x < 256 → AreFlags (slice_set flags f x)
@@ -319,9 +323,9 @@ module _ (g : GameLists) (v : Valid g) (seed : ℕ) where
   flags_at_start : (carried : ℕ) → carried < 256 → AreFlags (flags_with carried)
   unfolding flags_with
   flags_at_start carried small =
-      let blank : AreFlags (replicate 256 0) = record { all = refl; bytes = All-replicate (λ b. b < 256) 256 0 (omega arith) } in
+      let blank : AreFlags (replicate FLAG_COUNT 0) = record { all = refl; bytes = All-replicate (λ b. b < 256) FLAG_COUNT 0 (omega arith) } in
       one_set _ (one_set _ (none_set _ (none_set _ (none_set _ (none_set _ (none_set _ (none_set _
-      (none_set _ (none_set _ (none_set _ (none_set _ (one_set (replicate 256 0) blank CARRIED_FLAG carried small)
+      (none_set _ (none_set _ (none_set _ (none_set _ (one_set (replicate FLAG_COUNT 0) blank CARRIED_FLAG carried small)
       VERB_FLAG) NOUN_FLAG) ADJECTIVE_FLAG) ADVERB_FLAG) PREPOSITION_FLAG) SECOND_NOUN_FLAG) SECOND_ADJECTIVE_FLAG)
       PRONOUN_NOUN_FLAG) PRONOUN_ADJECTIVE_FLAG) REFERRED_FLAG) MOST_CARRIED_FLAG STARTING_CARRIED (omega arith))
       MOST_WEIGHT_FLAG STARTING_WEIGHT (omega arith)
@@ -335,7 +339,7 @@ module _ (g : GameLists) (v : Valid g) (seed : ℕ) where
         flags = start.bytes;
         saved = tt;
         four = refl;
-        kept = All-replicate (MayBePosition g) 4 None tt;
+        kept = All-replicate (MayBePosition g) POSITION_COUNT None tt;
         seeded = refl;
         draws = omega arith;
       }

@@ -3,6 +3,7 @@ use Rattle.std.proofs.Common.{◌≡◌, ℕ, ◌<◌, List, ◌++◌, length, g
 use Rattle.std.specs.Prelude.{slice_index, codes, decimal}
 use Rattle.std.proofs.lemmas.List.{get_or_append_left, get_or-take}
 use Rattle.paw_base.specs.declared.flags.TheConstants.{LOW_TURNS_FLAG, HIGH_TURNS_FLAG, LOCATION_FLAG, CARRIED_FLAG}
+use Rattle.paw_base.specs.declared.limits.TheConstants.{FLAG_COUNT}
 use Rattle.paw_game.specs.Game.{GameLists}
 use Rattle.paw_reading.specs.Turn.{Ending, WaitsAt}
 use Rattle.paw_journal.specs.Session.{Digests, Recovered, Shown, recover, state_length}
@@ -32,8 +33,8 @@ module _ (g : GameLists) (n : ℕ) (buffer piece : List ℕ) (r : Recovered) (di
   counts : (e : Ending) (own : Digests) → IsSettled g n e → Waits e → IsKept own n e r → IsTallyOf e (tally_in buffer)
   counts (WaitsAt p path s) own settled w kept =
       let same : take state_length buffer ≡ kept_bytes (state_at n p path s) = same_state _ _ _ _ _ _ (sym is ∙ kept.shown) in
-      let size : length s.world.flags ≡ 256 = settled.valid.world.flags in
-      let flag_at : (i : ℕ) → i < 256 → slice_index buffer i ≡ slice_index s.world.flags i = λ i low.
+      let size : length s.world.flags ≡ FLAG_COUNT = settled.valid.world.flags in
+      let flag_at : (i : ℕ) → i < FLAG_COUNT → slice_index buffer i ≡ slice_index s.world.flags i = λ i low.
       sym (get_or-take state_length buffer i 0 (omega (arith, low)))
       ∙ (ap (λ xs. get_or xs i 0) same ∙ flags_first (state_at n p path s) i (omega (arith, low, size))) in
       let a = flag_at LOW_TURNS_FLAG (omega arith) in
