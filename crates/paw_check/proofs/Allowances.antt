@@ -1,6 +1,7 @@
 -- How much the phrases of a line may take.
 use Rattle.std.proofs.Common.{◌≡◌, ℕ, suc, ◌+◌, ◌*◌, ◌/◌, ◌≤◌, List, inl, inr, length, arith}
 use Rattle.std.proofs.lemmas.Nat.{mul-le}
+use Rattle.paw_base.specs.declared.limits.TheConstants.{LINE_LIMIT}
 use Rattle.paw_phrase.specs.inner.Leaving.{IsTwoLess}
 
 -- The most phrases in a number of bytes.
@@ -30,6 +31,6 @@ phrase_less w pending rest some (inl none) = rw none (one_more w 0 ((length pend
 phrase_less w pending rest some (inr less) = one_more w ((length rest + 1) / 2) ((length pending + 1) / 2) (omega arith)
 
 -- All phrases of a line, and one more.
-pub whole_line : (w p : ℕ) → p ≤ 255 → for_phrases w p + w ≤ 129 * w
+pub whole_line : (w p : ℕ) → p ≤ LINE_LIMIT → for_phrases w p + w ≤ 129 * w
 unfolding for_phrases phrases_in
 whole_line w p h = one_more w ((p + 1) / 2) 129 (omega arith)

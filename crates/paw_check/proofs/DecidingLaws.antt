@@ -8,7 +8,8 @@ use Rattle.std.specs.Option.{option_map_or}
 use Rattle.std.proofs.Math.Nat.{mul_comm}
 use Rattle.std.proofs.lemmas.Bool.{lt-ltb, le-ltb, leb-true}
 use Rattle.std.proofs.lemmas.List.Sums.{AllPass-from_list_all}
-use Rattle.paw_base.specs.declared.limits.TheConstants.{READ_LIMIT, PIECE_LIMIT, ENTRY_LIMIT}
+use Rattle.paw_base.specs.declared.limits.TheConstants.{READ_LIMIT, PIECE_LIMIT, ENTRY_LIMIT, TABLE_LEAST, TABLE_LIMIT}
+use Rattle.paw_base.specs.declared.limits.TheConstants.{SYSTEM_LIMIT, MESSAGE_LIMIT}
 use Rattle.paw_base.specs.declared.parts.Condact.{Condact}
 use Rattle.paw_game.specs.declared.parts.Entry.{Entry}
 use Rattle.paw_game.specs.Game.{GameLists}
@@ -43,7 +44,7 @@ pub short_tables : (g : GameLists) → Valid g → All (λ table. length table �
 short_tables g v = λ i d low.
     leb-true (length (get_or g.tables i d)) ENTRY_LIMIT
     (first_of_and (nat_le (length (get_or g.tables i d)) ENTRY_LIMIT) _
-    (AllPass-from_list_all (is_table g) g.tables (second_of_and (is_within 3 256 (length g.tables)) _ v.tables) i d low))
+    (AllPass-from_list_all (is_table g) g.tables (second_of_and (is_within TABLE_LEAST TABLE_LIMIT (length g.tables)) _ v.tables) i d low))
 
 pub place_is : (g : GameLists) (w : Wanted) (ts : List ℕ) → spot_wanted w g.tables ts ≡ first_with g (is_wanted w) ts
 place_is g w [] = refl
@@ -73,7 +74,7 @@ condacts_are g changing round n may is so =
 
 -- The most bytes of a piece.
 pub piece_is : (g : GameLists) (p : Prints) (changing : Bool) (round outside end whole rounds n : ℕ) → changing ≡ verb_may_change g
-    → ArePrints g p → length g.system ≤ 256 → length g.messages ≤ 256
+    → ArePrints g p → length g.system ≤ SYSTEM_LIMIT → length g.messages ≤ MESSAGE_LIMIT
     → round ≡ in_32_bits (round_taken g (own_in (own.Text p)) changing) → outside ≡ in_32_bits (most_outside g) → end ≡ in_32_bits (most_end g)
     → whole ≡ min (round + outside) (2 ^ 32 - 1) → rounds ≡ min (whole * 129) (2 ^ 32 - 1) → n ≡ min (rounds + end) (2 ^ 32 - 1)
     → n ≡ in_32_bits (most_piece g)

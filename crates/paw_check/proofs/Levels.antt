@@ -7,7 +7,7 @@ use Rattle.std.specs.List.{list_any, list_all, AllByRecursion}
 use Rattle.std.proofs.lemmas.Bool.{leb-true}
 use Rattle.std.proofs.lemmas.Bool.Decides.{nat_tests}
 use Rattle.paw_base.specs.declared.codes.TheConstants.{PROCESS}
-use Rattle.paw_base.specs.declared.limits.TheConstants.{LEVEL_LIMIT}
+use Rattle.paw_base.specs.declared.limits.TheConstants.{LEVEL_LIMIT, TABLE_LEAST, TABLE_LIMIT}
 use Rattle.paw_base.specs.declared.parts.Condact.{Condact}
 use Rattle.paw_base.specs.Condacts.{plain_code}
 use Rattle.paw_game.specs.Game.{GameLists}
@@ -131,10 +131,11 @@ module _ (s : Story) (v : Valid s.game) (ts : List ℕ) (few : (t : ℕ) → In 
 
 -- ---- the tables of a turn ----
 
-pub some_tables : (g : GameLists) → Valid g → 3 ≤ length g.tables
+pub some_tables : (g : GameLists) → Valid g → TABLE_LEAST ≤ length g.tables
 some_tables g v =
-    leb-true 3 (length g.tables)
-    (first_of_and (nat_le 3 (length g.tables)) _ (first_of_and (is_within 3 256 (length g.tables)) (list_all (is_table g) g.tables) v.tables))
+    leb-true TABLE_LEAST (length g.tables)
+    (first_of_and (nat_le TABLE_LEAST (length g.tables)) _
+    (first_of_and (is_within TABLE_LEAST TABLE_LIMIT (length g.tables)) (list_all (is_table g) g.tables) v.tables))
 
 pub one_of_three : (t : ℕ) → In t turn_tables → t < 3
 one_of_three t at = grind (arith, nat_tests)

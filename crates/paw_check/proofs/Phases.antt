@@ -6,7 +6,7 @@ use Rattle.std.specs.Prelude.{if◌then◌else◌, All}
 use Rattle.std.proofs.lemmas.Bool.{le-leb}
 use Rattle.paw_base.specs.declared.flags.TheConstants.{LOCATION_FLAG, VERB_FLAG, PRONOUN_NOUN_FLAG}
 use Rattle.paw_base.specs.declared.flags.TheConstants.{PRONOUN_ADJECTIVE_FLAG}
-use Rattle.paw_base.specs.declared.limits.TheConstants.{PIECE_LIMIT}
+use Rattle.paw_base.specs.declared.limits.TheConstants.{PIECE_LIMIT, LINE_LIMIT}
 use Rattle.paw_game.specs.Tables.{exit_at}
 use Rattle.paw_world.specs.World.{World, flag, with_flag}
 use Rattle.paw_phrase.specs.Sentence.{Parsed, IsSentence, IsUnknown, IsNoPhrase}
@@ -126,7 +126,7 @@ module _ (g : Story) (valid : ValidStory g) (condacts text : ℕ) (k : Takes) (e
         (lesser (round_reads k) (k.timeout + round_text k) (reads_of k AtDescribe) (text_of k AtDescribe) r (fresh r ready none empty) (omega arith)
         (omega arith))
 
-    done_stays : (t m n p : ℕ) → p ≤ 255 → m + ((k.reads t + reads_behind k t) + for_phrases (round_reads k) p) ≤ condacts →
+    done_stays : (t m n p : ℕ) → p ≤ LINE_LIMIT → m + ((k.reads t + reads_behind k t) + for_phrases (round_reads k) p) ≤ condacts →
         n + ((k.prints t + text_behind k t) + (for_phrases (round_text k) p + k.prompt)) ≤ text → (x : Out) → DescribesOnly t x →
         TableWithin condacts text p g.game (m + k.reads t) (n + k.prints t) x → Stays (table_done g go t x)
     done_stays t m n p low few short (Left a r) o u =

@@ -10,6 +10,7 @@ use Rattle.std.proofs.lemmas.Bool.Decides.{nat_tests}
 use Rattle.std.proofs.lemmas.List.Sums.{sum_by-cons}
 use Rattle.paw_base.specs.declared.limits.TheConstants.{ENTRY_LIMIT, CONDACT_LIMIT, LEVEL_LIMIT}
 use Rattle.paw_base.specs.declared.codes.TheConstants.{PROCESS}
+use Rattle.paw_base.specs.declared.words.TheConstants.{NOUN_CLASS}
 use Rattle.paw_base.specs.declared.parts.Condact.{Condact}
 use Rattle.paw_base.specs.declared.rows.ParamKind.TheVariants as kind
 use Rattle.paw_base.specs.Condacts.{condact_lines, line_of, plain_line, is_indirect, first_kind}
@@ -50,7 +51,7 @@ module _ (g : GameLists) (all : List Condact) (Q : Condact → Type 0) (holds : 
   entry_condacts : (en : Entry) → IsTrue (is_entry g en) → IsTrue (list_all (is_condact g) en.condacts)
   entry_condacts en h =
       second_of_and (nat_le (length en.condacts) CONDACT_LIMIT) _
-      (second_of_and (is_wildcard en.noun || has_word g.words 2 en.noun) _ (second_of_and (is_wildcard en.verb || is_verb_value g.words en.verb) _ h))
+      (second_of_and (is_wildcard en.noun || has_word g.words NOUN_CLASS en.noun) _ (second_of_and (is_wildcard en.verb || is_verb_value g.words en.verb) _ h))
 
   each_entry : (es : List Entry) → IsTrue (list_all (is_entry g) es) → IsPart all (flat_map (λ e. e.condacts) es) →
       AllByRecursion (λ en. AllByRecursion Q en.condacts) es

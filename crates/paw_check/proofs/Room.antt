@@ -200,7 +200,7 @@ module _ (g : Story) (valid : ValidStory g) (condacts text : ℕ) where
         record { ready = with_line r h.ready [] (omega arith); few = omega (arith, fewer, h.few); short = omega (arith, shorter, h.short) }
 
     -- What a table leaves of the room that a run has.
-    pub left_room : (a b c d m n p : ℕ) (s : Run) → p ≤ 255 → IsReadyWithin condacts text p g.game s → HasUsed (m + c) (n + d) s →
+    pub left_room : (a b c d m n p : ℕ) (s : Run) → p ≤ LINE_LIMIT → IsReadyWithin condacts text p g.game s → HasUsed (m + c) (n + d) s →
         m + ((c + a) + for_phrases (round_reads k) p) ≤ condacts → n + ((d + b) + (for_phrases (round_text k) p + k.prompt)) ≤ text → HasRoom a b s
     left_room a b c d m n p s low h used few short =
         let fewer = fewer_bytes (round_reads k) (length s.pending) p h.line in

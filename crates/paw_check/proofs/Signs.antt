@@ -9,6 +9,7 @@ use Rattle.paw_base.specs.declared.flags.TheConstants.{SCORE_FLAG, LOW_TURNS_FLA
 use Rattle.paw_base.specs.declared.messages.TheConstants.{TURNS_MESSAGE, TURN_MESSAGE, PLURAL_MESSAGE}
 use Rattle.paw_base.specs.declared.messages.TheConstants.{TURNS_END_MESSAGE}
 use Rattle.paw_base.specs.declared.messages.TheConstants.{SCORE_MESSAGE, SCORE_END_MESSAGE}
+use Rattle.paw_base.specs.declared.codes.TheConstants.{INDIRECT}
 use Rattle.paw_base.specs.declared.parts.Condact.{Condact}
 use Rattle.paw_base.specs.declared.rows.ParamKind.{ParamKind}
 use Rattle.paw_base.specs.declared.rows.ParamKind.TheVariants.{Absent}
@@ -49,7 +50,7 @@ either_short false plain code = plain_short code
 
 name_short : (code : ℕ) → length (name_of code) ≤ 7
 unfolding line_of
-name_short code = either_short (is_indirect code) (code - 128) code
+name_short code = either_short (is_indirect code) (code - INDIRECT) code
 
 -- ---- marks ----
 

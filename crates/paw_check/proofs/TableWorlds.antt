@@ -8,6 +8,7 @@ use Rattle.paw_base.specs.declared.parts.ObjectFacts.{ObjectFacts}
 use Rattle.paw_base.specs.declared.flags.TheConstants.{NOUN_FLAG, ADJECTIVE_FLAG, LOOP_FLAG, VERB_FLAG}
 use Rattle.paw_base.specs.declared.flags.TheConstants.{TIMED_OUT_FLAG, REFERRED_WEIGHT_FLAG, REFERRED_CONTAINER_FLAG}
 use Rattle.paw_base.specs.declared.flags.TheConstants.{REFERRED_WEARABLE_FLAG, REFERRED_PLACE_FLAG, REFERRED_FLAG}
+use Rattle.paw_base.specs.declared.flags.TheConstants.{TIMED_OUT_BIT}
 use Rattle.paw_game.specs.Game.{GameLists}
 use Rattle.paw_game.specs.Tables.{facts_at}
 use Rattle.paw_game.specs.Valid.{Valid, is_condact}
@@ -70,8 +71,8 @@ other : (w : World) (f x : ℕ) → VERB_FLAG ≢ f → flag (with_flag w f x) V
 other w f x ne = get_or-set_other w.flags f VERB_FLAG x 0 ne
 
 pub timeout_verb : (b : Bool) (w : World) → flag (with_timeout b w) VERB_FLAG ≡ flag w VERB_FLAG
-timeout_verb true w = other w TIMED_OUT_FLAG (128 + flag w TIMED_OUT_FLAG % 128) (omega arith)
-timeout_verb false w = other w TIMED_OUT_FLAG (flag w TIMED_OUT_FLAG % 128) (omega arith)
+timeout_verb true w = other w TIMED_OUT_FLAG (TIMED_OUT_BIT + flag w TIMED_OUT_FLAG % TIMED_OUT_BIT) (omega arith)
+timeout_verb false w = other w TIMED_OUT_FLAG (flag w TIMED_OUT_FLAG % TIMED_OUT_BIT) (omega arith)
 
 named_verb : (w : World) (f : Option ObjectFacts) → flag (object_named w f) VERB_FLAG ≡ flag w VERB_FLAG
 named_verb w None = refl

@@ -9,6 +9,7 @@ use Rattle.std.proofs.lemmas.Bool.{cases_lt}
 use Rattle.std.proofs.lemmas.List.{get_or_past}
 use Rattle.std.proofs.lemmas.Option.{slice_get_past}
 use Rattle.paw_base.specs.declared.messages.TheConstants.{SEEN_MESSAGE, NOTHING_THERE_MESSAGE}
+use Rattle.paw_base.specs.declared.limits.TheConstants.{SYSTEM_LIMIT, MESSAGE_LIMIT}
 use Rattle.paw_base.specs.declared.parts.Condact.{Condact}
 use Rattle.paw_base.specs.Condacts.{is_indirect, plain_code}
 use Rattle.paw_game.specs.Game.{GameLists}
@@ -111,7 +112,7 @@ named_alike g texts row any c few holds most = at (is_indirect c.code) where
   at true = most
   at false = at_alike g texts row c.a few holds
 
-kind_alike : (g : GameLists) (p : Prints) (c : Condact) → ArePrints g p → length g.system ≤ 256 → length g.messages ≤ 256
+kind_alike : (g : GameLists) (p : Prints) (c : Condact) → ArePrints g p → length g.system ≤ SYSTEM_LIMIT → length g.messages ≤ MESSAGE_LIMIT
     → (k : Printed) → kind_in p k c ≡ in_32_bits (kind_most g k c)
 kind_alike g p c are few many printed.Nothing = refl
 kind_alike g p c are few many printed.Newline = refl
@@ -132,14 +133,14 @@ kind_alike g p c are few many printed.MessageLine =
 kind_alike g p c are few many printed.System = named_alike g g.system p.system p.any_system c few are.system are.any_system
 
 -- What the code takes of a condact is the most that it prints.
-pub text_alike : (g : GameLists) (p : Prints) → ArePrints g p → length g.system ≤ 256 → length g.messages ≤ 256
+pub text_alike : (g : GameLists) (p : Prints) → ArePrints g p → length g.system ≤ SYSTEM_LIMIT → length g.messages ≤ MESSAGE_LIMIT
     → (c : Condact) → in_32_bits (text_in p c) ≡ in_32_bits (most_text g c)
 text_alike g p are few many c =
     ap in_32_bits (kind_alike g p c are few many (kind_of c.code)) ∙ capped_again (kind_most g (kind_of c.code) c)
     ∙ ap in_32_bits (sym (text_is g c))
 
 -- The greatest measure that a row holds for these messages.
-pub greatest_of_row : (g : GameLists) (row : List ℕ) (messages : List ℕ) → length g.system ≤ 256 → HoldsCapped row (most_put g)
+pub greatest_of_row : (g : GameLists) (row : List ℕ) (messages : List ℕ) → length g.system ≤ SYSTEM_LIMIT → HoldsCapped row (most_put g)
     → greatest (map (λ s. slice_index_or row s 0) messages) ≡ in_32_bits (greatest (map (most_put g) messages))
 greatest_of_row g row messages few holds =
     ap greatest (map_same (λ s. slice_index_or row s 0) (λ s. in_32_bits (most_put g s)) messages (λ s. at_alike g g.system row s few holds))

@@ -5,7 +5,9 @@ use Rattle.std.proofs.Math.Nat.{min-le_left}
 use Rattle.paw_base.specs.declared.flags.TheConstants.{LOCATION_FLAG, VERB_FLAG, LOW_TURNS_FLAG, HIGH_TURNS_FLAG}
 use Rattle.paw_base.specs.declared.flags.TheConstants.{TIMED_OUT_FLAG, NOUN_FLAG, ADJECTIVE_FLAG, ADVERB_FLAG}
 use Rattle.paw_base.specs.declared.flags.TheConstants.{PREPOSITION_FLAG, SECOND_NOUN_FLAG, SECOND_ADJECTIVE_FLAG}
-use Rattle.paw_base.specs.declared.flags.TheConstants.{PRONOUN_NOUN_FLAG, PRONOUN_ADJECTIVE_FLAG}
+use Rattle.paw_base.specs.declared.flags.TheConstants.{PRONOUN_NOUN_FLAG, PRONOUN_ADJECTIVE_FLAG, UNLIT_VIEW_FLAG}
+use Rattle.paw_base.specs.declared.flags.TheConstants.{DARK_VIEW_FLAG, VIEW_FLAG, LAST_FRAME_FLAG, FIRST_FRAME_FLAG}
+use Rattle.paw_base.specs.declared.flags.TheConstants.{UNLIT_FRAME_FLAG, DARK_FRAME_FLAG, TIMED_OUT_BIT}
 use Rattle.paw_game.specs.Game.{GameLists}
 use Rattle.paw_game.specs.Tables.{exit_at}
 use Rattle.paw_game.specs.Valid.{Valid}
@@ -40,13 +42,14 @@ module _ (g : GameLists) (v : Valid g) where
 
   pub described_of : (w : World) → IsWorldOf g w → IsWorldOf g (location_described w)
   described_of w k =
-      fallen_if_of (is_unlit w) 4 (flag_lowered_if (is_dark w) 3 (flag_lowered 2 w)) (fallen_if_of (is_dark w) 3 (flag_lowered 2 w) (fallen_of 2 w k))
+      fallen_if_of (is_unlit w) UNLIT_VIEW_FLAG (flag_lowered_if (is_dark w) DARK_VIEW_FLAG (flag_lowered VIEW_FLAG w))
+      (fallen_if_of (is_dark w) DARK_VIEW_FLAG (flag_lowered VIEW_FLAG w) (fallen_of VIEW_FLAG w k))
 
   pub time_frame_of : (w : World) → IsWorldOf g w → IsWorldOf g (time_frame_passed w)
   time_frame_of w k =
-      let first : World = flag_lowered 8 (flag_lowered 7 (flag_lowered 6 (flag_lowered 5 w))) in
-      fallen_if_of (is_unlit w) 10 (flag_lowered_if (is_dark w) 9 first) (fallen_if_of (is_dark w) 9 first
-      (fallen_of 8 _ (fallen_of 7 _ (fallen_of 6 _ (fallen_of 5 w k)))))
+      let first : World = flag_lowered LAST_FRAME_FLAG (flag_lowered 7 (flag_lowered 6 (flag_lowered FIRST_FRAME_FLAG w))) in
+      fallen_if_of (is_unlit w) UNLIT_FRAME_FLAG (flag_lowered_if (is_dark w) DARK_FRAME_FLAG first) (fallen_if_of (is_dark w) DARK_FRAME_FLAG first
+      (fallen_of LAST_FRAME_FLAG _ (fallen_of 7 _ (fallen_of 6 _ (fallen_of FIRST_FRAME_FLAG w k)))))
 
   -- ---- the exit, the number of turns, timeouts ----
 
@@ -69,11 +72,11 @@ module _ (g : GameLists) (v : Valid g) where
       high x most = omega arith
 
   pub timeout_of : (b : Bool) (w : World) → IsWorldOf g w → IsWorldOf g (with_timeout b w)
-  timeout_of true w k = flag_set w k TIMED_OUT_FLAG (128 + flag w TIMED_OUT_FLAG % 128) (low (flag w TIMED_OUT_FLAG))
+  timeout_of true w k = flag_set w k TIMED_OUT_FLAG (TIMED_OUT_BIT + flag w TIMED_OUT_FLAG % TIMED_OUT_BIT) (low (flag w TIMED_OUT_FLAG))
     where
       low : (x : ℕ) → 128 + x % 128 < 256
       low x = omega arith
-  timeout_of false w k = flag_set w k TIMED_OUT_FLAG (flag w TIMED_OUT_FLAG % 128) (low (flag w TIMED_OUT_FLAG))
+  timeout_of false w k = flag_set w k TIMED_OUT_FLAG (flag w TIMED_OUT_FLAG % TIMED_OUT_BIT) (low (flag w TIMED_OUT_FLAG))
     where
       low : (x : ℕ) → x % 128 < 256
       low x = omega arith

@@ -11,6 +11,7 @@ use Rattle.paw_base.specs.declared.places.TheConstants.{CARRIED_PLACE, NOT_CREAT
 use Rattle.paw_base.specs.declared.flags.TheConstants.{VERB_FLAG, REFERRED_FLAG, REFERRED_PLACE_FLAG}
 use Rattle.paw_base.specs.declared.flags.TheConstants.{REFERRED_WEIGHT_FLAG}
 use Rattle.paw_base.specs.declared.flags.TheConstants.{REFERRED_CONTAINER_FLAG, REFERRED_WEARABLE_FLAG}
+use Rattle.paw_base.specs.declared.limits.TheConstants.{FLAG_COUNT}
 use Rattle.paw_base.specs.declared.parts.ObjectFacts.{ObjectFacts}
 use Rattle.paw_game.specs.Game.{GameLists}
 use Rattle.paw_world.specs.World.{World, Position, flag, with_flag, place, with_place, let_go, taken_up, object_moved}
@@ -126,7 +127,7 @@ module _ (n : ℕ) where
   ramloaded_has g w m None at low k = k
   ramloaded_has g w m (Some q) at low k =
       let below : m < VERB_FLAG = leb-false VERB_FLAG m low in
-      let all : length q.flags ≡ 256 = at.flags in
+      let all : length q.flags ≡ FLAG_COUNT = at.flags in
       let many : length (take (suc m) q.flags) ≡ suc m = length-take-le (suc m) q.flags (omega arith) in
       let there : suc m + (VERB_FLAG - suc m) ≡ VERB_FLAG = omega arith in
       get_or-append_right (take (suc m) q.flags) (drop (suc m) w.flags) (suc m) VERB_FLAG 0 many (omega arith)

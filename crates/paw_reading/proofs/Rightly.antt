@@ -6,7 +6,9 @@ use Rattle.std.specs.Prelude.{All}
 use Rattle.std.proofs.Math.ListN.{get_or}
 use Rattle.paw_base.specs.declared.limits.TheConstants.{READ_LIMIT, LEVEL_LIMIT}
 use Rattle.paw_base.specs.declared.fault.SpentKind.TheVariants as spent
-use Rattle.paw_base.specs.declared.flags.TheConstants.{LOCATION_FLAG, VERB_FLAG}
+use Rattle.paw_base.specs.declared.flags.TheConstants.{LOCATION_FLAG, VERB_FLAG, UNLIT_VIEW_FLAG, DARK_VIEW_FLAG}
+use Rattle.paw_base.specs.declared.flags.TheConstants.{VIEW_FLAG, LAST_FRAME_FLAG, FIRST_FRAME_FLAG, UNLIT_FRAME_FLAG}
+use Rattle.paw_base.specs.declared.flags.TheConstants.{DARK_FRAME_FLAG}
 use Rattle.paw_base.specs.declared.codes.TheConstants.{QUIT, END, ANYKEY}
 use Rattle.paw_game.specs.Game.{GameLists}
 use Rattle.paw_game.specs.Tables.{exit_at}
@@ -54,12 +56,14 @@ fallen_placed g true n w k = k
 fallen_placed g false n w k = k
 
 described_placed : (g : GameLists) (w : World) → IsPlaced g w → IsPlaced g (location_described w)
-described_placed g w k = fallen_placed g (is_unlit w) 4 (flag_lowered_if (is_dark w) 3 (flag_lowered 2 w)) (fallen_placed g (is_dark w) 3 (flag_lowered 2 w) k)
+described_placed g w k =
+    fallen_placed g (is_unlit w) UNLIT_VIEW_FLAG (flag_lowered_if (is_dark w) DARK_VIEW_FLAG (flag_lowered VIEW_FLAG w))
+    (fallen_placed g (is_dark w) DARK_VIEW_FLAG (flag_lowered VIEW_FLAG w) k)
 
 time_frame_placed : (g : GameLists) (w : World) → IsPlaced g w → IsPlaced g (time_frame_passed w)
 time_frame_placed g w k =
-    let first : World = flag_lowered 8 (flag_lowered 7 (flag_lowered 6 (flag_lowered 5 w))) in
-    fallen_placed g (is_unlit w) 10 (flag_lowered_if (is_dark w) 9 first) (fallen_placed g (is_dark w) 9 first k)
+    let first : World = flag_lowered LAST_FRAME_FLAG (flag_lowered 7 (flag_lowered 6 (flag_lowered FIRST_FRAME_FLAG w))) in
+    fallen_placed g (is_unlit w) UNLIT_FRAME_FLAG (flag_lowered_if (is_dark w) DARK_FRAME_FLAG first) (fallen_placed g (is_dark w) DARK_FRAME_FLAG first k)
 
 -- ---- waits in tables ----
 

@@ -6,7 +6,9 @@ use Rattle.paw_base.specs.declared.limits.TheConstants.{READ_LIMIT, LEVEL_LIMIT}
 use Rattle.paw_base.specs.declared.parts.Condact.{Condact}
 use Rattle.paw_base.specs.declared.parts.ObjectFacts.{ObjectFacts}
 use Rattle.paw_base.specs.declared.fault.SpentKind.TheVariants as spent
-use Rattle.paw_base.specs.declared.flags.TheConstants.{LOOP_FLAG, LOCATION_FLAG, VERB_FLAG}
+use Rattle.paw_base.specs.declared.flags.TheConstants.{LOOP_FLAG, LOCATION_FLAG, VERB_FLAG, UNLIT_VIEW_FLAG}
+use Rattle.paw_base.specs.declared.flags.TheConstants.{DARK_VIEW_FLAG, VIEW_FLAG, LAST_FRAME_FLAG, FIRST_FRAME_FLAG}
+use Rattle.paw_base.specs.declared.flags.TheConstants.{UNLIT_FRAME_FLAG, DARK_FRAME_FLAG}
 use Rattle.paw_game.specs.declared.parts.Entry.{Entry}
 use Rattle.paw_game.specs.Tables.{table_at, entry_at, condacts_of, condact_at, facts_at, exit_at}
 use Rattle.paw_world.specs.World.{World, Position, flag, with_flag, is_dark, is_unlit, flag_lowered, flag_lowered_if}
@@ -225,12 +227,14 @@ module _ (g : Story) (never : NeverSaves g.game) (ks : List (Option Position)) w
   fallen_kept false n w k = k
 
   described_kept : (w : World) → AreKept ks w → AreKept ks (location_described w)
-  described_kept w k = fallen_kept (is_unlit w) 4 (flag_lowered_if (is_dark w) 3 (flag_lowered 2 w)) (fallen_kept (is_dark w) 3 (flag_lowered 2 w) k)
+  described_kept w k =
+      fallen_kept (is_unlit w) UNLIT_VIEW_FLAG (flag_lowered_if (is_dark w) DARK_VIEW_FLAG (flag_lowered VIEW_FLAG w))
+      (fallen_kept (is_dark w) DARK_VIEW_FLAG (flag_lowered VIEW_FLAG w) k)
 
   time_frame_kept : (w : World) → AreKept ks w → AreKept ks (time_frame_passed w)
   time_frame_kept w k =
-      let first : World = flag_lowered 8 (flag_lowered 7 (flag_lowered 6 (flag_lowered 5 w))) in
-      fallen_kept (is_unlit w) 10 (flag_lowered_if (is_dark w) 9 first) (fallen_kept (is_dark w) 9 first k)
+      let first : World = flag_lowered LAST_FRAME_FLAG (flag_lowered 7 (flag_lowered 6 (flag_lowered FIRST_FRAME_FLAG w))) in
+      fallen_kept (is_unlit w) UNLIT_FRAME_FLAG (flag_lowered_if (is_dark w) DARK_FRAME_FLAG first) (fallen_kept (is_dark w) DARK_FRAME_FLAG first k)
 
   abbrev Ends : Ending → Type 0
   Ends e = EndsKeeping ks e

@@ -16,7 +16,10 @@ use Rattle.paw_base.specs.declared.flags.TheConstants.{TIMED_OUT_FLAG, PRONOUN_N
 use Rattle.paw_base.specs.declared.flags.TheConstants.{NOUN_FLAG, ADJECTIVE_FLAG, LOOP_FLAG, LOW_TURNS_FLAG}
 use Rattle.paw_base.specs.declared.flags.TheConstants.{HIGH_TURNS_FLAG, LOCATION_FLAG, VERB_FLAG, PREPOSITION_FLAG}
 use Rattle.paw_base.specs.declared.flags.TheConstants.{ADVERB_FLAG, SECOND_NOUN_FLAG, SECOND_ADJECTIVE_FLAG}
-use Rattle.paw_base.specs.declared.words.TheConstants.{NO_WORD}
+use Rattle.paw_base.specs.declared.flags.TheConstants.{TIMED_OUT_BIT, UNLIT_VIEW_FLAG, DARK_VIEW_FLAG, VIEW_FLAG}
+use Rattle.paw_base.specs.declared.flags.TheConstants.{LAST_FRAME_FLAG, FIRST_FRAME_FLAG, UNLIT_FRAME_FLAG}
+use Rattle.paw_base.specs.declared.flags.TheConstants.{DARK_FRAME_FLAG}
+use Rattle.paw_base.specs.declared.words.TheConstants.{NO_WORD, NOUN_CLASS}
 use Rattle.paw_game.specs.declared.parts.Entry.{Entry}
 use Rattle.paw_game.specs.Game.{GameLists}
 use Rattle.paw_game.specs.Tables.{table_at, entry_at, condacts_of, facts_at, exit_at}
@@ -204,12 +207,12 @@ module _ (g : Story) (valid : ValidStory g) (seed base : ℕ) where
       }
 
   timeout_so : (n : ℕ) (b : Bool) (w : World) → IsWorldAt g.game seed n w → IsWorldAt g.game seed n (with_timeout b w)
-  timeout_so n true w k = flagged g.game v seed n w k TIMED_OUT_FLAG (128 + flag w TIMED_OUT_FLAG % 128)
+  timeout_so n true w k = flagged g.game v seed n w k TIMED_OUT_FLAG (TIMED_OUT_BIT + flag w TIMED_OUT_FLAG % TIMED_OUT_BIT)
       (low (flag w TIMED_OUT_FLAG))
     where
       low : (x : ℕ) → 128 + x % 128 < 256
       low x = omega arith
-  timeout_so n false w k = flagged g.game v seed n w k TIMED_OUT_FLAG (flag w TIMED_OUT_FLAG % 128)
+  timeout_so n false w k = flagged g.game v seed n w k TIMED_OUT_FLAG (flag w TIMED_OUT_FLAG % TIMED_OUT_BIT)
       (low (flag w TIMED_OUT_FLAG))
     where
       low : (x : ℕ) → x % 128 < 256
@@ -402,7 +405,7 @@ module _ (g : Story) (valid : ValidStory g) (seed base : ℕ) where
     entry_condacts : (en : Entry) → IsTrue (is_entry g.game en) → IsTrue (list_all (is_condact g.game) en.condacts)
     entry_condacts en h =
         second_of_and (nat_le (length en.condacts) CONDACT_LIMIT) _
-        (second_of_and (is_wildcard en.noun || has_word g.game.words 2 en.noun) _
+        (second_of_and (is_wildcard en.noun || has_word g.game.words NOUN_CLASS en.noun) _
         (second_of_and (is_wildcard en.verb || is_verb_value g.game.words en.verb) _ h))
 
     entries_sound : (t e : ℕ) (es : List Entry) → IsTrue (list_all (is_entry g.game) es) → GoesSound (entries g sub lv t e es)
@@ -482,13 +485,14 @@ module _ (g : Story) (valid : ValidStory g) (seed base : ℕ) where
 
   described_so : (n : ℕ) (w : World) → IsWorldAt g.game seed n w → IsWorldAt g.game seed n (location_described w)
   described_so n w k =
-      fallen_if_so n (is_unlit w) 4 (flag_lowered_if (is_dark w) 3 (flag_lowered 2 w)) (fallen_if_so n (is_dark w) 3 (flag_lowered 2 w) (fallen_so n 2 w k))
+      fallen_if_so n (is_unlit w) UNLIT_VIEW_FLAG (flag_lowered_if (is_dark w) DARK_VIEW_FLAG (flag_lowered VIEW_FLAG w))
+      (fallen_if_so n (is_dark w) DARK_VIEW_FLAG (flag_lowered VIEW_FLAG w) (fallen_so n VIEW_FLAG w k))
 
   time_frame_so : (n : ℕ) (w : World) → IsWorldAt g.game seed n w → IsWorldAt g.game seed n (time_frame_passed w)
   time_frame_so n w k =
-      let first : World = flag_lowered 8 (flag_lowered 7 (flag_lowered 6 (flag_lowered 5 w))) in
-      fallen_if_so n (is_unlit w) 10 (flag_lowered_if (is_dark w) 9 first) (fallen_if_so n (is_dark w) 9 first
-      (fallen_so n 8 _ (fallen_so n 7 _ (fallen_so n 6 _ (fallen_so n 5 w k)))))
+      let first : World = flag_lowered LAST_FRAME_FLAG (flag_lowered 7 (flag_lowered 6 (flag_lowered FIRST_FRAME_FLAG w))) in
+      fallen_if_so n (is_unlit w) UNLIT_FRAME_FLAG (flag_lowered_if (is_dark w) DARK_FRAME_FLAG first) (fallen_if_so n (is_dark w) DARK_FRAME_FLAG first
+      (fallen_so n LAST_FRAME_FLAG _ (fallen_so n 7 _ (fallen_so n 6 _ (fallen_so n FIRST_FRAME_FLAG w k)))))
 
   counted_so : (n : ℕ) (w : World) → IsWorldAt g.game seed n w → IsWorldAt g.game seed n (turn_counted w)
   counted_so n w k =
