@@ -4,7 +4,7 @@ use Rattle.std.proofs.Common.{◌∙◌}
 use Rattle.std.specs.List.{list_all}
 use Rattle.std.proofs.lemmas.Bool.{and_from}
 use Rattle.std.proofs.lemmas.List.Folds.{list_all-append}
-use Rattle.paw_base.specs.declared.limits.TheConstants.{IMAGE_LIMIT}
+use Rattle.paw_base.specs.declared.limits.TheConstants.{IMAGE_LIMIT, TABLE_LEAST}
 use Rattle.paw_base.specs.declared.fault.SourceKind.{SourceKind}
 use Rattle.paw_game.specs.Image.{image}
 use Rattle.paw_lex.specs.Bytes.{is_printed_byte}
@@ -51,7 +51,7 @@ reads_append p d e f ls ms first rest = record {
 }
 
 reading_is : (p n : ℕ) (d e : Spelt) (ls : List (List ℕ)) → after_lines p d ls ≡ Ok e →
-    ltb (length e.tables) 3 ≡ false → ltb IMAGE_LIMIT (length (image (game_of e))) ≡ false
+    ltb (length e.tables) TABLE_LEAST ≡ false → ltb IMAGE_LIMIT (length (image (game_of e))) ≡ false
     → spelled_after p n d ls ≡ Ok (game_of e)
 unfolding after_lines spelled_after
 reading_is p n d e [] h many small = ap (whole n) (ok_is d e h) ∙ rw (many, small) refl
@@ -62,7 +62,7 @@ reading_is p n d e (l ∷ ls) h many small =
     ] h
 
 -- What lines with three tables spell.
-pub reads_whole : (p : ℕ) (d e : Spelt) (ls : List (List ℕ)) → Reads p d ls e → ltb (length e.tables) 3 ≡ false →
+pub reads_whole : (p : ℕ) (d e : Spelt) (ls : List (List ℕ)) → Reads p d ls e → ltb (length e.tables) TABLE_LEAST ≡ false →
     ltb IMAGE_LIMIT (length (image (game_of e))) ≡ false
     → spelled_after p 0 d ls ≡ Ok (game_of e)
 reads_whole p d e ls h many small = reading_is p 0 d e ls h.is many small

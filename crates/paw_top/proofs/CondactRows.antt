@@ -10,8 +10,11 @@ use Rattle.std.proofs.lemmas.Bool.{le-ltb, false≢true}
 use Rattle.std.proofs.lemmas.List.{append-nil}
 use Rattle.std.proofs.lemmas.List.Folds.{list_all-append}
 use Rattle.std.proofs.Math.ListN.{length-map}
-use Rattle.paw_base.specs.declared.limits.TheConstants.{LOCATION_LIMIT}
+use Rattle.paw_base.specs.declared.limits.TheConstants.{LOCATION_LIMIT, SYSTEM_LIMIT, MESSAGE_LIMIT, OBJECT_LIMIT}
+use Rattle.paw_base.specs.declared.limits.TheConstants.{TABLE_LIMIT, FLAG_COUNT, CONDACT_LIMIT}
 use Rattle.paw_base.specs.declared.places.TheConstants.{NOT_CREATED_PLACE, HERE_PLACE}
+use Rattle.paw_base.specs.declared.codes.TheConstants.{INDIRECT}
+use Rattle.paw_base.specs.declared.words.TheConstants.{ADVERB_CLASS, NOUN_CLASS, ADJECTIVE_CLASS, PREPOSITION_CLASS}
 use Rattle.paw_base.specs.declared.fault.SourceKind.{SourceKind}
 use Rattle.paw_base.specs.declared.fault.SourceKind.TheVariants as fault
 use Rattle.paw_base.specs.declared.parts.Condact.{Condact}
@@ -53,8 +56,8 @@ plain-name_of = each_code (λ code. is_plain (name_of code)) plain_names
 
 -- What is known of an indirect code.
 record Indirect (code : ℕ) : Type 0 where
-  high : 128 ≤ code
-  may : may_be_indirect (code - 128) ≡ true
+  high : INDIRECT ≤ code
+  may : may_be_indirect (code - INDIRECT) ≡ true
   first : first_kind code ≡ kind.Flag
 
 indirect_first : (code : ℕ) → is_indirect code ≡ true → first_kind code ≡ kind.Flag
@@ -64,21 +67,21 @@ indirect_first code h = rw (h, first_kind) refl
 indirect : (code : ℕ) → is_indirect code ≡ true → Indirect code
 unfolding is_indirect
 indirect code h =
-    let both = and_parts (leb 128 code) (may_be_indirect (code - 128)) h in
-    record { high = leb-true 128 code both.0; may = both.1; first = indirect_first code h }
+    let both = and_parts (leb INDIRECT code) (may_be_indirect (code - INDIRECT)) h in
+    record { high = leb-true INDIRECT code both.0; may = both.1; first = indirect_first code h }
 
 code_back : (code : ℕ) → code_of (is_indirect code) (plain_code code) ≡ code
 code_back code =
     elim (is_indirect code) as
-    (λ b. is_indirect code ≡ b → cond b (cond b (code - 128) code + 128) (cond b (code - 128) code) ≡ code) [
+    (λ b. is_indirect code ≡ b → cond b (cond b (code - INDIRECT) code + INDIRECT) (cond b (code - INDIRECT) code) ≡ code) [
       | true ↦ λ h. let high = (indirect code h).high in omega (arith, high)
       | false ↦ λ h. refl
     ] refl
 
 plain_is : (code : ℕ) → IsCode code → IsPlainCode (plain_code code)
 plain_is code is =
-    elim (is_indirect code) as (λ b. is_indirect code ≡ b → IsPlainCode (cond b (code - 128) code)) [
-      | true ↦ λ h. within_code (code - 128) (indirect_within (code - 128) (indirect code h).may)
+    elim (is_indirect code) as (λ b. is_indirect code ≡ b → IsPlainCode (cond b (code - INDIRECT) code)) [
+      | true ↦ λ h. within_code (code - INDIRECT) (indirect_within (code - INDIRECT) (indirect code h).may)
       | false ↦ λ h. elim (or_cases (is_plain_code code) (is_indirect code) is) [
         | inl plain ↦ plain
         | inr other ↦ absurd (false≢true (sym h ∙ other))
@@ -86,7 +89,7 @@ plain_is code is =
     ] refl
 
 plain_may : (code : ℕ) → is_indirect code ≡ true → may_be_indirect (plain_code code) ≡ true
-plain_may code h = subst (λ n. may_be_indirect n ≡ true) (sym (ap (λ b. cond b (code - 128) code) h)) (indirect code h).may
+plain_may code h = subst (λ n. may_be_indirect n ≡ true) (sym (ap (λ b. cond b (code - INDIRECT) code) h)) (indirect code h).may
 
 name_code : (code : ℕ) → IsCode code → code_named (name_of code) ≡ Some (plain_code code)
 name_code code is =
@@ -114,11 +117,11 @@ bounds p g = record {
 -- A game whose parameters are small numbers.
 pub record Small (p : ℕ) (g : GameLists) : Type 0 where
   pub words : Words g.words
-  pub system : length g.system ≤ 256
-  pub messages : length g.messages ≤ 256
-  pub objects : length g.objects ≤ 255
+  pub system : length g.system ≤ SYSTEM_LIMIT
+  pub messages : length g.messages ≤ MESSAGE_LIMIT
+  pub objects : length g.objects ≤ OBJECT_LIMIT
   pub locations : length g.locations ≤ LOCATION_LIMIT
-  pub tables : length g.tables ≤ 256
+  pub tables : length g.tables ≤ TABLE_LIMIT
   pub counted : p ≡ length g.tables
 
 -- A token doesn't begin with `@`.
@@ -159,7 +162,7 @@ parameter_back p g kind.Object x s h =
     let named : ltb x (length (map (λ (o : ObjectRow). o.text) g.objects)) ≡ true = ap (ltb x) (length-map g.objects (λ (o : ObjectRow). o.text)) ∙ h in
     record { plain = rw (plain-decimal x small) refl; no_at = rw (decimal-at x small) refl; count = refl; read = λ ts. rw (number-decimal x small, named) refl }
 parameter_back p g kind.Flag x s h =
-    let small = below_small x 256 (omega arith) h in
+    let small = below_small x FLAG_COUNT (omega arith) h in
     record { plain = rw (plain-decimal x small) refl; no_at = rw (decimal-at x small) refl; count = refl; read = λ ts. rw (number-decimal x small, h) refl }
 parameter_back p g kind.Number x s h =
     let small = below_small x 256 (omega arith) h in
@@ -182,16 +185,16 @@ parameter_back p g kind.Table x s h =
       read = λ ts. rw (number-decimal x small, counted) (ap (λ n. Ok (n, ts)) least);
     }
 parameter_back p g kind.Adverb x s h =
-    let b = word_parameter p g 1 x s h in
+    let b = word_parameter p g ADVERB_CLASS x s h in
     record { plain = rw b.plain refl; no_at = rw b.at refl; count = refl; read = λ ts. b.is ts }
 parameter_back p g kind.Noun x s h =
-    let b = word_parameter p g 2 x s h in
+    let b = word_parameter p g NOUN_CLASS x s h in
     record { plain = rw b.plain refl; no_at = rw b.at refl; count = refl; read = λ ts. b.is ts }
 parameter_back p g kind.Adjective x s h =
-    let b = word_parameter p g 3 x s h in
+    let b = word_parameter p g ADJECTIVE_CLASS x s h in
     record { plain = rw b.plain refl; no_at = rw b.at refl; count = refl; read = λ ts. b.is ts }
 parameter_back p g kind.Preposition x s h =
-    let b = word_parameter p g 4 x s h in
+    let b = word_parameter p g PREPOSITION_CLASS x s h in
     record { plain = rw b.plain refl; no_at = rw b.at refl; count = refl; read = λ ts. b.is ts }
 
 -- ---- the first parameter ----
@@ -205,17 +208,17 @@ record FirstBack (p : ℕ) (g : GameLists) (c : Condact) : Type 0 where
   read : (ts : List (List ℕ))
       → first_parameter (bounds p g) g.words (is_indirect c.code) (first_kind (plain_code c.code)) (first_tokens g.words c ++ ts) ≡ Ok (c.a, ts)
 
-flag_read : (a : ℕ) (ts : List (List ℕ)) → a ≤ 65535 → ltb a 256 ≡ true → flag_after_at ((64 ∷ decimal a) ∷ ts) ≡ Ok (a, ts)
+flag_read : (a : ℕ) (ts : List (List ℕ)) → a ≤ 65535 → ltb a FLAG_COUNT ≡ true → flag_after_at ((64 ∷ decimal a) ∷ ts) ≡ Ok (a, ts)
 flag_read a ts small low =
-    ap (λ (o : Option ℕ). (ok_or o fault.Number >>= λ n. Ok (n, ts)) >>= in_range (λ n. ltb n 256)) (number-decimal a small)
+    ap (λ (o : Option ℕ). (ok_or o fault.Number >>= λ n. Ok (n, ts)) >>= in_range (λ n. ltb n FLAG_COUNT)) (number-decimal a small)
     ∙ rw low refl
 
 flag_back : (p : ℕ) (g : GameLists) (c : Condact) → is_indirect c.code ≡ true
     → is_parameter (counts_of g) g.words (first_kind c.code) c.a ≡ true → FirstBack p g c
 flag_back p g c h kept =
     let code = indirect c.code h in
-    let low : ltb c.a 256 ≡ true = subst (λ (k : ParamKind). is_parameter (counts_of g) g.words k c.a ≡ true) code.first kept in
-    let small = below_small c.a 256 (omega arith) low in
+    let low : ltb c.a FLAG_COUNT ≡ true = subst (λ (k : ParamKind). is_parameter (counts_of g) g.words k c.a ≡ true) code.first kept in
+    let small = below_small c.a FLAG_COUNT (omega arith) low in
     record {
       plain = rw h (and_from _ _ (plain-flag c.a small) refl);
       count = rw (h, code.first) refl;
@@ -303,9 +306,9 @@ condact_back p g c s h =
     }
 
 -- A condact more of an entry.
-pub more_condacts-is : (p : ℕ) (g : GameLists) (done : List Condact) (c : Condact) → CondactBack p g c → length done < 255
+pub more_condacts-is : (p : ℕ) (g : GameLists) (done : List Condact) (c : Condact) → CondactBack p g c → length done < CONDACT_LIMIT
     → more_condacts (bounds p g) g.words done (condact_tokens g.words c) ≡ Ok (done ++ c ∷ [])
 unfolding more_condacts
 more_condacts-is p g done c back few =
-    let within : ltb 255 (length (done ++ c ∷ [])) ≡ false = le-ltb 255 _ (omega (arith, length-append done (c ∷ []))) in
-    ap (λ (r : Result (List Condact) SourceKind). with_more_condacts done r >>= at_most 255) back.read ∙ rw within refl
+    let within : ltb CONDACT_LIMIT (length (done ++ c ∷ [])) ≡ false = le-ltb CONDACT_LIMIT _ (omega (arith, length-append done (c ∷ []))) in
+    ap (λ (r : Result (List Condact) SourceKind). with_more_condacts done r >>= at_most CONDACT_LIMIT) back.read ∙ rw within refl

@@ -9,7 +9,8 @@ use Rattle.std.specs.Ordering.{is_eq, is_lt, nat_cmp}
 use Rattle.std.specs.Cmp.Lexicographic.{slice_cmp}
 use Rattle.std.proofs.lemmas.Bool.{and_parts, or_cases, eqb-true, eq-eqb, ne_eqb, leb-true, lt-ltb, ltb-true}
 use Rattle.std.proofs.lemmas.Bool.{false≢true}
-use Rattle.paw_base.specs.declared.words.TheConstants.{LEAST_WORD, GREATEST_WORD}
+use Rattle.paw_base.specs.declared.words.TheConstants.{LEAST_WORD, GREATEST_WORD, ANY_WORD, NO_WORD, NOUN_CLASS}
+use Rattle.paw_base.specs.declared.words.TheConstants.{VERB_CLASS, FIRST_PLAIN_NOUN}
 use Rattle.paw_grammar.specs.Spells.{begins_with_slash}
 use Rattle.std.proofs.lemmas.Cmp.{nat_list_cmp_total}
 use Rattle.std.proofs.lemmas.Map.Text.{is_eq-slice_cmp}
@@ -100,7 +101,7 @@ pub record Words (ws : List Word) : Type 0 where
 record First (ws : List Word) (class value : ℕ) (w : Word) : Type 0 where
   class_is : w.class ≡ class
   value_is : w.value ≡ value
-  low : 2 ≤ value
+  low : LEAST_WORD ≤ value
   high : value ≤ GREATEST_WORD
   spelled : Spelling (spelled_letters w) w.letters
   known_is : declared_word ws (spelled_letters w) ≡ Some w
@@ -111,7 +112,7 @@ first_is ws class value w words h =
     let kept = and_parts (are_letters w.letters) _ (find_keeps (means class value) is_word ws w words.all h) in
     let range = and_parts (leb LEAST_WORD w.value) (leb w.value GREATEST_WORD) (and_parts (is_within LEAST_WORD GREATEST_WORD w.value) _ kept.1).0 in
     let value_is : w.value ≡ value = eqb-true w.value value passes.1 in
-    let low : 2 ≤ w.value = leb-true 2 w.value range.0 in
+    let low : LEAST_WORD ≤ w.value = leb-true LEAST_WORD w.value range.0 in
     let high : w.value ≤ GREATEST_WORD = leb-true w.value GREATEST_WORD range.1 in
     let s = spelling w.letters kept.0 in
     record {
@@ -125,8 +126,8 @@ first_is ws class value w words h =
 
 no_sign : (value : ℕ) (w : Word) → LEAST_WORD ≤ value → value ≤ GREATEST_WORD → word_token value (Some w) ≡ spelled_letters w
 no_sign value w low high =
-    let one : eqb value 1 ≡ false = ne_eqb value 1 (λ e. omega arith) in
-    let none : eqb value 255 ≡ false = ne_eqb value 255 (λ e. omega arith) in
+    let one : eqb value ANY_WORD ≡ false = ne_eqb value ANY_WORD (λ e. omega arith) in
+    let none : eqb value NO_WORD ≡ false = ne_eqb value NO_WORD (λ e. omega arith) in
     rw (one, none) refl
 
 -- ---- reading ----
@@ -161,29 +162,29 @@ value_back ws class value words has =
 pub word_or_none_back : (ws : List Word) (class value : ℕ) → Words ws → is_word_or_none ws class value ≡ true →
     ReadsBack (value_token ws class value) (word_or_none ws class) value
 word_or_none_back ws class value words h =
-    elim (or_cases (eqb value 255) (has_word ws class value) h) [
-      | inl e ↦ rw (eqb-true value 255 e) (record { plain = refl; slash = refl; at = refl; is = λ ts. refl })
+    elim (or_cases (eqb value NO_WORD) (has_word ws class value) h) [
+      | inl e ↦ rw (eqb-true value NO_WORD e) (record { plain = refl; slash = refl; at = refl; is = λ ts. refl })
       | inr has ↦ value_back ws class value words has
     ]
 
 -- The noun of an entry.
-pub entry_noun_back : (ws : List Word) (value : ℕ) → Words ws → (is_wildcard value || has_word ws 2 value) ≡ true →
-    ReadsBack (value_token ws 2 value) (entry_noun ws) value
+pub entry_noun_back : (ws : List Word) (value : ℕ) → Words ws → (is_wildcard value || has_word ws NOUN_CLASS value) ≡ true →
+    ReadsBack (value_token ws NOUN_CLASS value) (entry_noun ws) value
 entry_noun_back ws value words h =
-    elim (or_cases (is_wildcard value) (has_word ws 2 value) h) [
-      | inl any ↦ elim (or_cases (eqb value 1) (eqb value 255) any) [
-        | inl e ↦ rw (eqb-true value 1 e) (record { plain = refl; slash = refl; at = refl; is = λ ts. refl })
-        | inr e ↦ rw (eqb-true value 255 e) (record { plain = refl; slash = refl; at = refl; is = λ ts. refl })
+    elim (or_cases (is_wildcard value) (has_word ws NOUN_CLASS value) h) [
+      | inl any ↦ elim (or_cases (eqb value ANY_WORD) (eqb value NO_WORD) any) [
+        | inl e ↦ rw (eqb-true value ANY_WORD e) (record { plain = refl; slash = refl; at = refl; is = λ ts. refl })
+        | inr e ↦ rw (eqb-true value NO_WORD e) (record { plain = refl; slash = refl; at = refl; is = λ ts. refl })
       ]
       | inr has ↦
-          let found = find_some (means 2 value) ws has in
-          let f = first_is ws 2 value found.0 words found.1 in
-          let token : value_token ws 2 value ≡ spelled_letters found.0 = ap (word_token value) found.1 ∙ no_sign value found.0 f.low f.high in
+          let found = find_some (means NOUN_CLASS value) ws has in
+          let f = first_is ws NOUN_CLASS value found.0 words found.1 in
+          let token : value_token ws NOUN_CLASS value ≡ spelled_letters found.0 = ap (word_token value) found.1 ∙ no_sign value found.0 f.low f.high in
           rw token (record {
             plain = f.spelled.plain;
             slash = f.spelled.slash;
             at = f.spelled.at;
-            is = λ ts. rw (f.spelled.any, f.spelled.none, in_class-is ws 2 value found.0 f) refl;
+            is = λ ts. rw (f.spelled.any, f.spelled.none, in_class-is ws NOUN_CLASS value found.0 f) refl;
           })
     ]
 
@@ -191,16 +192,16 @@ entry_noun_back ws value words h =
 
 -- The word that stands for a verb value.
 record Verb (ws : List Word) (value : ℕ) (w : Word) : Type 0 where
-  stands : option_or (first_word ws 0 value) (first_word ws 2 value) ≡ Some w
-  low : 2 ≤ value
+  stands : option_or (first_word ws VERB_CLASS value) (first_word ws NOUN_CLASS value) ≡ Some w
+  low : LEAST_WORD ≤ value
   high : value ≤ GREATEST_WORD
   spelled : Spelling (spelled_letters w) w.letters
   read : as_verb (declared_word ws (spelled_letters w)) ≡ Some value
 
-verb_is : (ws : List Word) (value : ℕ) (w : Word) → Words ws → first_word ws 0 value ≡ Some w → Verb ws value w
+verb_is : (ws : List Word) (value : ℕ) (w : Word) → Words ws → first_word ws VERB_CLASS value ≡ Some w → Verb ws value w
 verb_is ws value w words h =
-    let f = first_is ws 0 value w words h in
-    let same : eqb w.class 0 ≡ true = eq-eqb w.class 0 f.class_is in
+    let f = first_is ws VERB_CLASS value w words h in
+    let same : eqb w.class VERB_CLASS ≡ true = eq-eqb w.class VERB_CLASS f.class_is in
     record {
       stands = rw h refl;
       low = f.low;
@@ -209,12 +210,13 @@ verb_is ws value w words h =
       read = rw f.known_is (rw same (ap Some f.value_is));
     }
 
-noun_is : (ws : List Word) (value : ℕ) (w : Word) → Words ws → value < 20 → first_word ws 0 value ≡ None → first_word ws 2 value ≡ Some w → Verb ws value w
+noun_is : (ws : List Word) (value : ℕ) (w : Word) → Words ws → value < FIRST_PLAIN_NOUN → first_word ws VERB_CLASS value ≡ None
+    → first_word ws NOUN_CLASS value ≡ Some w → Verb ws value w
 noun_is ws value w words small none h =
-    let f = first_is ws 2 value w words h in
-    let verb : eqb w.class 0 ≡ false = ne_eqb w.class 0 (λ e. omega (arith, f.class_is)) in
-    let noun : eqb w.class 2 ≡ true = eq-eqb w.class 2 f.class_is in
-    let below : ltb w.value 20 ≡ true = lt-ltb w.value 20 (omega (arith, f.value_is)) in
+    let f = first_is ws NOUN_CLASS value w words h in
+    let verb : eqb w.class VERB_CLASS ≡ false = ne_eqb w.class VERB_CLASS (λ e. omega (arith, f.class_is)) in
+    let noun : eqb w.class NOUN_CLASS ≡ true = eq-eqb w.class NOUN_CLASS f.class_is in
+    let below : ltb w.value FIRST_PLAIN_NOUN ≡ true = lt-ltb w.value FIRST_PLAIN_NOUN (omega (arith, f.value_is)) in
     record {
       stands = rw (none, h) refl;
       low = f.low;
@@ -225,17 +227,17 @@ noun_is ws value w words small none h =
 
 some_verb : (ws : List Word) (value : ℕ) → Words ws → is_verb_value ws value ≡ true → (w : Word) × Verb ws value w
 some_verb ws value words h =
-    elim (first_word ws 0 value) as (λ o. first_word ws 0 value ≡ o → (w : Word) × Verb ws value w) [
+    elim (first_word ws VERB_CLASS value) as (λ o. first_word ws VERB_CLASS value ≡ o → (w : Word) × Verb ws value w) [
       | Some w ↦ λ e. (w, verb_is ws value w words e)
-      | None ↦ λ e. elim (or_cases (has_word ws 0 value) (ltb value 20 && has_word ws 2 value) h) [
+      | None ↦ λ e. elim (or_cases (has_word ws VERB_CLASS value) (ltb value FIRST_PLAIN_NOUN && has_word ws NOUN_CLASS value) h) [
         | inl has ↦
-            let found = find_some (means 0 value) ws has in
-            let first : first_word ws 0 value ≡ Some found.0 = found.1 in
+            let found = find_some (means VERB_CLASS value) ws has in
+            let first : first_word ws VERB_CLASS value ≡ Some found.0 = found.1 in
             absurd cc
         | inr has ↦
-            let both = and_parts (ltb value 20) (has_word ws 2 value) has in
-            let found = find_some (means 2 value) ws both.1 in
-            (found.0, noun_is ws value found.0 words (ltb-true value 20 both.0) e found.1)
+            let both = and_parts (ltb value FIRST_PLAIN_NOUN) (has_word ws NOUN_CLASS value) has in
+            let found = find_some (means NOUN_CLASS value) ws both.1 in
+            (found.0, noun_is ws value found.0 words (ltb-true value FIRST_PLAIN_NOUN both.0) e found.1)
       ]
     ] refl
 
@@ -258,9 +260,9 @@ pub entry_verb_back : (ws : List Word) (value : ℕ) → Words ws → (is_wildca
     ReadsBack (verb_token ws value) (entry_verb ws) value
 entry_verb_back ws value words h =
     elim (or_cases (is_wildcard value) (is_verb_value ws value) h) [
-      | inl any ↦ elim (or_cases (eqb value 1) (eqb value 255) any) [
-        | inl e ↦ rw (eqb-true value 1 e) (record { plain = refl; slash = refl; at = refl; is = λ ts. refl })
-        | inr e ↦ rw (eqb-true value 255 e) (record { plain = refl; slash = refl; at = refl; is = λ ts. refl })
+      | inl any ↦ elim (or_cases (eqb value ANY_WORD) (eqb value NO_WORD) any) [
+        | inl e ↦ rw (eqb-true value ANY_WORD e) (record { plain = refl; slash = refl; at = refl; is = λ ts. refl })
+        | inr e ↦ rw (eqb-true value NO_WORD e) (record { plain = refl; slash = refl; at = refl; is = λ ts. refl })
       ]
       | inr is ↦
           let v = some_verb ws value words is in

@@ -9,6 +9,7 @@ use Rattle.std.proofs.lemmas.Bool.{and_parts, and_from, or_cases, or_left, or_ri
 use Rattle.std.proofs.lemmas.Bool.{lt-ltb, not_from_false}
 use Rattle.std.proofs.lemmas.List.{take_all}
 use Rattle.paw_lex.proofs.Slices.{before_first-cons}
+use Rattle.paw_base.specs.declared.limits.TheConstants.{WORD_LENGTH}
 use Rattle.paw_base.specs.Condacts.{capitals}
 use Rattle.paw_game.specs.Valid.{is_letter, is_filled, are_letters}
 use Rattle.paw_grammar.specs.Tokens.{begins_with_at}
@@ -127,7 +128,7 @@ pub record Spelling (t letters : List ℕ) : Type 0 where
   pub word : is_word_token t ≡ true
   pub is : read_letters t ≡ letters
 
-spelling-letters : (c : ℕ) (cs letters : List ℕ) → length letters ≡ 5 → IsTrimmed letters (c ∷ cs) → Spelling (c ∷ cs) letters
+spelling-letters : (c : ℕ) (cs letters : List ℕ) → length letters ≡ WORD_LENGTH → IsTrimmed letters (c ∷ cs) → Spelling (c ∷ cs) letters
 spelling-letters c cs letters long t =
     let first = letter c (and_parts (is_letter c) (list_all is_letter cs) t.letters).0 in
     let stroke : eqb c 47 ≡ false = ne_eqb c 47 (λ e. omega (arith, first.low)) in
@@ -142,8 +143,8 @@ spelling-letters c cs letters long t =
       none = rw under refl;
       word = and_from _ _ (lt-ltb 0 (length (c ∷ cs)) (omega arith)) (letters_alphanumeric (c ∷ cs) t.letters);
       is =
-          ap (λ (s : List ℕ). take 5 s ++ replicate (5 - length (c ∷ cs)) 32) same
-          ∙ ap (λ (s : List ℕ). s ++ replicate (5 - length (c ∷ cs)) 32) (take_all 5 (c ∷ cs) (omega (arith, t.short)))
+          ap (λ (s : List ℕ). take WORD_LENGTH s ++ replicate (WORD_LENGTH - length (c ∷ cs)) 32) same
+          ∙ ap (λ (s : List ℕ). s ++ replicate (WORD_LENGTH - length (c ∷ cs)) 32) (take_all WORD_LENGTH (c ∷ cs) (omega (arith, t.short)))
           ∙ ap (λ n. (c ∷ cs) ++ replicate (n - length (c ∷ cs)) 32) (sym long)
           ∙ t.filled;
     }
@@ -151,7 +152,7 @@ spelling-letters c cs letters long t =
 pub spelling : (letters : List ℕ) → are_letters letters ≡ true → Spelling (before_first (λ b. eqb b 32) letters) letters
 spelling [] h = absurd cc
 spelling (c ∷ cs) h =
-    let long = and_parts (eqb (length (c ∷ cs)) 5) _ h in
+    let long = and_parts (eqb (length (c ∷ cs)) WORD_LENGTH) _ h in
     let first = and_parts (is_letter c) (is_filled cs) long.1 in
     let begins = before_first-cons (λ b. eqb b 32) c cs (letter c first.0).no_space in
     rw begins (spelling-letters c (before_first (λ b. eqb b 32) cs) (c ∷ cs) (eqb-true _ _ long.0)

@@ -6,8 +6,9 @@ use Rattle.std.specs.List.{list_all}
 use Rattle.std.specs.Fmt.{decimal}
 use Rattle.std.proofs.lemmas.Bool.{and_parts, and_from, or_cases, leb-true, ltb-true, lt-ltb, le-leb, eq-eqb}
 use Rattle.std.proofs.lemmas.List.{append_assoc, append-nil}
-use Rattle.paw_base.specs.declared.limits.TheConstants.{LOCATION_LIMIT}
+use Rattle.paw_base.specs.declared.limits.TheConstants.{LOCATION_LIMIT, WEIGHT_LIMIT, OBJECT_LIMIT}
 use Rattle.paw_base.specs.declared.places.TheConstants.{NOT_CREATED_PLACE, CARRIED_PLACE}
+use Rattle.paw_base.specs.declared.words.TheConstants.{NOUN_CLASS, ADJECTIVE_CLASS}
 use Rattle.paw_base.specs.declared.fault.SourceKind.{SourceKind}
 use Rattle.paw_base.specs.declared.parts.ObjectFacts.{ObjectFacts}
 use Rattle.paw_game.specs.declared.parts.Word.{Word}
@@ -45,10 +46,10 @@ record FactsRow (ws : List Word) (locations n count : ℕ) (f : ObjectFacts) : T
   small : n ≤ 65535
   place : is_place locations f.start ≡ true
   start_small : f.start ≤ 65535
-  weight : is_within 0 63 f.weight ≡ true
+  weight : is_within 0 WEIGHT_LIMIT f.weight ≡ true
   weight_small : f.weight ≤ 65535
-  noun : ReadsBack (value_token ws 2 f.noun) (word_or_none ws 2) f.noun
-  adjective : ReadsBack (value_token ws 3 f.adjective) (word_or_none ws 3) f.adjective
+  noun : ReadsBack (value_token ws NOUN_CLASS f.noun) (word_or_none ws NOUN_CLASS) f.noun
+  adjective : ReadsBack (value_token ws ADJECTIVE_CLASS f.adjective) (word_or_none ws ADJECTIVE_CLASS) f.adjective
 
 object_row-is : (ws : List Word) (locations n count : ℕ) (f : ObjectFacts) → FactsRow ws locations n count f →
     object_row ws locations n count (object_tokens ws n f) ≡ Ok f
@@ -63,7 +64,7 @@ object_row-is ws locations n count f r =
       number-decimal f.weight r.weight_small,
       r.weight,
       kind_back f.container f.wearable,
-      r.noun.is (value_token ws 3 f.adjective ∷ []),
+      r.noun.is (value_token ws ADJECTIVE_CLASS f.adjective ∷ []),
       r.adjective.is [],
     ) refl
 
@@ -77,10 +78,10 @@ place_small locations p few h =
 facts_row : (ws : List Word) (locations n count : ℕ) (f : ObjectFacts) → Words ws → locations ≤ LOCATION_LIMIT → n < count →
     count ≤ 65535 → facts_are_valid ws locations f ≡ true → FactsRow ws locations n count f
 facts_row ws locations n count f words few below most h =
-    let noun = and_parts (is_word_or_none ws 2 f.noun) _ h in
-    let adjective = and_parts (is_word_or_none ws 3 f.adjective) _ noun.1 in
-    let start = and_parts (is_place locations f.start) (leb f.weight 63) adjective.1 in
-    let light : f.weight ≤ 63 = leb-true f.weight 63 start.1 in
+    let noun = and_parts (is_word_or_none ws NOUN_CLASS f.noun) _ h in
+    let adjective = and_parts (is_word_or_none ws ADJECTIVE_CLASS f.adjective) _ noun.1 in
+    let start = and_parts (is_place locations f.start) (leb f.weight WEIGHT_LIMIT) adjective.1 in
+    let light : f.weight ≤ WEIGHT_LIMIT = leb-true f.weight WEIGHT_LIMIT start.1 in
     record {
       below = lt-ltb n count below;
       small = omega arith;
@@ -88,8 +89,8 @@ facts_row ws locations n count f words few below most h =
       start_small = place_small locations f.start few start.0;
       weight = and_from (leb 0 f.weight) _ (le-leb 0 f.weight (omega arith)) start.1;
       weight_small = omega arith;
-      noun = word_or_none_back ws 2 f.noun words noun.0;
-      adjective = word_or_none_back ws 3 f.adjective words adjective.0;
+      noun = word_or_none_back ws NOUN_CLASS f.noun words noun.0;
+      adjective = word_or_none_back ws ADJECTIVE_CLASS f.adjective words adjective.0;
     }
 
 plain_facts : (ws : List Word) (locations n count : ℕ) (f : ObjectFacts) → FactsRow ws locations n count f → list_all is_plain (object_tokens ws n f) ≡ true
@@ -112,7 +113,7 @@ object_step p d fs f at r =
     let ts : List (List ℕ) = object_tokens d.words (length fs) f in
     let out : is_in_text e ≡ false = rw at refl in
     let others : List (List ℕ) = decimal f.start ∷ decimal f.weight ∷ kind_token f.container f.wearable ∷ value_token
-    d.words 2 f.noun ∷ value_token d.words 3 f.adjective ∷ [] in
+    d.words NOUN_CLASS f.noun ∷ value_token d.words ADJECTIVE_CLASS f.adjective ∷ [] in
     let plain = plain_facts d.words (length d.locations) (length fs) (length d.names) f r in
     record {
       is =
@@ -125,7 +126,7 @@ object_step p d fs f at r =
 
 -- The rows of objects after those that were read.
 pub objects_read : (p : ℕ) (d : Spelt) (fs : List ObjectFacts) (n : ℕ) (os : List ObjectRow) → d.section ≡ section.Obj →
-    Scene d → n ≡ length fs → length fs + length os ≤ length d.names → length d.names ≤ 255
+    Scene d → n ≡ length fs → length fs + length os ≤ length d.names → length d.names ≤ OBJECT_LIMIT
     → list_all (is_object d.words (length d.locations)) os ≡ true →
     Reads p (record d { facts = fs }) (numbered_lines (λ k (o : ObjectRow). tokens_spaced (object_tokens d.words k o.facts) ∷ []) n os)
     (record d { facts = fs ++ map (λ o. o.facts) os })

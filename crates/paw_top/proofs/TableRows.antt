@@ -7,7 +7,8 @@ use Rattle.std.specs.List.{list_all, flat_map}
 use Rattle.std.specs.Fmt.{decimal}
 use Rattle.std.proofs.lemmas.Bool.{and_parts, leb-true, lt-ltb, eq-eqb, ne_eqb}
 use Rattle.std.proofs.lemmas.List.{append_assoc, append-nil}
-use Rattle.paw_base.specs.declared.limits.TheConstants.{ENTRY_LIMIT, CONDACT_LIMIT}
+use Rattle.paw_base.specs.declared.limits.TheConstants.{ENTRY_LIMIT, CONDACT_LIMIT, TABLE_LIMIT}
+use Rattle.paw_base.specs.declared.words.TheConstants.{NOUN_CLASS}
 use Rattle.paw_base.specs.declared.fault.SourceKind.{SourceKind}
 use Rattle.paw_base.specs.declared.parts.Condact.{Condact}
 use Rattle.paw_game.specs.declared.parts.Word.{Word}
@@ -52,7 +53,7 @@ spelt_of g exits tables = record {
 abbrev with_condacts : Entry → List Condact → Entry
 with_condacts e cs = record e { condacts = cs }
 
-more_row-is : (p : ℕ) (g : GameLists) (es : List Entry) (e : Entry) (done : List Condact) (c : Condact) → CondactBack p g c → length done < 255
+more_row-is : (p : ℕ) (g : GameLists) (es : List Entry) (e : Entry) (done : List Condact) (c : Condact) → CondactBack p g c → length done < CONDACT_LIMIT
     → more_row (bounds p g) g.words (es ++ with_condacts e done ∷ []) (condact_tokens g.words c) ≡ Ok (es ++ with_condacts e (done ++ c ∷ []) ∷ [])
 unfolding more_row
 more_row-is p g es e done c back few =
@@ -63,7 +64,7 @@ more_row-is p g es e done c back few =
     ∙ ap (λ (xs : List Entry). Ok xs) (with_last-push (with_condacts e (done ++ c ∷ [])) es now))
 
 condact_step : (p : ℕ) (g : GameLists) (exits : List (List Exit)) (ts : List (List Entry)) (es : List Entry) (e : Entry)
-    (done : List Condact) (c : Condact) → CondactBack p g c → length done < 255
+    (done : List Condact) (c : Condact) → CondactBack p g c → length done < CONDACT_LIMIT
     → LineReads p (spelt_of g exits (ts ++ (es ++ with_condacts e done ∷ []) ∷ [])) (condact_line g.words c)
     (spelt_of g exits (ts ++ (es ++ with_condacts e (done ++ c ∷ []) ∷ []) ∷ []))
 condact_step p g exits ts es e done c back few =
@@ -81,13 +82,13 @@ condact_step p g exits ts es e done c back few =
     }
 
 condacts_read : (p : ℕ) (g : GameLists) (exits : List (List Exit)) (ts : List (List Entry)) (es : List Entry)
-    (e : Entry) (done cs : List Condact) → Small p g → length (done ++ cs) ≤ 255 → list_all (is_condact g) cs ≡ true
+    (e : Entry) (done cs : List Condact) → Small p g → length (done ++ cs) ≤ CONDACT_LIMIT → list_all (is_condact g) cs ≡ true
     → Reads p (spelt_of g exits (ts ++ (es ++ with_condacts e done ∷ []) ∷ [])) (map (condact_line g.words) cs)
     (spelt_of g exits (ts ++ (es ++ with_condacts e (done ++ cs) ∷ []) ∷ []))
 condacts_read p g exits ts es e done [] s few h = rw (append-nil done) (reads_none p (spelt_of g exits (ts ++ (es ++ with_condacts e done ∷ []) ∷ [])))
 condacts_read p g exits ts es e done (c ∷ cs) s few h =
     let both = and_parts (is_condact g c) (list_all (is_condact g) cs) h in
-    let room : length done < 255 = omega (arith, length-append done (c ∷ cs), few) in
+    let room : length done < CONDACT_LIMIT = omega (arith, length-append done (c ∷ cs), few) in
     let same : (done ++ c ∷ []) ++ cs ≡ done ++ c ∷ cs = append_assoc done (c ∷ []) cs in
     let rest = condacts_read p g exits ts es e (done ++ c ∷ []) cs s (rw same few) both.1 in
     reads_line p _ _ _ _ _ (condact_step p g exits ts es e done c (condact_back p g c s both.0) room) (rw same at rest)
@@ -96,20 +97,20 @@ condacts_read p g exits ts es e done (c ∷ cs) s few h =
 
 -- Verb, noun.
 abbrev entry_tokens : List Word → Entry → List (List ℕ)
-entry_tokens ws e = verb_token ws e.verb ∷ value_token ws 2 e.noun ∷ []
+entry_tokens ws e = verb_token ws e.verb ∷ value_token ws NOUN_CLASS e.noun ∷ []
 
 -- What the line of an entry needs.
 record EntryRow (ws : List Word) (e : Entry) : Type 0 where
   verb : ReadsBack (verb_token ws e.verb) (entry_verb ws) e.verb
-  noun : ReadsBack (value_token ws 2 e.noun) (entry_noun ws) e.noun
+  noun : ReadsBack (value_token ws NOUN_CLASS e.noun) (entry_noun ws) e.noun
 
 entry_row-is : (p : ℕ) (g : GameLists) (es : List Entry) (e : Entry) → EntryRow g.words e → length es < ENTRY_LIMIT
     → entry_row (bounds p g) g.words es (entry_tokens g.words e) ≡ Ok (es ++ with_condacts e [] ∷ [])
 unfolding entry_row more_condacts condacts_in
 entry_row-is p g es e r room =
     let below : ltb (length es) ENTRY_LIMIT ≡ true = lt-ltb (length es) ENTRY_LIMIT room in
-    let few : ltb 255 0 ≡ false = refl in
-    rw (r.verb.is (value_token g.words 2 e.noun ∷ []), r.noun.is []) (rw below refl)
+    let few : ltb CONDACT_LIMIT 0 ≡ false = refl in
+    rw (r.verb.is (value_token g.words NOUN_CLASS e.noun ∷ []), r.noun.is []) (rw below refl)
 
 entry_step : (p : ℕ) (g : GameLists) (exits : List (List Exit)) (ts : List (List Entry)) (es : List Entry) (e : Entry) →
     EntryRow g.words e → length es < ENTRY_LIMIT
@@ -118,9 +119,9 @@ entry_step p g exits ts es e r room =
     let d : Spelt = spelt_of g exits (ts ++ es ∷ []) in
     let plain : list_all is_plain (entry_tokens g.words e) ≡ true = rw (r.verb.plain, r.noun.plain) refl in
     record {
-      printed = printed-spaced (verb_token g.words e.verb) (value_token g.words 2 e.noun ∷ []) plain;
+      printed = printed-spaced (verb_token g.words e.verb) (value_token g.words NOUN_CLASS e.noun ∷ []) plain;
       is =
-          row_step p d (verb_token g.words e.verb) (value_token g.words 2 e.noun ∷ []) plain r.verb.slash refl
+          row_step p d (verb_token g.words e.verb) (value_token g.words NOUN_CLASS e.noun ∷ []) plain r.verb.slash refl
           ∙ ap (λ (xs : List Entry). entry_row (bounds p g) g.words xs (entry_tokens g.words e) >>= λ us. Ok
           (spelt_of g exits (with_last us (ts ++ es ∷ [])))) (last_or-push [] ts es)
           ∙ ap (λ (x : Result (List Entry) SourceKind). x >>= λ us. Ok (spelt_of g exits (with_last us (ts ++ es ∷ [])))) (entry_row-is p g es e r room)
@@ -134,7 +135,7 @@ entries_read p g exits ts done [] s few h = rw (append-nil done) (reads_none p (
 entries_read p g exits ts done (e ∷ es) s few h =
     let both = and_parts (is_entry g e) (list_all (is_entry g) es) h in
     let verb = and_parts (is_wildcard e.verb || is_verb_value g.words e.verb) _ both.0 in
-    let noun = and_parts (is_wildcard e.noun || has_word g.words 2 e.noun) _ verb.1 in
+    let noun = and_parts (is_wildcard e.noun || has_word g.words NOUN_CLASS e.noun) _ verb.1 in
     let cs = and_parts (leb (length e.condacts) CONDACT_LIMIT) (list_all (is_condact g) e.condacts) noun.1 in
     let row : EntryRow g.words e = record { verb = entry_verb_back g.words e.verb s.words verb.0; noun = entry_noun_back g.words e.noun s.words noun.0 } in
     let room : length done < ENTRY_LIMIT = omega (arith, length-append done (e ∷ es), few) in
@@ -154,7 +155,7 @@ header_step : (p : ℕ) (d : Spelt) (n : ℕ) → next_header d.section ≡ (cod
     lacks_rows d ≡ false → LineReads p d (tokens_spaced (codes "/PRO" ∷ decimal n ∷ [])) (table_begun d)
 header_step p d n at is few rows =
     let small : n ≤ 65535 = omega arith in
-    let within : ltb n 256 ≡ true = lt-ltb n 256 (omega arith) in
+    let within : ltb n TABLE_LIMIT ≡ true = lt-ltb n TABLE_LIMIT (omega arith) in
     let next : eqb n (length d.tables) ≡ true = eq-eqb n (length d.tables) is in
     let plain : list_all is_plain (codes "/PRO" ∷ decimal n ∷ []) ≡ true = rw (plain-decimal n small) refl in
     record {
@@ -177,7 +178,7 @@ no_row_lacks g exits ts some =
 
 -- The tables after those that were read.
 pub tables_read : (p : ℕ) (g : GameLists) (exits : List (List Exit)) (ts : List (List Entry)) (n : ℕ)
-    (rest : List (List Entry)) → Small p g → n ≡ length ts → 0 < n → length (ts ++ rest) ≤ 256
+    (rest : List (List Entry)) → Small p g → n ≡ length ts → 0 < n → length (ts ++ rest) ≤ TABLE_LIMIT
     → list_all (is_table g) rest ≡ true → Reads p (spelt_of g exits ts) (numbered_lines (table_lines g.words) n rest) (spelt_of g exits (ts ++ rest))
 tables_read p g exits ts n [] s is some few h = rw (append-nil ts) (reads_none p (spelt_of g exits ts))
 tables_read p g exits ts n (es ∷ rest) s is some few h =

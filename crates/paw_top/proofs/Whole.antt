@@ -6,7 +6,8 @@ use Rattle.std.specs.List.{list_all, count_by}
 use Rattle.std.proofs.Math.ListN.{length-map}
 use Rattle.std.proofs.lemmas.Bool.{and_parts, and_from, leb-true, le-ltb, eqb-true, ne_eqb}
 use Rattle.paw_base.specs.declared.limits.TheConstants.{IMAGE_LIMIT, LOCATION_LIMIT, SOURCE_LIMIT, WORD_LIMIT}
-use Rattle.paw_base.specs.declared.limits.TheConstants.{OBJECT_LIMIT}
+use Rattle.paw_base.specs.declared.limits.TheConstants.{OBJECT_LIMIT, SYSTEM_LIMIT, MESSAGE_LIMIT, TABLE_LEAST}
+use Rattle.paw_base.specs.declared.limits.TheConstants.{TABLE_LIMIT}
 use Rattle.paw_game.specs.declared.parts.Word.{Word}
 use Rattle.paw_game.specs.declared.parts.Exit.{Exit}
 use Rattle.paw_game.specs.declared.parts.Entry.{Entry}
@@ -45,34 +46,34 @@ record Rules (g : GameLists) : Type 0 where
   few_words : length g.words ≤ WORD_LIMIT
   all_words : list_all is_word g.words ≡ true
   rise : words_rise g.words ≡ true
-  few_system : length g.system ≤ 256
+  few_system : length g.system ≤ SYSTEM_LIMIT
   system : list_all is_text g.system ≡ true
-  few_messages : length g.messages ≤ 256
+  few_messages : length g.messages ≤ MESSAGE_LIMIT
   messages : list_all is_text g.messages ≡ true
-  few_objects : length g.objects ≤ 255
+  few_objects : length g.objects ≤ OBJECT_LIMIT
   objects : list_all (is_object g.words (length g.locations)) g.objects ≡ true
   some_locations : 1 ≤ length g.locations
   few_locations : length g.locations ≤ LOCATION_LIMIT
   locations : list_all is_text g.locations ≡ true
   one_each : length g.exits ≡ length g.locations
   exits : list_all (exits_are_valid g.words (length g.locations)) g.exits ≡ true
-  some_tables : 3 ≤ length g.tables
-  few_tables : length g.tables ≤ 256
+  some_tables : TABLE_LEAST ≤ length g.tables
+  few_tables : length g.tables ≤ TABLE_LIMIT
   tables : list_all (is_table g) g.tables ≡ true
 
 rules : (g : GameLists) → Valid g → Rules g
 rules g v =
     let words = and_parts (leb (length g.words) WORD_LIMIT) _ v.words in
     let each = and_parts (list_all is_word g.words) (words_rise g.words) words.1 in
-    let system = and_parts (leb (length g.system) 256) (list_all is_text g.system) v.system in
-    let messages = and_parts (leb (length g.messages) 256) (list_all is_text g.messages) v.messages in
+    let system = and_parts (leb (length g.system) SYSTEM_LIMIT) (list_all is_text g.system) v.system in
+    let messages = and_parts (leb (length g.messages) MESSAGE_LIMIT) (list_all is_text g.messages) v.messages in
     let objects = and_parts (leb (length g.objects) OBJECT_LIMIT)
     (list_all (is_object g.words (length g.locations)) g.objects) v.objects in
     let some = and_parts (leb 1 (length g.locations)) (rows_are_valid LOCATION_LIMIT is_text g.locations) v.locations in
     let locations = and_parts (leb (length g.locations) LOCATION_LIMIT) (list_all is_text g.locations) some.1 in
     let exits = and_parts (eqb (length g.exits) (length g.locations)) (list_all (exits_are_valid g.words (length g.locations)) g.exits) v.exits in
-    let tables = and_parts (is_within 3 256 (length g.tables)) (list_all (is_table g) g.tables) v.tables in
-    let range = and_parts (leb 3 (length g.tables)) (leb (length g.tables) 256) tables.0 in
+    let tables = and_parts (is_within TABLE_LEAST TABLE_LIMIT (length g.tables)) (list_all (is_table g) g.tables) v.tables in
+    let range = and_parts (leb TABLE_LEAST (length g.tables)) (leb (length g.tables) TABLE_LIMIT) tables.0 in
     record {
       few_words = leb-true _ _ words.0;
       all_words = each.0;
@@ -126,7 +127,7 @@ no_row_lacks g b exits =
     le-ltb _ _ (omega (arith, facts, names))
 
 tables_section : (p : ℕ) (g : GameLists) (b : Bool) (exits : List (List Exit)) (ts : List (List Entry)) → Small p g →
-    3 ≤ length ts → length ts ≤ 256 → list_all (is_table g) ts ≡ true
+    TABLE_LEAST ≤ length ts → length ts ≤ TABLE_LIMIT → list_all (is_table g) ts ≡ true
     → Reads p (before_tables g b exits) (numbered_lines (table_lines g.words) 0 ts) (spelt_of g exits ts)
 tables_section p g b exits [] s some few h = absurd (omega arith)
 tables_section p g b exits (t ∷ ts) s some few h =
@@ -147,7 +148,7 @@ unfolding canonical_lines
 whole_read p g r s =
     let names : List (List ℕ) = map (λ (o : ObjectRow). o.text) g.objects in
     let as_many = length-map g.objects (λ (o : ObjectRow). o.text) in
-    let names_few : length names ≤ 255 = omega (arith, as_many, r.few_objects) in
+    let names_few : length names ≤ OBJECT_LIMIT = omega (arith, as_many, r.few_objects) in
     -- The words.
     let d0 : Spelt = section_opened section.Voc nothing_yet in
     let d1 : Spelt = record d0 { words = g.words } in
@@ -218,7 +219,7 @@ read_again counts g r within =
     let whole = whole_read (length g.tables) g r (small g r) in
     let e : Spelt = spelt_of g whole.exits g.tables in
     let same : game_of e ≡ g = game_is g whole.exits whole.filled in
-    let many : ltb (length g.tables) 3 ≡ false = le-ltb _ _ r.some_tables in
+    let many : ltb (length g.tables) TABLE_LEAST ≡ false = le-ltb _ _ r.some_tables in
     let short : ltb IMAGE_LIMIT (length (image (game_of e))) ≡ false = ap (λ h. ltb IMAGE_LIMIT (length (image h))) same ∙ le-ltb _ _ within in
     ap (λ p. spelled_after p 0 nothing_yet (canonical_lines g)) (counted counts (length g.tables) g whole.exits whole.reads)
     ∙ reads_whole (length g.tables) nothing_yet e (canonical_lines g) whole.reads many short

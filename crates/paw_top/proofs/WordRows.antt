@@ -12,7 +12,7 @@ use Rattle.std.proofs.lemmas.Cmp.{nat_list_cmp_total}
 use Rattle.std.proofs.lemmas.List.{append_assoc, append-nil}
 use Rattle.std.proofs.lemmas.Map.Text.{is_eq-slice_cmp}
 use Rattle.paw_base.specs.declared.limits.TheConstants.{WORD_LIMIT}
-use Rattle.paw_base.specs.declared.words.TheConstants.{LEAST_WORD, GREATEST_WORD}
+use Rattle.paw_base.specs.declared.words.TheConstants.{LEAST_WORD, GREATEST_WORD, PRONOUN_CLASS}
 use Rattle.paw_base.specs.declared.fault.SourceKind.{SourceKind}
 use Rattle.paw_game.specs.declared.parts.Word.{Word}
 use Rattle.paw_game.specs.Valid.{are_letters, is_within, is_word, words_rise}
@@ -36,7 +36,7 @@ record ClassName (c : ℕ) : Type 0 where
   plain : is_plain (class_name c) ≡ true
   read : index_among class_names (class_name c) ≡ Some c
 
-class_back : (c : ℕ) → leb c 6 ≡ true → ClassName c
+class_back : (c : ℕ) → leb c PRONOUN_CLASS ≡ true → ClassName c
 class_back zero h = record { plain = refl; read = refl }
 class_back (suc zero) h = record { plain = refl; read = refl }
 class_back (suc (suc zero)) h = record { plain = refl; read = refl }
@@ -44,7 +44,7 @@ class_back (suc (suc (suc zero))) h = record { plain = refl; read = refl }
 class_back (suc (suc (suc (suc zero)))) h = record { plain = refl; read = refl }
 class_back (suc (suc (suc (suc (suc zero))))) h = record { plain = refl; read = refl }
 class_back (suc (suc (suc (suc (suc (suc zero)))))) h = record { plain = refl; read = refl }
-class_back (suc (suc (suc (suc (suc (suc (suc n))))))) h = absurd (omega (arith, leb-true _ 6 h))
+class_back (suc (suc (suc (suc (suc (suc (suc n))))))) h = absurd (omega (arith, leb-true _ PRONOUN_CLASS h))
 
 -- ---- a word after words that stand below it ----
 
@@ -85,7 +85,7 @@ record WordRow (w : Word) : Type 0 where
 word_row : (w : Word) → is_word w ≡ true → WordRow w
 word_row w h =
     let letters = and_parts (are_letters w.letters) _ h in
-    let value = and_parts (is_within LEAST_WORD GREATEST_WORD w.value) (leb w.class 6) letters.1 in
+    let value = and_parts (is_within LEAST_WORD GREATEST_WORD w.value) (leb w.class PRONOUN_CLASS) letters.1 in
     let high : w.value ≤ GREATEST_WORD = leb-true w.value GREATEST_WORD (and_parts (leb LEAST_WORD w.value) (leb w.value GREATEST_WORD) value.0).1 in
     record { spelled = spelling w.letters letters.0; value = value.0; small = omega arith; class = class_back w.class value.1 }
 
