@@ -1,5 +1,5 @@
-use Rattle.std.proofs.Common.{◌≡◌, ◌≤◌, ◌<◌, ◌⊎◌, ◌∙◌, ℕ, List, [], ◌∷◌, Some, length, take, refl, sym, ap, subst}
-use Rattle.std.proofs.Common.{arith, inl, inr}
+use Rattle.std.proofs.Common.{◌≡◌, ◌+◌, ◌≤◌, ◌<◌, ◌⊎◌, ◌∙◌, ℕ, List, [], ◌∷◌, Some, length, take, refl, sym, ap}
+use Rattle.std.proofs.Common.{subst, arith, inl, inr}
 use Rattle.std.proofs.lemmas.List.{take_all}
 use Rattle.paw_wrap.specs.declared.columns.TheConstants.{WRAP_LIMIT}
 use Rattle.paw_stage.specs.AcrossCalls.{IsOneOf}
@@ -30,13 +30,13 @@ holds_text : (name given : List ℕ) (old new : Standing) → LoadsSome name WRA
     HoldsText old name given
 holds_text name given old new f short =
     let whole : length f.0 ≤ WRAP_LIMIT = short_enough WRAP_LIMIT f.0 (subst (λ b. length b ≤ WRAP_LIMIT) f.2 short) (in_order (length f.0) WRAP_LIMIT) in
-    (f.1 ∙ ap Some (sym (f.2 ∙ take_all 4194305 f.0 (omega (arith, whole)))), short)
+    (f.1 ∙ ap Some (sym (f.2 ∙ take_all (WRAP_LIMIT + 1) f.0 (omega (arith, whole)))), short)
 
 -- What was loaded and is too long comes of a file that is.
-is_long : (given bytes : List ℕ) → given ≡ take 4194305 bytes → WRAP_LIMIT < length given →
-    (length bytes ≤ WRAP_LIMIT) ⊎ (4194305 ≤ length bytes) → WRAP_LIMIT < length bytes
+is_long : (given bytes : List ℕ) → given ≡ take (WRAP_LIMIT + 1) bytes → WRAP_LIMIT < length given →
+    (length bytes ≤ WRAP_LIMIT) ⊎ (WRAP_LIMIT + 1 ≤ length bytes) → WRAP_LIMIT < length bytes
 is_long given bytes e h (inl k) =
-    absurd (omega (arith, k, subst (λ b. WRAP_LIMIT < length b) (e ∙ take_all 4194305 bytes (omega (arith, k))) h))
+    absurd (omega (arith, k, subst (λ b. WRAP_LIMIT < length b) (e ∙ take_all (WRAP_LIMIT + 1) bytes (omega (arith, k))) h))
 is_long given bytes e h (inr k) = omega (arith, k)
 
 -- A text that is shown in columns is wrapped, as far as it was shown.
