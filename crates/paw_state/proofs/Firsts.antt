@@ -5,12 +5,15 @@ use Rattle.std.specs.Prelude.{All, flat_map, nat_le, nat_lt, is_some, if◌then�
 use Rattle.std.specs.Option.{option_map, option_map_or, option_or}
 use Rattle.std.proofs.lemmas.List.{length-append}
 use Rattle.std.proofs.lemmas.Bool.Decides.{nat_tests}
+use Rattle.paw_base.specs.declared.limits.TheConstants.{FLAG_COUNT}
+use Rattle.paw_base.specs.declared.codes.TheConstants.{PROCESS}
 use Rattle.paw_game.specs.Game.{GameLists}
 use Rattle.paw_game.specs.Tables.{head_at, condact_at}
 use Rattle.paw_game.specs.Valid.{is_place}
 use Rattle.paw_process.specs.Kept.{may_open, has_code, parameter_of}
 use Rattle.paw_process.specs.inner.Kept.{is_that_table}
-use Rattle.paw_state.specs.declared.fields.TheConstants.{POSITION_LENGTH}
+use Rattle.paw_state.specs.declared.fields.TheConstants.{POSITION_LENGTH, POSITION_FLAGS, POSITION_PLACES, FRAME_ENTRY}
+use Rattle.paw_state.specs.declared.fields.TheConstants.{FRAME_AT, FRAME_ACTED, FRAME_LENGTH}
 use Rattle.paw_state.specs.declared.fields.FrameField.{FrameField}
 use Rattle.paw_state.specs.declared.fields.Fields.{Fields}
 use Rattle.paw_state.specs.declared.position_field.PositionField.{PositionField}
@@ -171,29 +174,30 @@ there_is g n at (f ∷ fs) e = rw e (ap (λ (o : Option ℕ). if f.holds g then 
 -- ---- positions ----
 
 held_there : (g : GameLists) (at : ℕ) (h : PositionField) (b : Bool) → IsSizedPosition h → (h.there == 0) ≡ b
-    → fault_from g (at + 1) (if_there h.there (flag_fields h.flags ++ place_fields h.places))
-    ≡ (if b then absent_fault at h else places_fault g (at + 257) h.places)
+    → fault_from g (at + POSITION_FLAGS) (if_there h.there (flag_fields h.flags ++ place_fields h.places))
+    ≡ (if b then absent_fault at h else places_fault g (at + POSITION_PLACES) h.places)
 held_there g at h true s e =
     let flags = if_there h.there (flag_fields h.flags) in
     let places = if_there h.there (place_fields h.places) in
-    let long : length (bytes_of flags) ≡ 256 = ap length (there_bytes h.there (flag_fields h.flags) ∙ each_bytes _ 0 h.flags) ∙ s.flags in
-    let k : at + 1 + 256 ≡ at + 257 = omega arith in
-    ap (fault_from g (at + 1)) (there_joined h.there (flag_fields h.flags) (place_fields h.places))
-    ∙ (step g (at + 1) 256 flags places (first_not is_zero (at + 1) h.flags) (first_not is_zero (at + 257) h.places)
-    (there_zero g h.there _ (at + 1) 0 h.flags e) long (rw k (there_zero g h.there _ (at + 257) 0 h.places e))
-    ∙ ap (option_or (first_not is_zero (at + 1) h.flags)) (sym (or_none (first_not is_zero (at + 257) h.places))))
+    let long : length (bytes_of flags) ≡ FLAG_COUNT = ap length (there_bytes h.there (flag_fields h.flags) ∙ each_bytes _ 0 h.flags) ∙ s.flags in
+    let k : at + POSITION_FLAGS + FLAG_COUNT ≡ at + POSITION_PLACES = omega arith in
+    ap (fault_from g (at + POSITION_FLAGS)) (there_joined h.there (flag_fields h.flags) (place_fields h.places))
+    ∙ (step g (at + POSITION_FLAGS) FLAG_COUNT flags places (first_not is_zero (at + POSITION_FLAGS) h.flags)
+    (first_not is_zero (at + POSITION_PLACES) h.places)
+    (there_zero g h.there _ (at + POSITION_FLAGS) 0 h.flags e) long (rw k (there_zero g h.there _ (at + POSITION_PLACES) 0 h.places e))
+    ∙ ap (option_or (first_not is_zero (at + POSITION_FLAGS) h.flags)) (sym (or_none (first_not is_zero (at + POSITION_PLACES) h.places))))
 held_there g at h false s e =
-    let long : length (bytes_of (flag_fields h.flags)) ≡ 256 = ap length (each_bytes _ 0 h.flags) ∙ s.flags in
-    let k : at + 1 + 256 ≡ at + 257 = omega arith in
-    there_is g h.there (at + 1) (flag_fields h.flags ++ place_fields h.places) e
-    ∙ step g (at + 1) 256 (flag_fields h.flags) (place_fields h.places) None (places_fault g (at + 257) h.places)
-    (free g (at + 1) 0 h.flags) long (rw k (places_same g (at + 257) h.places))
+    let long : length (bytes_of (flag_fields h.flags)) ≡ FLAG_COUNT = ap length (each_bytes _ 0 h.flags) ∙ s.flags in
+    let k : at + POSITION_FLAGS + FLAG_COUNT ≡ at + POSITION_PLACES = omega arith in
+    there_is g h.there (at + POSITION_FLAGS) (flag_fields h.flags ++ place_fields h.places) e
+    ∙ step g (at + POSITION_FLAGS) FLAG_COUNT (flag_fields h.flags) (place_fields h.places) None (places_fault g (at + POSITION_PLACES) h.places)
+    (free g (at + POSITION_FLAGS) 0 h.flags) long (rw k (places_same g (at + POSITION_PLACES) h.places))
 
 pub held_faults : (g : GameLists) (at : ℕ) (h : PositionField) → IsSizedPosition h → fault_from g at (position_fields h) ≡ position_fault g at h
 unfolding fault_from
 held_faults g at h s =
     ruled at (nat_le h.there 1) _ _
-    (held_there g at h (h.there == 0) s refl ∙ sym (or_none (if h.there == 0 then absent_fault at h else places_fault g (at + 257) h.places)))
+    (held_there g at h (h.there == 0) s refl ∙ sym (or_none (if h.there == 0 then absent_fault at h else places_fault g (at + POSITION_PLACES) h.places)))
 
 pub kept_faults : (g : GameLists) (at : ℕ) (hs : List PositionField) → All IsSizedPosition hs → fault_from g at (flat_map position_fields hs) ≡ kept_fault g at hs
 unfolding fault_from kept_fault
@@ -208,7 +212,7 @@ kept_faults g at (h ∷ hs) s =
 
 four_rules : (at : ℕ) (a b c d : Bool) →
     ◌≡◌ {A = Option ℕ} (if a then (if b then (if c then (if d then None else Some (at + 1 + 2 + 1)) else Some (at + 1 + 2)) else Some (at + 1)) else Some at)
-    (first (rule at a ∷ rule (at + 1) b ∷ rule (at + 3) c ∷ rule (at + 4) d ∷ []))
+    (first (rule at a ∷ rule (at + FRAME_ENTRY) b ∷ rule (at + FRAME_AT) c ∷ rule (at + FRAME_ACTED) d ∷ []))
 four_rules at false b c d = refl
 four_rules at true false c d = refl
 four_rules at true true false d = ap Some (omega arith)
@@ -227,16 +231,18 @@ frame_faults g code caller n at r = go (n == 0)
     heads = is_some (head_at g r.table r.entry)
 
     codes : Bool
-    codes = has_code (if n == 1 then code else 85) (condact_at g r.table r.entry r.at)
+    codes = has_code (if n == 1 then code else PROCESS) (condact_at g r.table r.entry r.at)
 
     go : (b : Bool) →
         ◌≡◌ {A = Option ℕ} (if (if b then r.table == 0 else may_open (caller g) r.table)
         then (if (if b then r.entry == 0 else is_some (head_at g r.table r.entry))
-        then (if (if b then r.at == 0 else has_code (if n == 1 then code else 85) (condact_at g r.table r.entry r.at))
+        then (if (if b then r.at == 0 else has_code (if n == 1 then code else PROCESS) (condact_at g r.table r.entry r.at))
         then (if (if b then r.acted == 0 else nat_le r.acted 1) then None else Some (at + 1 + 2 + 1)) else Some (at + 1 + 2)) else Some (at + 1)) else Some at)
-        (if b then first (rule at (r.table == 0) ∷ rule (at + 1) (r.entry == 0) ∷ rule (at + 3) (r.at == 0) ∷ rule (at + 4) (r.acted == 0) ∷ [])
-        else first (rule at (may_open (caller g) r.table) ∷ rule (at + 1) (is_some (head_at g r.table r.entry))
-        ∷ rule (at + 3) (has_code (if n == 1 then code else 85) (condact_at g r.table r.entry r.at)) ∷ rule (at + 4) (nat_le r.acted 1) ∷ []))
+        (if b then first (rule at (r.table == 0) ∷ rule (at + FRAME_ENTRY) (r.entry == 0) ∷ rule (at + FRAME_AT) (r.at == 0)
+        ∷ rule (at + FRAME_ACTED) (r.acted == 0) ∷ [])
+        else first (rule at (may_open (caller g) r.table) ∷ rule (at + FRAME_ENTRY) (is_some (head_at g r.table r.entry))
+        ∷ rule (at + FRAME_AT) (has_code (if n == 1 then code else PROCESS) (condact_at g r.table r.entry r.at))
+        ∷ rule (at + FRAME_ACTED) (nat_le r.acted 1) ∷ []))
     go true = four_rules at (r.table == 0) (r.entry == 0) (r.at == 0) (r.acted == 0)
     go false = four_rules at opens heads codes (nat_le r.acted 1)
 
@@ -246,8 +252,8 @@ unfolding fault_from frames_fields frame_fields_fault
 frames_faults g code caller n at [] = refl
 frames_faults g code caller n at (r ∷ rs) =
     let next : GameLists → Option ℕ = λ g. Some (parameter_of (condact_at g r.table r.entry r.at)) in
-    step g at 5 (frame_fields code caller n r) (frames_fields code next (n - 1) rs) (frame_fault g code (caller g) n at r) _
-    (frame_faults g code caller n at r) (ap length (frame_same code caller n r)) (frames_faults g code next (n - 1) (at + 5) rs)
+    step g at FRAME_LENGTH (frame_fields code caller n r) (frames_fields code next (n - 1) rs) (frame_fault g code (caller g) n at r) _
+    (frame_faults g code caller n at r) (ap length (frame_same code caller n r)) (frames_faults g code next (n - 1) (at + FRAME_LENGTH) rs)
 
 -- ---- the open loop ----
 

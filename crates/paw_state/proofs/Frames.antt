@@ -3,6 +3,7 @@ use Rattle.std.proofs.Common.{◌≡◌, ℕ, zero, suc, ◌+◌, ◌-◌, ◌�
 use Rattle.std.proofs.Common.{[], ◌∷◌, Option, Some, None, map, is_some, option_map, nat_le, refl, ap, arith}
 use Rattle.std.specs.Prelude.{if◌then◌else◌, slice_get}
 use Rattle.std.proofs.lemmas.Bool.{eqb-true, leb-true}
+use Rattle.paw_base.specs.declared.codes.TheConstants.{PROCESS}
 use Rattle.paw_game.specs.declared.parts.Entry.{Entry}
 use Rattle.paw_game.specs.Game.{GameLists}
 use Rattle.paw_game.specs.Tables.{condacts_of, entry_at, head_at, condact_at}
@@ -11,6 +12,7 @@ use Rattle.paw_process.specs.Kept.{may_open, has_code, parameter_of}
 use Rattle.paw_process.specs.inner.Kept.{condact_at_frame, is_unused, frame_stands}
 use Rattle.paw_process.specs.inner.Kept.{first_frame_fault as machine_fault}
 use Rattle.paw_process.proofs.Restored.{first_of, second}
+use Rattle.paw_state.specs.declared.fields.TheConstants.{FRAME_ENTRY, FRAME_AT, FRAME_ACTED, FRAME_LENGTH}
 use Rattle.paw_state.specs.declared.fields.FrameField.{FrameField}
 use Rattle.paw_state.specs.State.{frame_field_of}
 use Rattle.paw_state.specs.inner.Parts.{frame_in}
@@ -43,12 +45,13 @@ record IsUnusedFrame (r : FrameField) : Type 0 where
 
 unused_frame : (at : ℕ) (r : FrameField) → unused_fault at r ≡ None → IsUnusedFrame r
 unused_frame at r h =
-    let p = four (rule at (r.table == 0)) (rule (at + 1) (r.entry == 0)) (rule (at + 3) (r.at == 0)) (rule (at + 4) (r.acted == 0)) h in
+    let p = four (rule at (r.table == 0)) (rule (at + FRAME_ENTRY) (r.entry == 0)) (rule (at + FRAME_AT) (r.at == 0))
+    (rule (at + FRAME_ACTED) (r.acted == 0)) h in
     record {
       table = rule_holds at (r.table == 0) p.0;
-      entry = rule_holds (at + 1) (r.entry == 0) p.1;
-      at = rule_holds (at + 3) (r.at == 0) p.2;
-      acted = rule_holds (at + 4) (r.acted == 0) p.3;
+      entry = rule_holds (at + FRAME_ENTRY) (r.entry == 0) p.1;
+      at = rule_holds (at + FRAME_AT) (r.at == 0) p.2;
+      acted = rule_holds (at + FRAME_ACTED) (r.acted == 0) p.3;
     }
 
 record IsUsedFrame (g : GameLists) (code : ℕ) (caller : Option ℕ) (r : FrameField) : Type 0 where
@@ -58,12 +61,12 @@ record IsUsedFrame (g : GameLists) (code : ℕ) (caller : Option ℕ) (r : Frame
 
 used_frame : (g : GameLists) (code : ℕ) (caller : Option ℕ) (at : ℕ) (r : FrameField) → used_fault g code caller at r ≡ None → IsUsedFrame g code caller r
 used_frame g code caller at r h =
-    let p = four (rule at (may_open caller r.table)) (rule (at + 1) (is_some (head_at g r.table r.entry)))
-    (rule (at + 3) (has_code code (condact_at g r.table r.entry r.at))) (rule (at + 4) (nat_le r.acted 1)) h in
+    let p = four (rule at (may_open caller r.table)) (rule (at + FRAME_ENTRY) (is_some (head_at g r.table r.entry)))
+    (rule (at + FRAME_AT) (has_code code (condact_at g r.table r.entry r.at))) (rule (at + FRAME_ACTED) (nat_le r.acted 1)) h in
     record {
       table = rule_holds at (may_open caller r.table) p.0;
-      condact = rule_holds (at + 3) (has_code code (condact_at g r.table r.entry r.at)) p.2;
-      acted = rule_holds (at + 4) (nat_le r.acted 1) p.3;
+      condact = rule_holds (at + FRAME_AT) (has_code code (condact_at g r.table r.entry r.at)) p.2;
+      acted = rule_holds (at + FRAME_ACTED) (nat_le r.acted 1) p.3;
     }
 
 no_action : (acted : ℕ) → (acted == 0) ≡ true → not (acted == 1) ≡ true
@@ -74,22 +77,23 @@ frame_field_sound : (g : GameLists) (code : ℕ) (caller : Option ℕ) (n at : �
     → frame_stands g code caller n (frame_in r) ≡ true
 frame_field_sound g code caller n at r h = go (n == 0) h
   where
-    go : (b : Bool) → (if b then unused_fault at r else used_fault g (if n == 1 then code else 85) caller at r) ≡ None
-        → (if b then is_unused (frame_in r) else may_open caller r.table && has_code (if n == 1 then code else 85) (condact_at_frame g (frame_in r))) ≡ true
+    go : (b : Bool) → (if b then unused_fault at r else used_fault g (if n == 1 then code else PROCESS) caller at r) ≡ None
+        → (if b then is_unused (frame_in r)
+        else may_open caller r.table && has_code (if n == 1 then code else PROCESS) (condact_at_frame g (frame_in r))) ≡ true
     go true k =
         let u = unused_frame at r k in
         both (r.table == 0) _ u.table (both (r.entry == 0) _ u.entry (both (r.at == 0) _ u.at (no_action r.acted u.acted)))
     go false k =
-        let u = used_frame g (if n == 1 then code else 85) caller at r k in
+        let u = used_frame g (if n == 1 then code else PROCESS) caller at r k in
         both (may_open caller r.table) _ u.table u.condact
 
 -- And its byte for an action is 0 or 1.
 frame_field_acted : (g : GameLists) (code : ℕ) (caller : Option ℕ) (n at : ℕ) (r : FrameField) → frame_fault g code caller n at r ≡ None → r.acted ≤ 1
 frame_field_acted g code caller n at r h = go (n == 0) h
   where
-    go : (b : Bool) → (if b then unused_fault at r else used_fault g (if n == 1 then code else 85) caller at r) ≡ None → r.acted ≤ 1
+    go : (b : Bool) → (if b then unused_fault at r else used_fault g (if n == 1 then code else PROCESS) caller at r) ≡ None → r.acted ≤ 1
     go true k = let z : r.acted ≡ 0 = eqb-true r.acted 0 (unused_frame at r k).acted in omega arith
-    go false k = leb-true r.acted 1 (used_frame g (if n == 1 then code else 85) caller at r k).acted
+    go false k = leb-true r.acted 1 (used_frame g (if n == 1 then code else PROCESS) caller at r k).acted
 
 acted_back : (acted : ℕ) → acted ≤ 1 → (if acted == 1 then 1 else 0) ≡ acted
 acted_back zero low = refl
@@ -105,17 +109,17 @@ pub frame_fields_sound : (g : GameLists) (code : ℕ) (caller : Option ℕ) (n a
 unfolding frame_fields_fault machine_fault
 frame_fields_sound g code caller n at d [] h = refl
 frame_fields_sound g code caller n at d (r ∷ rs) h =
-    let p = no_first (frame_fault g code caller n at r) (frame_fields_fault g code (called_table g r) (n - 1) (at + 5) rs) h in
-    rw (frame_field_sound g code caller n at r p.0) (frame_fields_sound g code (called_table g r) (n - 1) (at + 5) (suc d) rs p.1)
+    let p = no_first (frame_fault g code caller n at r) (frame_fields_fault g code (called_table g r) (n - 1) (at + FRAME_LENGTH) rs) h in
+    rw (frame_field_sound g code caller n at r p.0) (frame_fields_sound g code (called_table g r) (n - 1) (at + FRAME_LENGTH) (suc d) rs p.1)
 
 pub frame_fields_back : (g : GameLists) (code : ℕ) (caller : Option ℕ) (n at : ℕ) (rows : List FrameField) → frame_fields_fault g code caller n at rows ≡ None
     → map frame_field_of (map frame_in rows) ≡ rows
 unfolding frame_fields_fault
 frame_fields_back g code caller n at [] h = refl
 frame_fields_back g code caller n at (r ∷ rs) h =
-    let p = no_first (frame_fault g code caller n at r) (frame_fields_fault g code (called_table g r) (n - 1) (at + 5) rs) h in
+    let p = no_first (frame_fault g code caller n at r) (frame_fields_fault g code (called_table g r) (n - 1) (at + FRAME_LENGTH) rs) h in
     let e : frame_field_of (frame_in r) ≡ r = frame_field_back r (frame_field_acted g code caller n at r p.0) in
-    let q = frame_fields_back g code (called_table g r) (n - 1) (at + 5) rs p.1 in
+    let q = frame_fields_back g code (called_table g r) (n - 1) (at + FRAME_LENGTH) rs p.1 in
     cc
 
 -- ---- frames that stand ----
@@ -141,34 +145,38 @@ frame_sound : (g : GameLists) (code : ℕ) (caller : Option ℕ) (n at : ℕ) (f
     → frame_fault g code caller n at (frame_field_of f) ≡ None
 frame_sound g code caller n at f h = go (n == 0) h
   where
-    go : (b : Bool) → (if b then is_unused f else may_open caller f.table && has_code (if n == 1 then code else 85) (condact_at_frame g f)) ≡ true
-        → (if b then unused_fault at (frame_field_of f) else used_fault g (if n == 1 then code else 85) caller at (frame_field_of f)) ≡ None
+    go : (b : Bool) → (if b then is_unused f else may_open caller f.table && has_code (if n == 1 then code else PROCESS) (condact_at_frame g f)) ≡ true
+        → (if b then unused_fault at (frame_field_of f) else used_fault g (if n == 1 then code else PROCESS) caller at (frame_field_of f)) ≡ None
     go true k =
         let l1 = second (f.table == 0) _ k in
         let l2 = second (f.entry == 0) _ l1 in
-        four_none (rule at (f.table == 0)) (rule (at + 1) (f.entry == 0)) (rule (at + 3) (f.at == 0)) (rule (at + 4) ((if f.acted then 1 else 0) == 0))
-        (no_rule at _ (first_of (f.table == 0) _ k)) (no_rule (at + 1) _ (first_of (f.entry == 0) _ l1)) (no_rule (at + 3) _ (first_of (f.at == 0) _ l2))
-        (no_rule (at + 4) _ (acted_zero f.acted (second (f.at == 0) _ l2)))
+        four_none (rule at (f.table == 0)) (rule (at + FRAME_ENTRY) (f.entry == 0)) (rule (at + FRAME_AT) (f.at == 0))
+        (rule (at + FRAME_ACTED) ((if f.acted then 1 else 0) == 0))
+        (no_rule at _ (first_of (f.table == 0) _ k)) (no_rule (at + FRAME_ENTRY) _ (first_of (f.entry == 0) _ l1))
+        (no_rule (at + FRAME_AT) _ (first_of (f.at == 0) _ l2))
+        (no_rule (at + FRAME_ACTED) _ (acted_zero f.acted (second (f.at == 0) _ l2)))
     go false k =
         let c = second (may_open caller f.table) _ k in
-        four_none (rule at (may_open caller f.table)) (rule (at + 1) (is_some (head_at g f.table f.entry)))
-        (rule (at + 3) (has_code (if n == 1 then code else 85) (condact_at g f.table f.entry f.at))) (rule (at + 4) (nat_le (if f.acted then 1 else 0) 1))
-        (no_rule at _ (first_of (may_open caller f.table) _ k)) (no_rule (at + 1) _ (head_there g (if n == 1 then code else 85) f.table f.entry f.at c))
-        (no_rule (at + 3) _ c) (no_rule (at + 4) _ (acted_low f.acted))
+        four_none (rule at (may_open caller f.table)) (rule (at + FRAME_ENTRY) (is_some (head_at g f.table f.entry)))
+        (rule (at + FRAME_AT) (has_code (if n == 1 then code else PROCESS) (condact_at g f.table f.entry f.at)))
+        (rule (at + FRAME_ACTED) (nat_le (if f.acted then 1 else 0) 1))
+        (no_rule at _ (first_of (may_open caller f.table) _ k))
+        (no_rule (at + FRAME_ENTRY) _ (head_there g (if n == 1 then code else PROCESS) f.table f.entry f.at c))
+        (no_rule (at + FRAME_AT) _ c) (no_rule (at + FRAME_ACTED) _ (acted_low f.acted))
 
 pub frames_sound : (g : GameLists) (code : ℕ) (caller : Option ℕ) (n at d : ℕ) (frames : List Frame) → machine_fault g code caller n d frames ≡ None
     → frame_fields_fault g code caller n at (map frame_field_of frames) ≡ None
 unfolding frame_fields_fault machine_fault
 frames_sound g code caller n at d [] h = refl
-frames_sound g code caller n at d (f ∷ fs) h = go (frames_sound g code (Some (parameter_of (condact_at_frame g f))) (n - 1) (at + 5) (suc d) fs)
+frames_sound g code caller n at d (f ∷ fs) h = go (frames_sound g code (Some (parameter_of (condact_at_frame g f))) (n - 1) (at + FRAME_LENGTH) (suc d) fs)
     (frame_stands g code caller n f) refl h
   where
     go : (machine_fault g code (Some (parameter_of (condact_at_frame g f))) (n - 1) (suc d) fs ≡ None
-        → frame_fields_fault g code (Some (parameter_of (condact_at_frame g f))) (n - 1) (at + 5) (map frame_field_of fs) ≡ None)
+        → frame_fields_fault g code (Some (parameter_of (condact_at_frame g f))) (n - 1) (at + FRAME_LENGTH) (map frame_field_of fs) ≡ None)
         → (b : Bool) → frame_stands g code caller n f ≡ b
         → ◌≡◌ {A = Option ℕ} (if b then machine_fault g code (Some (parameter_of (condact_at_frame g f))) (n - 1) (suc d) fs else Some d) None
         → option_or (frame_fault g code caller n at (frame_field_of f)) (frame_fields_fault g code (called_table g (frame_field_of f)) (n - 1)
-        (at + 5) (map frame_field_of fs)) ≡ None
+        (at + FRAME_LENGTH) (map frame_field_of fs)) ≡ None
     go later true e q = none_first (frame_fault g code caller n at (frame_field_of f)) _ (frame_sound g code caller n at f e) (later q)
     go later false e q = cc
 

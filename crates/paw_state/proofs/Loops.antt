@@ -12,6 +12,7 @@ use Rattle.paw_game.specs.Valid.{is_place}
 use Rattle.paw_game.specs.Tables.{head_at, condact_at}
 use Rattle.paw_reading.specs.declared.frames.Frame.{Frame}
 use Rattle.paw_reading.specs.declared.frames.OpenLoop.{OpenLoop}
+use Rattle.paw_process.specs.declared.machine.TheConstants.{MOST_FRAMES}
 use Rattle.paw_process.specs.declared.kept.Frames.{Frames}
 use Rattle.paw_process.specs.Kept.{has_code}
 use Rattle.paw_process.specs.inner.Kept.{is_that_table}
@@ -161,7 +162,7 @@ loop_found g k f count rows looping turning h =
           last = second (is_place (length g.locations) l.place) _ s3;
         }
 
-    tested : (l : OpenLoop) (b : Bool) → loop_stands g k l ≡ b → ◌≡◌ {A = Option ℕ} (if b then None else Some 11) None → RuledLoop g f false l
+    tested : (l : OpenLoop) (b : Bool) → loop_stands g k l ≡ b → ◌≡◌ {A = Option ℕ} (if b then None else Some MOST_FRAMES) None → RuledLoop g f false l
     tested l true e q = kept l e
     tested l false e q = cc
 
@@ -176,7 +177,7 @@ loop_counted g k h = go k.turning h
     some zero low = absurd (omega (arith, low))
     some (suc n) low = let e : (suc n == 0) ≡ false = grind (arith, nat_tests) in rw e refl
 
-    tested : (l : OpenLoop) (b : Bool) → loop_stands g k l ≡ b → ◌≡◌ {A = Option ℕ} (if b then None else Some 11) None
+    tested : (l : OpenLoop) (b : Bool) → loop_stands g k l ≡ b → ◌≡◌ {A = Option ℕ} (if b then None else Some MOST_FRAMES) None
         → nat_le 1 (if k.count == 0 then 0 else 1) ≡ true
     tested l true e q = let low : l.level < k.count = ltb-true l.level k.count (first_of (nat_lt l.level k.count) _ e) in some k.count (omega arith)
     tested l false e q = cc

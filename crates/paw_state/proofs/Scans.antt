@@ -6,7 +6,7 @@ use Rattle.std.specs.Prelude.{if◌then◌else◌}
 use Rattle.std.proofs.Math.Seq.{drop-cons}
 use Rattle.std.proofs.lemmas.List.{drop_all}
 use Rattle.paw_game.specs.Game.{GameLists}
-use Rattle.paw_state.specs.declared.fields.TheConstants.{POSITION_LENGTH}
+use Rattle.paw_state.specs.declared.fields.TheConstants.{POSITION_LENGTH, FRAME_LENGTH}
 use Rattle.paw_state.specs.declared.fields.FrameField.{FrameField}
 use Rattle.paw_state.specs.declared.position_field.PositionField.{PositionField}
 use Rattle.std.specs.Option.{option_or}
@@ -63,7 +63,7 @@ no_frames g code caller n at [] h = refl
 no_frames g code caller n at (r ∷ rs) h = absurd (omega arith)
 
 first_frame : (g : GameLists) (code : ℕ) (caller : Option ℕ) (n at : ℕ) (rows : List FrameField) (r : FrameField) (rs : List FrameField) → rows ≡ r ∷ rs
-    → option_or (frame_fault g code caller n at r) (frame_fields_fault g code (called_table g r) (n - 1) (at + 5) rs)
+    → option_or (frame_fault g code caller n at r) (frame_fields_fault g code (called_table g r) (n - 1) (at + FRAME_LENGTH) rs)
     ≡ frame_fields_fault g code caller n at rows
 unfolding frame_fields_fault
 first_frame g code caller n at rows r rs e = rw e refl
@@ -71,12 +71,15 @@ first_frame g code caller n at rows r rs e = rw e refl
 pub frame_stops : (g : GameLists) (code : ℕ) (caller : Option ℕ) (n at x : ℕ) (rows : List FrameField) (r : FrameField) (rs : List FrameField) → rows ≡ r ∷ rs
     → Some x ≡ frame_fault g code caller n at r → Some x ≡ frame_fields_fault g code caller n at rows
 frame_stops g code caller n at x rows r rs e h =
-    ap (λ (o : Option ℕ). option_or o (frame_fields_fault g code (called_table g r) (n - 1) (at + 5) rs)) h ∙ first_frame g code caller n at rows r rs e
+    ap (λ (o : Option ℕ). option_or o (frame_fields_fault g code (called_table g r) (n - 1) (at + FRAME_LENGTH) rs)) h
+    ∙ first_frame g code caller n at rows r rs e
 
 pub frame_passes : (g : GameLists) (code : ℕ) (caller : Option ℕ) (n at : ℕ) (rows : List FrameField) (r : FrameField) (rs : List FrameField) → rows ≡ r ∷ rs
-    → None ≡ frame_fault g code caller n at r → frame_fields_fault g code (called_table g r) (n - 1) (at + 5) rs ≡ frame_fields_fault g code caller n at rows
+    → None ≡ frame_fault g code caller n at r
+    → frame_fields_fault g code (called_table g r) (n - 1) (at + FRAME_LENGTH) rs ≡ frame_fields_fault g code caller n at rows
 frame_passes g code caller n at rows r rs e h =
-    ap (λ (o : Option ℕ). option_or o (frame_fields_fault g code (called_table g r) (n - 1) (at + 5) rs)) h ∙ first_frame g code caller n at rows r rs e
+    ap (λ (o : Option ℕ). option_or o (frame_fields_fault g code (called_table g r) (n - 1) (at + FRAME_LENGTH) rs)) h
+    ∙ first_frame g code caller n at rows r rs e
 
 -- ---- kept positions ----
 

@@ -4,6 +4,8 @@ use Rattle.std.proofs.Common.{Option, Some, None, map, take, get_or, nat_lt, ref
 use Rattle.std.specs.Prelude.{All, slice_get, if◌then◌else◌}
 use Rattle.std.proofs.lemmas.List.Elements.{All-cons, All-nil, All-take, All-map}
 use Rattle.std.proofs.lemmas.Bool.{eqb-true}
+use Rattle.paw_base.specs.declared.limits.TheConstants.{FLAG_COUNT, OBJECT_LIMIT}
+use Rattle.paw_base.specs.declared.codes.TheConstants.{PROCESS, DOALL}
 use Rattle.paw_base.specs.declared.parts.Condact.{Condact}
 use Rattle.paw_game.specs.Game.{GameLists}
 use Rattle.paw_game.specs.Valid.{Valid}
@@ -13,6 +15,7 @@ use Rattle.paw_game.proofs.Kept.{condact-small}
 use Rattle.paw_world.specs.World.{Position}
 use Rattle.paw_reading.specs.declared.frames.Frame.{Frame}
 use Rattle.paw_reading.specs.declared.frames.OpenLoop.{OpenLoop}
+use Rattle.paw_process.specs.declared.machine.TheConstants.{MOST_FRAMES}
 use Rattle.paw_process.specs.declared.kept.Frames.{Frames}
 use Rattle.paw_process.specs.Kept.{may_open, has_code, parameter_of}
 use Rattle.paw_process.specs.inner.Kept.{condact_at_frame, is_unused, frame_stands}
@@ -46,7 +49,8 @@ held_fits n h flags places = go (h.there == 0)
 
 pub held_at_fits : (n at : ℕ) (bytes : List ℕ) → AreBytes bytes → HoldsBytes (held_in n (position_shape.value bytes at))
 held_at_fits n at bytes h =
-    held_fits n (position_shape.value bytes at) (range_bytes bytes (at + 1) (at + 1 + 256) h) (range_bytes bytes (at + 1 + 256) (at + 1 + 256 + 255) h)
+    held_fits n (position_shape.value bytes at) (range_bytes bytes (at + 1) (at + 1 + FLAG_COUNT) h)
+    (range_bytes bytes (at + 1 + FLAG_COUNT) (at + 1 + FLAG_COUNT + OBJECT_LIMIT) h)
 
 pub helds_at_fit : (n m at : ℕ) (bytes : List ℕ) → AreBytes bytes → All HoldsBytes (map (held_in n) (values_at position_shape m bytes at))
 unfolding values_at
@@ -64,10 +68,10 @@ coded g t e k code (Some c) v is h = let low = condact-small g v t e k c is in o
 frame_entry : (g : GameLists) (code : ℕ) (caller : Option ℕ) (n : ℕ) (f : Frame) → Valid g → frame_stands g code caller n f ≡ true → f.entry < 2 ^ 16
 frame_entry g code caller n f v h = go (n == 0) h
   where
-    go : (b : Bool) → (if b then is_unused f else may_open caller f.table && has_code (if n == 1 then code else 85) (condact_at_frame g f)) ≡ true →
+    go : (b : Bool) → (if b then is_unused f else may_open caller f.table && has_code (if n == 1 then code else PROCESS) (condact_at_frame g f)) ≡ true →
         f.entry < 2 ^ 16
     go true q = let z : f.entry ≡ 0 = eqb-true f.entry 0 (first_of (f.entry == 0) _ (second (f.table == 0) _ q)) in omega arith
-    go false q = coded g f.table f.entry f.at (if n == 1 then code else 85) (condact_at_frame g f) v refl (second (may_open caller f.table) _ q)
+    go false q = coded g f.table f.entry f.at (if n == 1 then code else PROCESS) (condact_at_frame g f) v refl (second (may_open caller f.table) _ q)
 
 pub entries_fit : (g : GameLists) (code : ℕ) (caller : Option ℕ) (n d : ℕ) (frames : List Frame) → Valid g → machine_rows g code caller n d frames ≡ None
     → All (λ r. r.entry < 2 ^ 16) (map frame_field_of frames)
@@ -87,15 +91,15 @@ pub loop_fits : (g : GameLists) (k : Frames) (o : Option OpenLoop) → Valid g �
 loop_fits g k None v h = lit< tt
 loop_fits g k (Some l) v h = go (loop_stands g k l) refl h
   where
-    go : (b : Bool) → loop_stands g k l ≡ b → ◌≡◌ {A = Option ℕ} (if b then None else Some 11) None → l.entry < 2 ^ 16
+    go : (b : Bool) → loop_stands g k l ≡ b → ◌≡◌ {A = Option ℕ} (if b then None else Some MOST_FRAMES) None → l.entry < 2 ^ 16
     go true e q =
         let s1 = second (nat_lt l.level k.count) _ e in
         let s2 = second (is_that_table (table_of (slice_get k.rows l.level)) l.table) _ s1 in
-        coded g l.table l.entry l.at 86 (condact_at g l.table l.entry l.at) v refl (first_of (has_code 86 (condact_at g l.table l.entry l.at)) _ s2)
+        coded g l.table l.entry l.at DOALL (condact_at g l.table l.entry l.at) v refl (first_of (has_code DOALL (condact_at g l.table l.entry l.at)) _ s2)
     go false e q = cc
 
 pub held_size : (g : GameLists) (o : Option Position) → Valid g → IsHeldOf g o → IsSizedPosition (position_field_of o)
-held_size g None v h = record { flags = length-zeros 256; places = length-zeros 255 }
+held_size g None v h = record { flags = length-zeros FLAG_COUNT; places = length-zeros OBJECT_LIMIT }
 held_size g (Some q) v h = record { flags = h.flags; places = length-filled q.places (omega (arith, h.each, few_objects g v)) }
 
 pub kept_size : (g : GameLists) (kept : List (Option Position)) → Valid g → All (IsHeldOf g) kept → All IsSizedPosition (map position_field_of kept)

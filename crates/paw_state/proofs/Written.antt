@@ -6,8 +6,9 @@ use Rattle.std.proofs.Math.Seq.{take-suc, take-suc-set}
 use Rattle.std.proofs.lemmas.List.{append_assoc, take_all, length-append, length-map, get_or-map, drop-drop}
 use Rattle.std.proofs.lemmas.List.{drop-replicate, length-take}
 use Rattle.std.proofs.lemmas.Slice.{take-put_mid, drop-put_mid}
+use Rattle.paw_process.specs.declared.machine.TheConstants.{MOST_FRAMES}
 use borrow.Rule.Slice.PartMut.{put_mid}
-use Rattle.paw_state.specs.declared.fields.TheConstants.{STATE_ROOM}
+use Rattle.paw_state.specs.declared.fields.TheConstants.{STATE_ROOM, FRAME_LENGTH}
 use Rattle.paw_state.specs.declared.fields.FrameField.{FrameField}
 use Rattle.paw_state.specs.State.{zeros, filled_with_zeros}
 use Rattle.paw_state.specs.inner.Fields.{frame_shape}
@@ -55,15 +56,15 @@ filled_behind bytes new h = rw (h, zeros_all 255) (ap (λ (l : List ℕ). bytes 
 
 -- ---- frames ----
 
-pub length-frames : (rows : List FrameField) → length (flat_map frame_shape.bytes rows) ≡ 5 * length rows
+pub length-frames : (rows : List FrameField) → length (flat_map frame_shape.bytes rows) ≡ FRAME_LENGTH * length rows
 length-frames [] = refl
-length-frames (r ∷ rs) = length-append (frame_shape.bytes r) (flat_map frame_shape.bytes rs) ∙ (ap (λ n. 5 + n) (length-frames rs) ∙ omega arith)
+length-frames (r ∷ rs) = length-append (frame_shape.bytes r) (flat_map frame_shape.bytes rs) ∙ (ap (λ n. FRAME_LENGTH + n) (length-frames rs) ∙ omega arith)
 
-pub room_for_frame : (rows : List FrameField) (old new : List ℕ) (i : ℕ) → i < length rows → length rows ≡ 11
+pub room_for_frame : (rows : List FrameField) (old new : List ℕ) (i : ℕ) → i < length rows → length rows ≡ MOST_FRAMES
     → new ≡ old ++ flat_map frame_shape.bytes (take i rows)
-    → length old + 55 ≤ STATE_ROOM → length new + 5 ≤ STATE_ROOM
+    → length old + MOST_FRAMES * FRAME_LENGTH ≤ STATE_ROOM → length new + FRAME_LENGTH ≤ STATE_ROOM
 room_for_frame rows old new i low size h room =
-    let n : length new ≡ length old + 5 * length (take i rows) =
+    let n : length new ≡ length old + FRAME_LENGTH * length (take i rows) =
     ap length h ∙ (length-append old (flat_map frame_shape.bytes (take i rows)) ∙ ap (λ k. length old + k) (length-frames (take i rows))) in
     omega (arith, n, length-take i rows)
 
@@ -76,7 +77,7 @@ mapped_more {B = B} f xs ys i y x low room h e =
     rw add-one (take-suc-set ys i y room ∙ (ap (λ (l : List B). l ++ y ∷ []) h ∙ (ap (λ (z : B). take i (map f xs) ++ z ∷ []) e
     ∙ (ap (λ (z : B). take i (map f xs) ++ z ∷ []) (sym (get_or-map f xs i x (f x) low)) ∙ sym (take-suc (map f xs) i (f x) k)))))
 
-pub mapped_all : {A B : Type 0} → (f : A → B) (xs : List A) (ys : List B) (i : ℕ) → length xs ≡ 11 → length ys ≡ 11 → 11 ≤ i
+pub mapped_all : {A B : Type 0} → (f : A → B) (xs : List A) (ys : List B) (i : ℕ) → length xs ≡ MOST_FRAMES → length ys ≡ MOST_FRAMES → MOST_FRAMES ≤ i
     → take i ys ≡ take i (map f xs) → ys ≡ map f xs
 mapped_all f xs ys i kx ky low h =
     sym (take_all i ys (omega arith)) ∙ (h ∙ take_all i (map f xs) (omega (arith, length-map xs f)))
