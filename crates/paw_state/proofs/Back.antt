@@ -4,6 +4,7 @@ use Rattle.std.proofs.Common.{None, length, map, take, drop, nat_le, refl, sym, 
 use Rattle.std.specs.Prelude.{All, if◌then◌else◌}
 use Rattle.std.proofs.lemmas.List.{length-take}
 use Rattle.std.proofs.lemmas.Bool.{leb-true}
+use Rattle.paw_base.specs.declared.limits.TheConstants.{OBJECT_LIMIT, LINE_LIMIT}
 use Rattle.paw_game.specs.Game.{GameLists}
 use Rattle.paw_game.specs.Valid.{Valid, is_place}
 use Rattle.paw_game.proofs.Counts.{few_objects}
@@ -13,7 +14,7 @@ use Rattle.paw_effects.specs.declared.act.Prompt.{Prompt}
 use Rattle.paw_effects.specs.declared.act.Prompt.TheVariants as prompt
 use Rattle.paw_reading.specs.declared.frames.OpenLoop.{OpenLoop}
 use Rattle.paw_process.specs.declared.kept.Frames.{Frames}
-use Rattle.paw_state.specs.declared.fields.TheConstants.{POSITION_LENGTH}
+use Rattle.paw_state.specs.declared.fields.TheConstants.{POSITION_LENGTH, POSITION_PLACES, POSITION_FLAGS}
 use Rattle.paw_state.specs.declared.position_field.PositionField.{PositionField}
 use Rattle.paw_state.specs.State.{zeros, filled_with_zeros, position_field_of, prompt_code}
 use Rattle.paw_state.specs.inner.State.{loop_or_zeros}
@@ -41,25 +42,25 @@ zeros_behind g at places h =
     (two (first_not (is_place (length g.locations)) at (take (length g.objects) places))
     (first_not is_zero (at + length g.objects) (drop (length g.objects) places)) h).1
 
-pub places_back : (g : GameLists) (at : ℕ) (places : List ℕ) → Valid g → length places ≡ 255 → places_fault g at places ≡ None
-    → filled_with_zeros 255 (take (length g.objects) places) ≡ places
+pub places_back : (g : GameLists) (at : ℕ) (places : List ℕ) → Valid g → length places ≡ OBJECT_LIMIT → places_fault g at places ≡ None
+    → filled_with_zeros OBJECT_LIMIT (take (length g.objects) places) ≡ places
 places_back g at places v size h = filled_take (at + length g.objects) (length g.objects) places size (few_objects g v) (zeros_behind g at places h)
 
 -- A position without a fault.
 pub held_back : (g : GameLists) (at : ℕ) (h : PositionField) → Valid g → IsSizedPosition h → position_fault g at h ≡ None → position_field_of (held_in (length g.objects) h) ≡ h
 held_back g at h v z q =
-    let p = two (rule at (nat_le h.there 1)) (if h.there == 0 then absent_fault at h else places_fault g (at + 257) h.places) q in
+    let p = two (rule at (nat_le h.there 1)) (if h.there == 0 then absent_fault at h else places_fault g (at + POSITION_PLACES) h.places) q in
     go h.there (leb-true h.there 1 (rule_holds at (nat_le h.there 1) p.0)) p.1
   where
-    go : (there : ℕ) → there ≤ 1 → (if there == 0 then absent_fault at h else places_fault g (at + 257) h.places) ≡ None
+    go : (there : ℕ) → there ≤ 1 → (if there == 0 then absent_fault at h else places_fault g (at + POSITION_PLACES) h.places) ≡ None
         → position_field_of (if there == 0 then None else Some (record { flags = h.flags; places = take (length g.objects) h.places }))
         ≡ record { there = there; flags = h.flags; places = h.places }
     go zero low k =
-        let both = two (first_not is_zero (at + 1) h.flags) (first_not is_zero (at + 257) h.places) k in
+        let both = two (first_not is_zero (at + POSITION_FLAGS) h.flags) (first_not is_zero (at + POSITION_PLACES) h.places) k in
         same_held (position_field_of None) (record { there = 0; flags = h.flags; places = h.places }) refl
-        (sym (zeros_are (at + 1) h.flags both.0 ∙ ap zeros z.flags)) (sym (zeros_are (at + 257) h.places both.1 ∙ ap zeros z.places))
+        (sym (zeros_are (at + POSITION_FLAGS) h.flags both.0 ∙ ap zeros z.flags)) (sym (zeros_are (at + POSITION_PLACES) h.places both.1 ∙ ap zeros z.places))
     go (suc zero) low k =
-        same_held _ (record { there = 1; flags = h.flags; places = h.places }) refl refl (places_back g (at + 257) h.places v z.places k)
+        same_held _ (record { there = 1; flags = h.flags; places = h.places }) refl refl (places_back g (at + POSITION_PLACES) h.places v z.places k)
     go (suc (suc n)) low k = absurd (omega (arith, low))
 
 pub kept_back : (g : GameLists) (at : ℕ) (kept : List PositionField) → Valid g → All IsSizedPosition kept → kept_fault g at kept ≡ None
@@ -80,7 +81,7 @@ code_back (suc (suc (suc zero))) low = refl
 code_back (suc (suc (suc (suc zero)))) low = refl
 code_back (suc (suc (suc (suc (suc n))))) low = absurd (omega (arith, low))
 
-pub line_length : (n : ℕ) (line : List ℕ) → length line ≡ 255 → n < 256 → length (take n line) ≡ n
+pub line_length : (n : ℕ) (line : List ℕ) → length line ≡ LINE_LIMIT → n < 256 → length (take n line) ≡ n
 line_length n line size low = omega (arith, length-take n line)
 
 -- ---- from a state ----

@@ -5,7 +5,7 @@ use Rattle.std.specs.Prelude.{All, flat_map}
 use Rattle.std.specs.Int.{w64, to_le_bytes}
 use Rattle.std.proofs.lemmas.List.{append_assoc}
 use Rattle.paw_base.specs.declared.layout.TheConstants.{STATE_LENGTH}
-use Rattle.paw_base.specs.declared.limits.TheConstants.{POSITION_COUNT}
+use Rattle.paw_base.specs.declared.limits.TheConstants.{POSITION_COUNT, FLAG_COUNT, OBJECT_LIMIT, LINE_LIMIT}
 use Rattle.paw_game.specs.Image.{two_bytes}
 use Rattle.paw_state.specs.declared.fields.TheConstants.{PENDING, KEPT}
 use Rattle.paw_state.specs.declared.fields.Fields.{Fields}
@@ -21,6 +21,7 @@ use Rattle.paw_state.proofs.Shaped.{field_sound, last_sound, made_of_sound, fram
 use Rattle.paw_state.proofs.Shaped.{held_shape_sound, held_fits}
 use Rattle.std.specs.Option.{unwrap_or}
 use Rattle.paw_world.specs.World.{Position}
+use Rattle.paw_process.specs.declared.machine.TheConstants.{MOST_FRAMES}
 use Rattle.paw_state.specs.State.{State, fields_of, state_bytes, position_field_of, zeros}
 use Rattle.paw_state.specs.Fields.{Field, two, bytes_of, position_fields, state_fields, flag_fields, place_fields}
 use Rattle.paw_state.specs.Fields.{number_fields}
@@ -31,22 +32,22 @@ use Rattle.paw_state.specs.Fields.{prompt_fields, table_fields, looping_fields, 
 fields_shape_sound : IsSound fields_shape
 fields_shape_sound =
     made_of_sound _ _ (λ f. refl) (λ p. refl)
-    (field_sound _ _ _ (array_sound 256)
-    (field_sound _ _ _ (array_sound 255)
+    (field_sound _ _ _ (array_sound FLAG_COUNT)
+    (field_sound _ _ _ (array_sound OBJECT_LIMIT)
     (field_sound _ _ _ held_shape_sound
     (field_sound _ _ _ eight_byte_sound
     (field_sound _ _ _ eight_byte_sound
     (field_sound _ _ _ eight_byte_sound
     (field_sound _ _ _ one_byte_sound
     (field_sound _ _ _ one_byte_sound
-    (field_sound _ _ _ (times_sound 11 frame_shape frame_shape_sound)
+    (field_sound _ _ _ (times_sound MOST_FRAMES frame_shape frame_shape_sound)
     (field_sound _ _ _ one_byte_sound
     (field_sound _ _ _ loop_shape_sound
     (field_sound _ _ _ one_byte_sound
     (field_sound _ _ _ one_byte_sound
-    (field_sound _ _ _ (array_sound 255)
+    (field_sound _ _ _ (array_sound LINE_LIMIT)
     (field_sound _ _ _ two_byte_sound
-    (last_sound _ _ (times_sound 4 position_shape held_shape_sound)))))))))))))))))
+    (last_sound _ _ (times_sound POSITION_COUNT position_shape held_shape_sound)))))))))))))))))
 
 -- ---- sizes ----
 
@@ -166,7 +167,7 @@ pub length-fields : (f : Fields) → AreSized f → length (field_bytes f) ≡ S
 length-fields f s = fields_shape_sound.long f (fits_of f s)
 
 pub length-later : (f : Fields) → AreSized f → length (after_piece f) ≡ STATE_LENGTH - KEPT
-length-later f s = (times_sound 4 position_shape held_shape_sound).long f.kept (s.four, helds_fit f.kept s.kept)
+length-later f s = (times_sound POSITION_COUNT position_shape held_shape_sound).long f.kept (s.four, helds_fit f.kept s.kept)
 
 -- ---- the same fields ----
 
@@ -292,11 +293,11 @@ state_same s = bytes_same (fields_of s)
 
 -- The arrays have their lengths.
 pub record HasLengths (f : Fields) : Type 0 where
-  pub flags : length f.flags ≡ 256
-  pub places : length f.places ≡ 255
+  pub flags : length f.flags ≡ FLAG_COUNT
+  pub places : length f.places ≡ OBJECT_LIMIT
   pub saved : IsSizedPosition f.saved
-  pub rows : length f.rows ≡ 11
-  pub line : length f.line ≡ 255
+  pub rows : length f.rows ≡ MOST_FRAMES
+  pub line : length f.line ≡ LINE_LIMIT
   pub kept : All IsSizedPosition f.kept
 
 -- Fields of which the arrays have their lengths.

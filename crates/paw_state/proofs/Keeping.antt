@@ -7,6 +7,7 @@ use Rattle.std.specs.Option.{option_or, unwrap_or}
 use Rattle.std.proofs.lemmas.List.{length-take}
 use Rattle.std.proofs.lemmas.List.Elements.{All-cons}
 use Rattle.std.proofs.lemmas.Bool.{eqb-true}
+use Rattle.paw_base.specs.declared.limits.TheConstants.{OBJECT_LIMIT, FLAG_COUNT}
 use Rattle.paw_game.specs.Game.{GameLists}
 use Rattle.paw_game.specs.Valid.{Valid, is_place}
 use Rattle.paw_game.proofs.Counts.{few_objects}
@@ -18,7 +19,7 @@ use Rattle.paw_process.specs.Kept.{count_fits}
 use Rattle.paw_process.specs.inner.Kept.{fault_at}
 use Rattle.paw_process.specs.inner.Kept.{first_frame_fault as machine_rows, loop_fault as machine_loop}
 use Rattle.paw_process.proofs.Restored.{no_first as no_machine_first}
-use Rattle.paw_state.specs.declared.fields.TheConstants.{POSITION_LENGTH}
+use Rattle.paw_state.specs.declared.fields.TheConstants.{POSITION_LENGTH, POSITION_PLACES, POSITION_FLAGS}
 use Rattle.paw_state.specs.declared.position_field.PositionField.{PositionField}
 use Rattle.paw_effects.specs.inner.Worlds.{ArePlacesOf, StandsIn}
 use Rattle.paw_state.specs.State.{zeros, filled_with_zeros, position_field_of, prompt_code}
@@ -55,20 +56,21 @@ machine_sound g code k h = go (count_fits code k.count) refl h
 
 -- ---- fields without a fault say a state that follows its rules ----
 
-pub objects_length : (g : GameLists) (places : List ℕ) → Valid g → length places ≡ 255 → length (take (length g.objects) places) ≡ length g.objects
+pub objects_length : (g : GameLists) (places : List ℕ) → Valid g → length places ≡ OBJECT_LIMIT → length (take (length g.objects) places) ≡ length g.objects
 objects_length g places v size = omega (arith, length-take (length g.objects) places, few_objects g v)
 
 pub held_kept : (g : GameLists) (at : ℕ) (h : PositionField) → Valid g → IsSizedPosition h → position_fault g at h ≡ None → IsHeldOf g (held_in (length g.objects) h)
 held_kept g at h v z q = go (h.there == 0)
-    (two (rule at (nat_le h.there 1)) (if h.there == 0 then absent_fault at h else places_fault g (at + 257) h.places) q).1
+    (two (rule at (nat_le h.there 1)) (if h.there == 0 then absent_fault at h else places_fault g (at + POSITION_PLACES) h.places) q).1
   where
-    go : (b : Bool) → (if b then absent_fault at h else places_fault g (at + 257) h.places) ≡ None
+    go : (b : Bool) → (if b then absent_fault at h else places_fault g (at + POSITION_PLACES) h.places) ≡ None
         → IsHeldOf g (if b then None else Some (record { flags = h.flags; places = take (length g.objects) h.places }))
     go true k = tt
     go false k = record {
       flags = z.flags;
       each = objects_length g h.places v z.places;
-      places = all_so (is_place (length g.locations)) (at + 257) (take (length g.objects) h.places) (objects_stand g (at + 257) h.places k);
+      places = all_so (is_place (length g.locations)) (at + POSITION_PLACES) (take (length g.objects) h.places)
+          (objects_stand g (at + POSITION_PLACES) h.places k);
     }
 
 pub kept_kept : (g : GameLists) (at : ℕ) (kept : List PositionField) → Valid g → All IsSizedPosition kept → kept_fault g at kept ≡ None
@@ -87,19 +89,22 @@ line_kept (Some code) n line h = tt
 -- ---- the fields of a state that follows its rules have no fault ----
 
 pub places_sound : (g : GameLists) (at : ℕ) (places : List ℕ) → length places ≡ length g.objects → ArePlacesOf g places
-    → places_fault g at (filled_with_zeros 255 places) ≡ None
+    → places_fault g at (filled_with_zeros OBJECT_LIMIT places) ≡ None
 places_sound g at places size h =
-    two_none (first_not (is_place (length g.locations)) at (take (length g.objects) (filled_with_zeros 255 places)))
-    (first_not is_zero (at + length g.objects) (drop (length g.objects) (filled_with_zeros 255 places)))
+    two_none (first_not (is_place (length g.locations)) at (take (length g.objects) (filled_with_zeros OBJECT_LIMIT places)))
+    (first_not is_zero (at + length g.objects) (drop (length g.objects) (filled_with_zeros OBJECT_LIMIT places)))
     (ap (first_not (is_place (length g.locations)) at) (take_filled (length g.objects) places size) ∙ none_not (is_place (length g.locations)) at places h)
-    (ap (first_not is_zero (at + length g.objects)) (drop_filled (length g.objects) places size) ∙ none_in_zeros (at + length g.objects) (255 - length places))
+    (ap (first_not is_zero (at + length g.objects)) (drop_filled (length g.objects) places size)
+    ∙ none_in_zeros (at + length g.objects) (OBJECT_LIMIT - length places))
 
 pub held_sound : (g : GameLists) (at : ℕ) (o : Option Position) → IsHeldOf g o → position_fault g at (position_field_of o) ≡ None
 held_sound g at None h =
     two_none (rule at true) (absent_fault at (position_field_of None)) refl
-    (two_none (first_not is_zero (at + 1) (zeros 256)) (first_not is_zero (at + 257) (zeros 255)) (none_in_zeros (at + 1) 256) (none_in_zeros (at + 257) 255))
+    (two_none (first_not is_zero (at + POSITION_FLAGS) (zeros FLAG_COUNT)) (first_not is_zero (at + POSITION_PLACES) (zeros OBJECT_LIMIT))
+    (none_in_zeros (at + POSITION_FLAGS) FLAG_COUNT) (none_in_zeros (at + POSITION_PLACES) OBJECT_LIMIT))
 held_sound g at (Some q) h =
-    two_none (rule at true) (places_fault g (at + 257) (filled_with_zeros 255 q.places)) refl (places_sound g (at + 257) q.places h.each h.places)
+    two_none (rule at true) (places_fault g (at + POSITION_PLACES) (filled_with_zeros OBJECT_LIMIT q.places)) refl
+    (places_sound g (at + POSITION_PLACES) q.places h.each h.places)
 
 pub kept_sound : (g : GameLists) (at : ℕ) (kept : List (Option Position)) → All (IsHeldOf g) kept → kept_fault g at (map position_field_of kept) ≡ None
 unfolding kept_fault
@@ -121,20 +126,23 @@ line_sound (Some code) bytes h = refl
 
 -- ---- positions of a state whose fields have no fault ----
 
-pub saved_sized : (n : ℕ) (o : Option Position) → n ≤ 255 → IsSavedFor n o → IsSizedPosition (position_field_of o)
-saved_sized n None low h = record { flags = length-zeros 256; places = length-zeros 255 }
+pub saved_sized : (n : ℕ) (o : Option Position) → n ≤ OBJECT_LIMIT → IsSavedFor n o → IsSizedPosition (position_field_of o)
+saved_sized n None low h = record { flags = length-zeros FLAG_COUNT; places = length-zeros OBJECT_LIMIT }
 saved_sized n (Some q) low h = record { flags = h.flags; places = length-filled q.places (omega (arith, h.places, low)) }
 
-pub places_from : (g : GameLists) (at : ℕ) (places : List ℕ) → length places ≡ length g.objects → places_fault g at (filled_with_zeros 255 places) ≡ None
+pub places_from : (g : GameLists) (at : ℕ) (places : List ℕ) → length places ≡ length g.objects
+    → places_fault g at (filled_with_zeros OBJECT_LIMIT places) ≡ None
     → ArePlacesOf g places
 places_from g at places size h =
     subst (ArePlacesOf g) (take_filled (length g.objects) places size)
-    (all_so (is_place (length g.locations)) at (take (length g.objects) (filled_with_zeros 255 places)) (objects_stand g at (filled_with_zeros 255 places) h))
+    (all_so (is_place (length g.locations)) at (take (length g.objects) (filled_with_zeros OBJECT_LIMIT places))
+    (objects_stand g at (filled_with_zeros OBJECT_LIMIT places) h))
 
 pub saved_from : (g : GameLists) (at n : ℕ) (o : Option Position) → n ≡ length g.objects → IsSavedFor n o → position_fault g at (position_field_of o) ≡ None → StandsIn g o
 saved_from g at n None same alike h = tt
 saved_from g at n (Some q) same alike h =
-    places_from g (at + 257) q.places (alike.places ∙ same) (two (rule at (nat_le 1 1)) (places_fault g (at + 257) (filled_with_zeros 255 q.places)) h).1
+    places_from g (at + POSITION_PLACES) q.places (alike.places ∙ same)
+    (two (rule at (nat_le 1 1)) (places_fault g (at + POSITION_PLACES) (filled_with_zeros OBJECT_LIMIT q.places)) h).1
 
 pub kept_from : (g : GameLists) (at n : ℕ) (kept : List (Option Position)) → n ≡ length g.objects → All (IsSavedFor n) kept
     → kept_fault g at (map position_field_of kept) ≡ None → All (StandsIn g) kept

@@ -1,6 +1,7 @@
 -- Positions of a game.
 use Rattle.std.proofs.Common.{◌≡◌, ℕ, Option, None, Some, length, ◌∙◌}
 use Rattle.std.specs.Prelude.{All, IfSome}
+use Rattle.paw_base.specs.declared.limits.TheConstants.{FLAG_COUNT}
 use Rattle.paw_game.specs.Game.{GameLists}
 use Rattle.paw_world.specs.World.{Position, IsSavedFor}
 use Rattle.paw_effects.specs.inner.Worlds.{ArePlacesOf, StandsIn}
@@ -9,7 +10,7 @@ use Rattle.paw_state.specs.inner.State.{FollowsEach}
 
 -- 256 flags, and each object at a place.
 pub record IsPositionOf (g : GameLists) (q : Position) : Type 0 where
-  pub flags : length q.flags ≡ 256
+  pub flags : length q.flags ≡ FLAG_COUNT
   pub each : length q.places ≡ length g.objects
   pub places : ArePlacesOf g q.places
 

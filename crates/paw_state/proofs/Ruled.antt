@@ -9,7 +9,8 @@ use Rattle.std.proofs.lemmas.List.Elements.{All-map, All-take}
 use Rattle.std.specs.Option.{unwrap_or, option_or}
 use Rattle.std.specs.Prelude.{nat_le, is_some, if◌then◌else◌, IfNone, slice_index, slice_range}
 use Rattle.paw_base.specs.declared.layout.TheConstants.{STATE_LENGTH}
-use Rattle.paw_base.specs.declared.limits.TheConstants.{EVENT_LIMIT, READ_LIMIT, LINE_LIMIT}
+use Rattle.paw_base.specs.declared.limits.TheConstants.{EVENT_LIMIT, READ_LIMIT, LINE_LIMIT, OBJECT_LIMIT, FLAG_COUNT}
+use Rattle.paw_base.specs.declared.limits.TheConstants.{POSITION_COUNT}
 use Rattle.paw_effects.specs.Worlds.{IsOf}
 use Rattle.paw_effects.specs.declared.act.Prompt.{Prompt}
 use Rattle.paw_game.proofs.Counts.{few_objects}
@@ -17,6 +18,7 @@ use Rattle.paw_game.specs.Game.{GameLists}
 use Rattle.paw_game.specs.Valid.{is_place, Valid}
 use Rattle.paw_game.specs.declared.parts.ObjectRow.{ObjectRow}
 use Rattle.paw_process.specs.Kept.{count_fits, waiting_code}
+use Rattle.paw_process.specs.declared.machine.TheConstants.{MOST_FRAMES}
 use Rattle.paw_process.specs.declared.kept.Frames.{Frames}
 use Rattle.paw_process.specs.inner.Kept.{fault_at}
 use Rattle.paw_state.proofs.Back.{kept_back, same_world, kept_again, objects_stand, turning_again, prompt_again}
@@ -46,7 +48,7 @@ use Rattle.paw_state.specs.State.{AreBytes, State, fields_of, filled_with_zeros,
 use Rattle.paw_state.specs.declared.fields.Fields.{Fields}
 use Rattle.paw_state.specs.declared.fields.TheConstants.{POSITION_LENGTH, PENDING, PLACES, SAVED, SEED, PROMPT, FRAMES}
 use Rattle.paw_state.specs.declared.fields.TheConstants.{LOOPING, EARLIER, PIECE, KEPT, DRAWS, EVENTS, COUNT, LINE}
-use Rattle.paw_state.specs.declared.fields.TheConstants.{FLAGS}
+use Rattle.paw_state.specs.declared.fields.TheConstants.{FLAGS, FRAME_LENGTH}
 use Rattle.paw_state.specs.inner.Faults.{first, first_not, is_zero, places_fault, position_fault, kept_fault}
 use Rattle.paw_state.specs.inner.Faults.{frame_fields_fault, fields_fault}
 use Rattle.paw_state.specs.inner.Fields.{parts_fault}
@@ -71,7 +73,7 @@ piece_faults g f s = kept_faults g KEPT f.kept s.kept
 pending_faults : (g : GameLists) (f : Fields) → HasLengths f
     → fault_from g EARLIER (from_pending f) ≡ option_or (fault_from g EARLIER (pending_fields f)) (kept_fault g KEPT f.kept)
 pending_faults g f s =
-    step g EARLIER 257 (pending_fields f) (from_piece f) (fault_from g EARLIER (pending_fields f)) (kept_fault g KEPT f.kept) refl
+    step g EARLIER (suc (suc LINE_LIMIT)) (pending_fields f) (from_piece f) (fault_from g EARLIER (pending_fields f)) (kept_fault g KEPT f.kept) refl
     (ap length (pending_same f) ∙ ap (λ (n : ℕ). suc (suc n)) s.line) (piece_faults g f s)
 
 -- ---- all fields ----
@@ -88,9 +90,9 @@ faults_same g f s =
     let pending = fault_from g EARLIER (pending_fields f) in
     let from_loop = step g LOOPING 8 (looping_fields f) (from_pending f) looping (option_or pending kept) refl (ap length (looping_same f))
     (pending_faults g f s) in
-    let from_rows = step g FRAMES 55 (table_fields f) (from_looping f) tables (option_or looping (option_or pending kept))
+    let from_rows = step g FRAMES (MOST_FRAMES * FRAME_LENGTH) (table_fields f) (from_looping f) tables (option_or looping (option_or pending kept))
     (frames_faults g (unwrap_or (inside f) 0) (λ g. None) f.count FRAMES f.rows)
-    (ap length (frames_same (unwrap_or (inside f) 0) (λ g. None) f.count f.rows) ∙ (length-frames f.rows ∙ ap (λ n. 5 * n) s.rows)) from_loop in
+    (ap length (frames_same (unwrap_or (inside f) 0) (λ g. None) f.count f.rows) ∙ (length-frames f.rows ∙ ap (λ n. FRAME_LENGTH * n) s.rows)) from_loop in
     let from_code = step g PROMPT 2 (prompt_fields f) (from_tables f) prompts (option_or tables (option_or looping (option_or pending kept)))
     refl refl from_rows in
     let from_seed = step g SEED 24 (number_fields f) (from_prompt f) numbers
@@ -98,11 +100,11 @@ faults_same g f s =
     let later = option_or numbers (option_or prompts (option_or tables (option_or looping (option_or pending kept)))) in
     let from_held = step g SAVED POSITION_LENGTH (position_fields f.saved) (from_numbers f) saved later (held_faults g SAVED f.saved s.saved)
     (ap length (held_same f.saved) ∙ length-held f.saved s.saved) from_seed in
-    let all = step g 256 255 (place_fields f.places) (from_saved f) places (option_or saved later) (places_same g 256 f.places)
+    let all = step g PLACES OBJECT_LIMIT (place_fields f.places) (from_saved f) places (option_or saved later) (places_same g PLACES f.places)
     (ap length (each_bytes _ 0 f.places) ∙ s.places) from_held in
     ap (fault_from g 0) (listed f)
-    ∙ (step g 0 256 (flag_fields f.flags) (from_places f) None (option_or places (option_or saved later))
-    (free g 0 0 f.flags) (ap length (each_bytes _ 0 f.flags) ∙ s.flags) all
+    ∙ (step g FLAGS FLAG_COUNT (flag_fields f.flags) (from_places f) None (option_or places (option_or saved later))
+    (free g FLAGS 0 f.flags) (ap length (each_bytes _ 0 f.flags) ∙ s.flags) all
     ∙ ap (λ (o : Option ℕ). option_or places (option_or saved (option_or numbers (option_or prompts (option_or tables
     (option_or looping (option_or pending o))))))) (sym (or_none kept)))
 
@@ -204,7 +206,7 @@ pub state_back : (g : GameLists) (f : Fields) → Valid g → AreSized f → Are
 state_back g f v z s =
     let n : length (take f.pending f.line) ≡ f.pending = line_length f.pending f.line z.line z.pending in
     same_fields (fields_of (state_in g f)) f refl
-    (places_back g 256 f.places v z.places s.places)
+    (places_back g PLACES f.places v z.places s.places)
     (held_back g SAVED f.saved v z.saved s.saved)
     refl refl refl
     (code_back f.prompt (leb-true f.prompt 4 s.prompt))
@@ -264,7 +266,7 @@ keeps_in g f v z s = record {
   world = record { facts = refl; locations = refl; flags = z.flags; places = objects_length g f.places v z.places };
   sound = sound_in g f v z s;
   places = (
-    all_so (is_place (length g.locations)) 256 (take (length g.objects) f.places) (objects_stand g 256 f.places s.places),
+    all_so (is_place (length g.locations)) PLACES (take (length g.objects) f.places) (objects_stand g PLACES f.places s.places),
     (
       held_placed g (held_in (length g.objects) f.saved) (held_kept g SAVED f.saved v z.saved s.saved),
       λ i d low. held_placed g (get_or (map (held_in (length g.objects)) f.kept) i d) (kept_kept g KEPT f.kept v z.kept s.kept i d low),
@@ -283,7 +285,7 @@ sound_fields g s k =
     let m = machine_sound g (waiting_code s.prompt) s.frames k.frames in
     let again = sym (prompt_again s.prompt) in
     record {
-      places = places_sound g 256 s.world.places k.world.places k.places.0;
+      places = places_sound g PLACES s.world.places k.world.places k.places.0;
       saved = held_sound g SAVED s.world.saved (saved_held g s k);
       events = le-leb s.events EVENT_LIMIT k.events;
       draws = le-leb s.world.draws (READ_LIMIT * (s.events + 1)) k.draws;
@@ -297,11 +299,11 @@ sound_fields g s k =
       pending = subst (λ (p : Prompt). (is_some (waiting_code p) || (length s.pending.bytes == 0)) ≡ true) again
           (line_sound (waiting_code s.prompt) s.pending.bytes k.pending);
       line = ap (first_not is_zero (LINE + length s.pending.bytes)) (drop_filled (length s.pending.bytes) s.pending.bytes refl)
-          ∙ none_in_zeros (LINE + length s.pending.bytes) (255 - length s.pending.bytes);
+          ∙ none_in_zeros (LINE + length s.pending.bytes) (LINE_LIMIT - length s.pending.bytes);
       kept = kept_sound g KEPT s.world.kept (kept_held g s k);
     }
 
-lengths_of : (g : GameLists) (s : State) → IsOf g s.world → IsWorld s.world → length s.frames.rows ≡ 11
+lengths_of : (g : GameLists) (s : State) → IsOf g s.world → IsWorld s.world → length s.frames.rows ≡ MOST_FRAMES
     → length s.pending.bytes ≤ LINE_LIMIT
     → HasLengths (fields_of s)
 lengths_of g s of world rows line = record {
@@ -324,7 +326,7 @@ each_of g s k =
       world = k.world;
       sound = k.sound;
       places = (
-        places_from g 256 s.world.places k.world.places sound.places,
+        places_from g PLACES s.world.places k.world.places sound.places,
         (
           saved_from g SAVED (length s.world.places) s.world.saved k.world.places k.sound.saved sound.saved,
           kept_from g KEPT (length s.world.places) s.world.kept k.world.places k.sound.kept.each sound.kept,
@@ -337,8 +339,9 @@ each_of g s k =
           (subst (λ (p : Prompt). fault_at g (waiting_code p) (frames_in f) ≡ None) (prompt_again s.prompt) (frames_kept g f sound));
       line = k.line;
       pending = subst (λ (l : List ℕ). IfNone (waiting_code s.prompt) (l ≡ [])) (take_filled (length s.pending.bytes) s.pending.bytes refl)
-          (subst (λ (p : Prompt). IfNone (waiting_code p) (take (length s.pending.bytes) (filled_with_zeros 255 s.pending.bytes) ≡ [])) (prompt_again s.prompt)
-          (line_kept (waiting_code (prompt_of f.prompt)) (length s.pending.bytes) (filled_with_zeros 255 s.pending.bytes) sound.pending));
+          (subst (λ (p : Prompt). IfNone (waiting_code p) (take (length s.pending.bytes) (filled_with_zeros LINE_LIMIT s.pending.bytes) ≡ []))
+          (prompt_again s.prompt)
+          (line_kept (waiting_code (prompt_of f.prompt)) (length s.pending.bytes) (filled_with_zeros LINE_LIMIT s.pending.bytes) sound.pending));
     }
 
 -- ---- to fields ----
@@ -361,7 +364,7 @@ fits_at g bytes n h =
       flags = range_bytes bytes FLAGS PLACES h;
       places = All-take (λ (b : ℕ). b < 256) (length g.objects) (slice_range bytes PLACES SAVED) (range_bytes bytes PLACES SAVED h);
       saved = held_at_fits (length g.objects) SAVED bytes h;
-      kept = helds_at_fit (length g.objects) 4 KEPT bytes h;
+      kept = helds_at_fit (length g.objects) POSITION_COUNT KEPT bytes h;
       seed = s.seed;
       draws = s.draws;
       events = s.events;

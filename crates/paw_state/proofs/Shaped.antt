@@ -8,6 +8,7 @@ use Rattle.std.proofs.lemmas.Nat.{from_le_bytes-to_le_bytes_2, from_le_bytes-to_
 use Rattle.std.proofs.lemmas.List.{append_assoc, length-append, take_all}
 use Rattle.std.proofs.lemmas.List.Elements.{All-cons, All-nil}
 use Rattle.std.proofs.Math.Seq.{take-suc-set}
+use Rattle.paw_base.specs.declared.limits.TheConstants.{FLAG_COUNT, OBJECT_LIMIT}
 use Rattle.paw_base.specs.Bytes.{Bytes}
 use Rattle.paw_game.specs.Image.{two_bytes}
 use Rattle.paw_state.specs.State.{AreBytes}
@@ -209,8 +210,8 @@ pub held_shape_sound : IsSound position_shape
 held_shape_sound =
     made_of_sound _ _ (λ h. refl) (λ p. refl)
     (field_sound _ _ _ one_byte_sound
-    (field_sound _ _ _ (array_sound 256)
-    (last_sound _ _ (array_sound 255))))
+    (field_sound _ _ _ (array_sound FLAG_COUNT)
+    (last_sound _ _ (array_sound OBJECT_LIMIT))))
 
 pub held_fits : (h : PositionField) → IsSizedPosition h → position_shape.fits h
 held_fits h s = (tt, (s.flags, s.places))
