@@ -5,6 +5,7 @@ use Rattle.std.specs.Prelude.{if◌then◌else◌, nat_lt, sum_by, All}
 use Rattle.std.proofs.lemmas.Bool.{ltb-false}
 use Rattle.paw_base.specs.declared.limits.TheConstants.{READ_LIMIT, PIECE_LIMIT}
 use Rattle.paw_base.specs.declared.messages.TheConstants.{TIMEOUT_MESSAGE, GOODBYE_MESSAGE}
+use Rattle.paw_base.specs.declared.tables.TheConstants.{DESCRIBED_TABLE, FRAME_TABLE}
 use Rattle.paw_game.specs.Game.{GameLists}
 use Rattle.paw_effects.specs.Story.{Story}
 use Rattle.paw_reading.specs.Bounds.{IsLine, ValidStory}
@@ -76,10 +77,10 @@ bound_of g few short = record { reads = few; bytes = short; goodbye = has_goodby
 
 module _ (tables : TablesWithin) (g : Story) (valid : ValidStory g) (calm : call_too_deep g.game ≡ None)
     (quiet : circle_of_descriptions g.game ≡ None) where
-  only : (t : ℕ) (r : Run) → t ≤ 2 → r.turning ≡ None → DescribesOnly t (table_read g t r)
+  only : (t : ℕ) (r : Run) → t ≤ FRAME_TABLE → r.turning ≡ None → DescribesOnly t (table_read g t r)
   only zero r low none = tt
-  only (suc zero) r low none = tables_leave_described g 1 r valid quiet refl none
-  only (suc (suc zero)) r low none = tables_leave_described g 2 r valid quiet refl none
+  only (suc zero) r low none = tables_leave_described g DESCRIBED_TABLE r valid quiet refl none
+  only (suc (suc zero)) r low none = tables_leave_described g FRAME_TABLE r valid quiet refl none
   only (suc (suc (suc t))) r low none = absurd (omega arith)
 
   tables_take : most_condacts g.game ≤ READ_LIMIT → most_piece g.game ≤ PIECE_LIMIT → TablesTake g (most_condacts g.game) (most_piece g.game) (takes_of g.game)

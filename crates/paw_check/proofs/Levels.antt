@@ -8,6 +8,7 @@ use Rattle.std.proofs.lemmas.Bool.{leb-true}
 use Rattle.std.proofs.lemmas.Bool.Decides.{nat_tests}
 use Rattle.paw_base.specs.declared.codes.TheConstants.{PROCESS}
 use Rattle.paw_base.specs.declared.limits.TheConstants.{LEVEL_LIMIT, TABLE_LEAST, TABLE_LIMIT}
+use Rattle.paw_base.specs.declared.tables.TheConstants.{DESCRIBED_TABLE, FRAME_TABLE}
 use Rattle.paw_base.specs.declared.parts.Condact.{Condact}
 use Rattle.paw_base.specs.Condacts.{plain_code}
 use Rattle.paw_game.specs.Game.{GameLists}
@@ -140,13 +141,13 @@ some_tables g v =
 pub one_of_three : (t : ℕ) → In t turn_tables → t < 3
 one_of_three t at = grind (arith, nat_tests)
 
-pub in_three : (t : ℕ) → t ≤ 2 → In t turn_tables
+pub in_three : (t : ℕ) → t ≤ FRAME_TABLE → In t turn_tables
 in_three zero low = refl
 in_three (suc zero) low = refl
 in_three (suc (suc zero)) low = refl
 in_three (suc (suc (suc t))) low = absurd (omega arith)
 
-one_of_two : (t : ℕ) → In t (1 ∷ 2 ∷ []) → t < 3
+one_of_two : (t : ℕ) → In t (DESCRIBED_TABLE ∷ FRAME_TABLE ∷ []) → t < 3
 one_of_two t at = grind (arith, nat_tests)
 
 -- With as many levels of calls as there are each table of a turn reads the same, where no call is too deep.
@@ -166,9 +167,12 @@ never (Stopped (Halts halt) r) h = tt
 -- May.
 pub tables_leave_described : TablesLeaveDescribed
 tables_leave_described s t r valid quiet at none =
-    let few : (u : ℕ) → In u (1 ∷ 2 ∷ []) → u < length s.game.tables = λ u two. omega (arith, one_of_two u two, some_tables s.game valid.game) in
+    let few : (u : ℕ) → In u (DESCRIBED_TABLE ∷ FRAME_TABLE ∷ []) → u < length s.game.tables = λ u two.
+    omega (arith, one_of_two u two, some_tables s.game valid.game) in
     never (table_read s t r)
-    (table_alike s valid.game (1 ∷ 2 ∷ []) few ⊥
+    (table_alike s valid.game (DESCRIBED_TABLE ∷ FRAME_TABLE ∷ []) few ⊥
     (λ n u low two h.
-    no_first s.game redescribes _ quiet u (in_reached s.game valid.game (1 ∷ 2 ∷ []) n u low two (of_game s.game valid.game (1 ∷ 2 ∷ []) few n u two)) h)
+    no_first s.game redescribes _ quiet u
+    (in_reached s.game valid.game (DESCRIBED_TABLE ∷ FRAME_TABLE ∷ []) n u low two
+    (of_game s.game valid.game (DESCRIBED_TABLE ∷ FRAME_TABLE ∷ []) few n u two)) h)
     LEVEL_LIMIT t (inl refl) at r none).1

@@ -7,6 +7,7 @@ use Rattle.std.proofs.lemmas.Bool.{le-leb}
 use Rattle.paw_base.specs.declared.flags.TheConstants.{LOCATION_FLAG, VERB_FLAG, PRONOUN_NOUN_FLAG}
 use Rattle.paw_base.specs.declared.flags.TheConstants.{PRONOUN_ADJECTIVE_FLAG}
 use Rattle.paw_base.specs.declared.limits.TheConstants.{PIECE_LIMIT, LINE_LIMIT}
+use Rattle.paw_base.specs.declared.tables.TheConstants.{FRAME_TABLE}
 use Rattle.paw_game.specs.Tables.{exit_at}
 use Rattle.paw_world.specs.World.{World, flag, with_flag}
 use Rattle.paw_phrase.specs.Sentence.{Parsed, IsSentence, IsUnknown, IsNoPhrase}
@@ -44,7 +45,7 @@ pub record IsEnough (condacts text : ℕ) (k : Takes) : Type 0 where
   pub limit : text ≤ PIECE_LIMIT
 
 module _ (g : Story) (valid : ValidStory g) (condacts text : ℕ) (k : Takes) (enough : IsEnough condacts text k) (says : Says g k)
-    (tables : TablesTake g condacts text k) (only : (t : ℕ) (r : Run) → t ≤ 2 → r.turning ≡ None → DescribesOnly t (table_read g t r)) where
+    (tables : TablesTake g condacts text k) (only : (t : ℕ) (r : Run) → t ≤ FRAME_TABLE → r.turning ≡ None → DescribesOnly t (table_read g t r)) where
   abbrev IsIn : Run → Type 0
   IsIn r = Ready g valid condacts text r
 
@@ -144,7 +145,7 @@ module _ (g : Story) (valid : ValidStory g) (condacts text : ℕ) (k : Takes) (e
     done_stays t m n p low few short (Stopped (Halts (halt.Spent kind)) r) o u = absurd u
     done_stays t m n p low few short (Stopped (Halts (halt.TooDeep v)) r) o u = absurd u
 
-    table_stays : (t : ℕ) → t ≤ 2 → (r : Run) → Room (k.reads t + reads_behind k t) (k.prints t + text_behind k t) r →
+    table_stays : (t : ℕ) → t ≤ FRAME_TABLE → (r : Run) → Room (k.reads t + reads_behind k t) (k.prints t + text_behind k t) r →
         Stays (table_done g go t (table_read g t r))
     table_stays t low r h =
         let p : ℕ = length r.pending in

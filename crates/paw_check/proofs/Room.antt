@@ -5,6 +5,7 @@ use Rattle.std.specs.Prelude.{All}
 use Rattle.std.proofs.lemmas.List.Elements.{All-append}
 use Rattle.paw_base.specs.declared.limits.TheConstants.{LINE_LIMIT}
 use Rattle.paw_base.specs.declared.words.TheConstants.{NO_WORD}
+use Rattle.paw_base.specs.declared.tables.TheConstants.{FRAME_TABLE}
 use Rattle.paw_world.specs.World.{World}
 use Rattle.paw_phrase.specs.declared.Sentence.{Sentence}
 use Rattle.paw_phrase.specs.Sentence.{IsSentence}
@@ -44,8 +45,8 @@ pub record Says (g : Story) (k : Takes) : Type 0 where
 -- Each table of a turn takes no more, from each run with room for it.
 abbrev pub TablesTake : Story → (condacts text : ℕ) → Takes → Type 0
 TablesTake g condacts text k =
-    (pending m n t : ℕ) (r : Run) → t ≤ 2 → IsReadyWithin condacts text pending g.game r → HasUsed m n r → m + k.reads t ≤ condacts → n + k.prints t ≤ text →
-    TableWithin condacts text pending g.game (m + k.reads t) (n + k.prints t) (table_read g t r)
+    (pending m n t : ℕ) (r : Run) → t ≤ FRAME_TABLE → IsReadyWithin condacts text pending g.game r → HasUsed m n r → m + k.reads t ≤ condacts
+    → n + k.prints t ≤ text → TableWithin condacts text pending g.game (m + k.reads t) (n + k.prints t) (table_read g t r)
 
 -- After table 0 the location may be described again.
 abbrev pub DescribesOnly : ℕ → Out → Type 0

@@ -9,6 +9,7 @@ use Rattle.std.proofs.lemmas.Bool.Decides.{nat_tests}
 use Rattle.std.proofs.lemmas.Bool.{eqb-true, ltb-true, leb-true}
 use Rattle.std.proofs.lemmas.List.{length-replicate, length-take, reverse-reverse}
 use Rattle.paw_base.specs.declared.codes.TheConstants.{QUIT, END, ANYKEY, PROCESS, DOALL}
+use Rattle.paw_base.specs.declared.tables.TheConstants.{FRAME_TABLE}
 use Rattle.paw_base.specs.declared.parts.Condact.{Condact}
 use Rattle.paw_game.specs.Game.{GameLists}
 use Rattle.paw_game.specs.Tables.{condact_at}
@@ -155,7 +156,7 @@ open_places g code k size h = go (count_fits (Some code) k.count) refl h
         let lead = frames_lead g code None n 0 k.rows (omega (arith, size)) rows in
         record {
           few = omega (arith, few, is, length-take k.count k.rows);
-          outermost = leb-true (first_table (take k.count k.rows)) 2 (subst (λ m. may_open None (first_table (take m k.rows)) ≡ true) is lead.1);
+          outermost = leb-true (first_table (take k.count k.rows)) FRAME_TABLE (subst (λ m. may_open None (first_table (take m k.rows)) ≡ true) is lead.1);
           leads = subst (λ m. LeadsTo g code (take m k.rows)) is lead.0;
           loop = loop_in g k k.turning loop;
         }

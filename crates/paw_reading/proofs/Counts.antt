@@ -5,6 +5,7 @@ use Rattle.paw_base.specs.declared.parts.Condact.{Condact}
 use Rattle.paw_base.specs.declared.fault.SpentKind.TheVariants as spent
 use Rattle.paw_base.specs.declared.flags.TheConstants.{LOCATION_FLAG, VERB_FLAG}
 use Rattle.paw_base.specs.declared.limits.TheConstants.{LEVEL_LIMIT}
+use Rattle.paw_base.specs.declared.tables.TheConstants.{RESPONSE_TABLE, DESCRIBED_TABLE, FRAME_TABLE}
 use Rattle.paw_effects.specs.Story.{Story}
 use Rattle.paw_game.specs.Tables.{exit_at}
 use Rattle.paw_world.specs.World.{flag, with_flag}
@@ -229,13 +230,13 @@ turn_counts : (g : Story) (n : ℕ) (s : TurnPhase) → TurnsCounting (turn g n 
 unfolding turn
 turn_counts g zero s v r k = tt
 turn_counts g (suc n) AtDescribe v r k =
-    saying_counts (view_text g.game (location_described r.world)) (λ q. table_done g (turn g n) 1 (table_read g 1 q))
+    saying_counts (view_text g.game (location_described r.world)) (λ q. table_done g (turn g n) DESCRIBED_TABLE (table_read g DESCRIBED_TABLE q))
     (read_counts g (turn g n) (turn_counts g n) 1) v
     (with_world (location_described r.world) r) k
-turn_counts g (suc n) AtTimeFrame v r k = read_counts g (turn g n) (turn_counts g n) 2 v r k
+turn_counts g (suc n) AtTimeFrame v r k = read_counts g (turn g n) (turn_counts g n) FRAME_TABLE v r k
 turn_counts g (suc n) AtPhrase v r k =
     after_phrase_counts g (turn g n) (turn_counts g n) (coming_phrase g r) v r k
-turn_counts g (suc n) AtResponse v r k = read_counts g (turn g n) (turn_counts g n) 0 v r k
+turn_counts g (suc n) AtResponse v r k = read_counts g (turn g n) (turn_counts g n) RESPONSE_TABLE v r k
 
 pub pieces_of_lines : PiecesOfLines
 pieces_of_lines g seed es =

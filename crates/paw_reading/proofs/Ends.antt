@@ -8,6 +8,7 @@ use Rattle.paw_base.specs.declared.flags.TheConstants.{LOCATION_FLAG, VERB_FLAG,
 use Rattle.paw_base.specs.declared.flags.TheConstants.{PRONOUN_ADJECTIVE_FLAG}
 use Rattle.paw_base.specs.declared.messages.TheConstants.{TIMEOUT_MESSAGE}
 use Rattle.paw_base.specs.declared.limits.TheConstants.{READ_LIMIT}
+use Rattle.paw_base.specs.declared.tables.TheConstants.{RESPONSE_TABLE, DESCRIBED_TABLE, FRAME_TABLE}
 use Rattle.paw_effects.specs.Story.{Story}
 use Rattle.paw_game.specs.Tables.{exit_at}
 use Rattle.paw_world.specs.World.{flag, with_flag}
@@ -235,11 +236,12 @@ pub turn_more : (g : Story) (n : ℕ) → Refines (turn g n) (turn g (suc n))
 unfolding turn
 turn_more g zero s r k = absurd (k refl)
 turn_more g (suc n) AtDescribe r k =
-    saying_more _ (λ q. table_done g (turn g n) 1 (table_read g 1 q)) (λ q. table_done g (turn g (suc n)) 1 (table_read g 1 q)) _
-    (λ q. table_done_more g (turn g n) (turn g (suc n)) (turn_more g n) 1 (table_read g 1 q)) k
-turn_more g (suc n) AtTimeFrame r k = table_done_more g (turn g n) (turn g (suc n)) (turn_more g n) 2 (table_read g 2 r) k
+    saying_more _ (λ q. table_done g (turn g n) DESCRIBED_TABLE (table_read g DESCRIBED_TABLE q))
+    (λ q. table_done g (turn g (suc n)) DESCRIBED_TABLE (table_read g DESCRIBED_TABLE q)) _
+    (λ q. table_done_more g (turn g n) (turn g (suc n)) (turn_more g n) DESCRIBED_TABLE (table_read g DESCRIBED_TABLE q)) k
+turn_more g (suc n) AtTimeFrame r k = table_done_more g (turn g n) (turn g (suc n)) (turn_more g n) FRAME_TABLE (table_read g FRAME_TABLE r) k
 turn_more g (suc n) AtPhrase r k = after_phrase_more g (turn g n) (turn g (suc n)) (turn_more g n) r _ k
-turn_more g (suc n) AtResponse r k = table_done_more g (turn g n) (turn g (suc n)) (turn_more g n) 0 (table_read g 0 r) k
+turn_more g (suc n) AtResponse r k = table_done_more g (turn g n) (turn g (suc n)) (turn_more g n) RESPONSE_TABLE (table_read g RESPONSE_TABLE r) k
 
 -- Any number of phases more.
 pub many_more : (f : ℕ → Ending) → ((n : ℕ) → f n ≢ Unended → f (suc n) ≡ f n) → (k n : ℕ) → f n ≢ Unended → f (k + n) ≡ f n

@@ -4,6 +4,7 @@ use Rattle.std.proofs.Common.{Some, None, refl, sym, ◌∙◌, subst, arith}
 use Rattle.std.specs.Prelude.{if◌then◌else◌}
 use Rattle.paw_base.specs.declared.fault.SpentKind.TheVariants as spent
 use Rattle.paw_base.specs.declared.flags.TheConstants.{LOCATION_FLAG, VERB_FLAG}
+use Rattle.paw_base.specs.declared.tables.TheConstants.{RESPONSE_TABLE, DESCRIBED_TABLE, FRAME_TABLE}
 use Rattle.paw_effects.specs.Story.{Story}
 use Rattle.paw_game.specs.Tables.{exit_at}
 use Rattle.paw_world.specs.World.{flag, with_flag}
@@ -160,18 +161,19 @@ module _ (g : Story) (lines : List (List ℕ)) where
       let e : suc n + m ≡ suc (n + m) = omega arith in
       let text : List ℕ = view_text g.game (location_described r.world) in
       let s : Run = with_world (location_described r.world) r in
-      rw e (saying_follows m text (λ q. table_done g (turn g n) 1 (table_read g 1 q)) (λ q. table_done g (turn g (n + m)) 1 (table_read g 1 q)) s
-      (read_follows m (turn g n) (turn g (n + m)) (turn_follows n m) (more_phases n m) 1 (text_printed text s) none) k)
+      rw e (saying_follows m text (λ q. table_done g (turn g n) DESCRIBED_TABLE (table_read g DESCRIBED_TABLE q))
+      (λ q. table_done g (turn g (n + m)) DESCRIBED_TABLE (table_read g DESCRIBED_TABLE q)) s
+      (read_follows m (turn g n) (turn g (n + m)) (turn_follows n m) (more_phases n m) DESCRIBED_TABLE (text_printed text s) none) k)
   turn_follows (suc n) m AtTimeFrame r none k =
       let e : suc n + m ≡ suc (n + m) = omega arith in
-      rw e (read_follows m (turn g n) (turn g (n + m)) (turn_follows n m) (more_phases n m) 2 r none k)
+      rw e (read_follows m (turn g n) (turn g (n + m)) (turn_follows n m) (more_phases n m) FRAME_TABLE r none k)
   turn_follows (suc n) m AtPhrase r none k =
       let e : suc n + m ≡ suc (n + m) = omega arith in
       rw e (after_phrase_follows m (turn g n) (turn g (n + m)) (turn_follows n m) (more_phases n m) r none
       (coming_phrase g r) k)
   turn_follows (suc n) m AtResponse r none k =
       let e : suc n + m ≡ suc (n + m) = omega arith in
-      rw e (read_follows m (turn g n) (turn g (n + m)) (turn_follows n m) (more_phases n m) 0 r none k)
+      rw e (read_follows m (turn g n) (turn g (n + m)) (turn_follows n m) (more_phases n m) RESPONSE_TABLE r none k)
 
   -- A number of phases with which going on ends.
   enough : (m : ℕ) (s : TurnPhase) (r : Run) → r.turning ≡ None → goes_from m (turns_from g s r) ≢ Unended →

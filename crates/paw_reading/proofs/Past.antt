@@ -6,6 +6,7 @@ use Rattle.std.specs.List.{concat}
 use Rattle.std.proofs.lemmas.List.Folds.{concat-append}
 use Rattle.paw_base.specs.declared.fault.SpentKind.TheVariants as spent
 use Rattle.paw_base.specs.declared.flags.TheConstants.{LOCATION_FLAG, VERB_FLAG}
+use Rattle.paw_base.specs.declared.tables.TheConstants.{RESPONSE_TABLE, DESCRIBED_TABLE, FRAME_TABLE}
 use Rattle.paw_effects.specs.Story.{Story}
 use Rattle.paw_game.specs.Tables.{exit_at}
 use Rattle.paw_world.specs.World.{flag, with_flag}
@@ -142,12 +143,12 @@ module _ (g : Story) (ps : List (List ℕ)) (ts : List (List Step)) where
   unfolding turn
   turn_past zero s r = refl
   turn_past (suc n) AtDescribe r =
-      saying_past (view_text g.game (location_described r.world)) (λ q. table_done g (turn g n) 1 (table_read g 1 q))
+      saying_past (view_text g.game (location_described r.world)) (λ q. table_done g (turn g n) DESCRIBED_TABLE (table_read g DESCRIBED_TABLE q))
       (with_world (location_described r.world) r)
       (read_past (turn g n) (turn_past n) 1 (text_printed (view_text g.game (location_described r.world)) (with_world (location_described r.world) r)))
-  turn_past (suc n) AtTimeFrame r = read_past (turn g n) (turn_past n) 2 r
+  turn_past (suc n) AtTimeFrame r = read_past (turn g n) (turn_past n) FRAME_TABLE r
   turn_past (suc n) AtPhrase r = after_phrase_past (turn g n) (turn_past n) r (coming_phrase g r)
-  turn_past (suc n) AtResponse r = read_past (turn g n) (turn_past n) 0 r
+  turn_past (suc n) AtResponse r = read_past (turn g n) (turn_past n) RESPONSE_TABLE r
 
   in_table_past : (n : ℕ) (p : Prompt) (path : List Frame) (r : Run) → in_table g n p path (with_past ps ts r) ≡ ending_with_past ps ts (in_table g n p path r)
   in_table_past n p path r = rw (path_past p 0 path r) (table_done_past (turn g n) (turn_past n) (first_table path) (on_path g p 0 path r))

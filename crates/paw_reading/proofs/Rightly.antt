@@ -10,6 +10,7 @@ use Rattle.paw_base.specs.declared.flags.TheConstants.{LOCATION_FLAG, VERB_FLAG,
 use Rattle.paw_base.specs.declared.flags.TheConstants.{VIEW_FLAG, LAST_FRAME_FLAG, FIRST_FRAME_FLAG, UNLIT_FRAME_FLAG}
 use Rattle.paw_base.specs.declared.flags.TheConstants.{DARK_FRAME_FLAG}
 use Rattle.paw_base.specs.declared.codes.TheConstants.{QUIT, END, ANYKEY}
+use Rattle.paw_base.specs.declared.tables.TheConstants.{RESPONSE_TABLE, DESCRIBED_TABLE, FRAME_TABLE}
 use Rattle.paw_game.specs.Game.{GameLists}
 use Rattle.paw_game.specs.Tables.{exit_at}
 use Rattle.paw_game.specs.Valid.{Valid}
@@ -67,13 +68,13 @@ time_frame_placed g w k =
 
 -- ---- waits in tables ----
 
-open_to : (g : GameLists) (code t : ℕ) (path : List Frame) (w : World) (o : Option OpenLoop) → t ≤ 2 → length path ≤ suc LEVEL_LIMIT → first_table path ≡ t →
-    LeadsTo g code path
+open_to : (g : GameLists) (code t : ℕ) (path : List Frame) (w : World) (o : Option OpenLoop) → t ≤ FRAME_TABLE → length path ≤ suc LEVEL_LIMIT
+    → first_table path ≡ t → LeadsTo g code path
     → Sound g (tables_of path) w o → AreOpenTo g code path o
-open_to g code t path w o low few first leads k = record { few = few; outermost = subst (λ u. u ≤ 2) (sym first) low; leads = leads; loop = k.loop }
+open_to g code t path w o low few first leads k = record { few = few; outermost = subst (λ u. u ≤ FRAME_TABLE) (sym first) low; leads = leads; loop = k.loop }
 
 -- A wait in tables.
-waits_rightly : (g : GameLists) (t code : ℕ) (p : Prompt) (path : List Frame) (r : Run) → t ≤ 2 → AsksAt code p → length path ≤ suc LEVEL_LIMIT
+waits_rightly : (g : GameLists) (t code : ℕ) (p : Prompt) (path : List Frame) (r : Run) → t ≤ FRAME_TABLE → AsksAt code p → length path ≤ suc LEVEL_LIMIT
     → first_table path ≡ t → LeadsTo g code path → Sound g (tables_of path) r.world r.turning → (p ≢ prompt.Over) × AreFramesAndLoop g p path r.turning
 waits_rightly g t code prompt.Main path r low asks few first leads k = absurd asks
 waits_rightly g t code prompt.Quit path r low asks few first leads k =
@@ -135,7 +136,7 @@ module _ (g : Story) (v : Valid g.game) where
     between : (r : Run) → Sound g.game [] r.world r.turning → IsBetween r
     between r k = record { of = k.of; none = none_open g.game r.world r.turning k }
 
-    table_done_rightly : (t : ℕ) → t ≤ 2 → (x : Out) → Held g.game [] [] t x → IsRightly (table_done g go t x)
+    table_done_rightly : (t : ℕ) → t ≤ FRAME_TABLE → (x : Out) → Held g.game [] [] t x → IsRightly (table_done g go t x)
     table_done_rightly t low (Left a r) k = after_left_rightly t a r (between r k)
     table_done_rightly t low (Waits p path r) k =
         let rightly = waits_rightly g.game t k.code p path r low k.asks (omega (arith, k.few)) k.first k.leads k.sound in
@@ -145,7 +146,7 @@ module _ (g : Story) (v : Valid g.game) where
     table_done_rightly t low (Stopped (Halts halt.Over) r) k = record { places = (refl, k.0); line = λ e. k.1.0 }
     table_done_rightly t low (Stopped (Halts _) r) k = tt
 
-    read_rightly : (t : ℕ) → t ≤ 2 → GoRightly (λ r. table_done g go t (table_read g t r))
+    read_rightly : (t : ℕ) → t ≤ FRAME_TABLE → GoRightly (λ r. table_done g go t (table_read g t r))
     read_rightly t low r k = table_done_rightly t low (table_read g t r) (table_held g v t r k.of k.none)
 
     at_main_rightly : (r : Run) (lines : List (List ℕ)) → IsBetween r → r.pending ≡ [] → IsRightly (at_main g go r lines)
@@ -175,13 +176,13 @@ module _ (g : Story) (v : Valid g.game) where
   unfolding turn
   turn_rightly zero s r k = tt
   turn_rightly (suc n) AtDescribe r k =
-      saying_rightly (view_text g.game (location_described r.world)) (λ q. table_done g (turn g n) 1 (table_read g 1 q))
+      saying_rightly (view_text g.game (location_described r.world)) (λ q. table_done g (turn g n) DESCRIBED_TABLE (table_read g DESCRIBED_TABLE q))
       (read_rightly (turn g n) (turn_rightly n) 1 (omega arith))
       (with_world (location_described r.world) r) (record { of = described_placed g.game r.world k.of; none = k.none })
-  turn_rightly (suc n) AtTimeFrame r k = read_rightly (turn g n) (turn_rightly n) 2 (omega arith) r k
+  turn_rightly (suc n) AtTimeFrame r k = read_rightly (turn g n) (turn_rightly n) FRAME_TABLE (omega arith) r k
   turn_rightly (suc n) AtPhrase r k =
       after_phrase_rightly (turn g n) (turn_rightly n) (coming_phrase g r) r k
-  turn_rightly (suc n) AtResponse r k = read_rightly (turn g n) (turn_rightly n) 0 (omega arith) r k
+  turn_rightly (suc n) AtResponse r k = read_rightly (turn g n) (turn_rightly n) RESPONSE_TABLE (omega arith) r k
 
   -- ---- going on ----
 

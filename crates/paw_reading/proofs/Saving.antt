@@ -9,6 +9,7 @@ use Rattle.paw_base.specs.declared.fault.SpentKind.TheVariants as spent
 use Rattle.paw_base.specs.declared.flags.TheConstants.{LOOP_FLAG, LOCATION_FLAG, VERB_FLAG, UNLIT_VIEW_FLAG}
 use Rattle.paw_base.specs.declared.flags.TheConstants.{DARK_VIEW_FLAG, VIEW_FLAG, LAST_FRAME_FLAG, FIRST_FRAME_FLAG}
 use Rattle.paw_base.specs.declared.flags.TheConstants.{UNLIT_FRAME_FLAG, DARK_FRAME_FLAG}
+use Rattle.paw_base.specs.declared.tables.TheConstants.{RESPONSE_TABLE, DESCRIBED_TABLE, FRAME_TABLE}
 use Rattle.paw_game.specs.declared.parts.Entry.{Entry}
 use Rattle.paw_game.specs.Tables.{table_at, entry_at, condacts_of, condact_at, facts_at, exit_at}
 use Rattle.paw_world.specs.World.{World, Position, flag, with_flag, is_dark, is_unlit, flag_lowered, flag_lowered_if}
@@ -290,11 +291,11 @@ module _ (g : Story) (never : NeverSaves g.game) (ks : List (Option Position)) w
   unfolding turn
   turn_ends zero s r k = tt
   turn_ends (suc n) AtDescribe r k =
-      saying_ends (view_text g.game (location_described r.world)) (λ q. table_done g (turn g n) 1 (table_read g 1 q))
+      saying_ends (view_text g.game (location_described r.world)) (λ q. table_done g (turn g n) DESCRIBED_TABLE (table_read g DESCRIBED_TABLE q))
       (read_ends (turn g n) (turn_ends n) 1) (with_world (location_described r.world) r) (described_kept r.world k)
-  turn_ends (suc n) AtTimeFrame r k = read_ends (turn g n) (turn_ends n) 2 r k
+  turn_ends (suc n) AtTimeFrame r k = read_ends (turn g n) (turn_ends n) FRAME_TABLE r k
   turn_ends (suc n) AtPhrase r k = after_phrase_ends (turn g n) (turn_ends n) (coming_phrase g r) r k
-  turn_ends (suc n) AtResponse r k = read_ends (turn g n) (turn_ends n) 0 r k
+  turn_ends (suc n) AtResponse r k = read_ends (turn g n) (turn_ends n) RESPONSE_TABLE r k
 
   -- ---- going on ----
 

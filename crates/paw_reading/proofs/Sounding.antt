@@ -20,6 +20,7 @@ use Rattle.paw_base.specs.declared.flags.TheConstants.{TIMED_OUT_BIT, UNLIT_VIEW
 use Rattle.paw_base.specs.declared.flags.TheConstants.{LAST_FRAME_FLAG, FIRST_FRAME_FLAG, UNLIT_FRAME_FLAG}
 use Rattle.paw_base.specs.declared.flags.TheConstants.{DARK_FRAME_FLAG}
 use Rattle.paw_base.specs.declared.words.TheConstants.{NO_WORD, NOUN_CLASS}
+use Rattle.paw_base.specs.declared.tables.TheConstants.{RESPONSE_TABLE, DESCRIBED_TABLE, FRAME_TABLE}
 use Rattle.paw_game.specs.declared.parts.Entry.{Entry}
 use Rattle.paw_game.specs.Game.{GameLists}
 use Rattle.paw_game.specs.Tables.{table_at, entry_at, condacts_of, facts_at, exit_at}
@@ -576,12 +577,12 @@ module _ (g : Story) (valid : ValidStory g) (seed base : ℕ) where
   unfolding turn
   turn_sounds zero s r k = tt
   turn_sounds (suc n) AtDescribe r k =
-      saying_sounds (view_text g.game (location_described r.world)) (λ q. table_done g (turn g n) 1 (table_read g 1 q))
+      saying_sounds (view_text g.game (location_described r.world)) (λ q. table_done g (turn g n) DESCRIBED_TABLE (table_read g DESCRIBED_TABLE q))
       (read_sounds (turn g n) (turn_sounds n) 1)
       (with_world (location_described r.world) r) (in_world r k (location_described r.world) (described_so (bound r) r.world k.world))
-  turn_sounds (suc n) AtTimeFrame r k = read_sounds (turn g n) (turn_sounds n) 2 r k
+  turn_sounds (suc n) AtTimeFrame r k = read_sounds (turn g n) (turn_sounds n) FRAME_TABLE r k
   turn_sounds (suc n) AtPhrase r k = after_phrase_sounds (turn g n) (turn_sounds n) r k (coming_phrase g r) refl
-  turn_sounds (suc n) AtResponse r k = read_sounds (turn g n) (turn_sounds n) 0 r k
+  turn_sounds (suc n) AtResponse r k = read_sounds (turn g n) (turn_sounds n) RESPONSE_TABLE r k
 
   opening_so : (es : List (List ℕ)) → AreLines es → Is (opening g seed es)
   opening_so es are = record {

@@ -2,6 +2,7 @@
 use Rattle.std.proofs.Common.{◌≡◌, suc, ◌+◌, ◌<◌, ◌≤◌, ◌++◌, length, refl, sym, ap, ◌∙◌, subst}
 use Rattle.paw_base.specs.declared.fault.SpentKind.TheVariants as spent
 use Rattle.paw_base.specs.declared.limits.TheConstants.{PIECE_LIMIT}
+use Rattle.paw_base.specs.declared.tables.TheConstants.{DESCRIBED_TABLE}
 use Rattle.paw_effects.specs.Story.{Story}
 use Rattle.paw_world.specs.World.{World}
 use Rattle.paw_reading.specs.Run.{with_world}
@@ -18,20 +19,22 @@ use Rattle.paw_turn.proofs.Says.{said, unsaid}
 pub described_reads : (g : Story) (old mid new : PlayState) (nx : Next) (w : World) → w ≡ location_described old.surroundings.world
     → length old.surroundings.piece + length (view_text g.game w) ≤ PIECE_LIMIT
     → mid ≡ with_piece (old.surroundings.piece ++ view_text g.game w) (in_world w old)
-    → ReadsTurn g (λ n r. table_done g (turn g n) 1 (table_read g 1 r)) mid nx new
+    → ReadsTurn g (λ n r. table_done g (turn g n) DESCRIBED_TABLE (table_read g DESCRIBED_TABLE r)) mid nx new
     → ReadsTurn g (λ n r. turn g (suc n) AtDescribe r) old nx new
 unfolding turn
 described_reads g old mid new nx w world fits is reads past has =
     let full : World → PlayState = λ v. with_piece (old.surroundings.piece ++ view_text g.game v) (in_world v old) in
     let fits' = subst (λ v. length old.surroundings.piece + length (view_text g.game v) ≤ PIECE_LIMIT) world fits in
-    let from = subst (λ (m : PlayState). ReadsTurn g (λ n r. table_done g (turn g n) 1 (table_read g 1 r)) m nx new) (is ∙ ap full world) reads in
+    let from = subst (λ (m : PlayState). ReadsTurn g (λ n r. table_done g (turn g n) DESCRIBED_TABLE (table_read g DESCRIBED_TABLE r)) m nx new)
+    (is ∙ ap full world) reads in
     let t = from past has in (
       t.0,
       (
         t.1.0,
         λ n lines.
             subst (GoesOnAs g n nx new.machine.frames (run_now new (having_read t.0 past) lines))
-            (sym (said (view_text g.game (location_described old.surroundings.world)) (λ s. table_done g (turn g n) 1 (table_read g 1 s))
+            (sym (said (view_text g.game (location_described old.surroundings.world))
+            (λ s. table_done g (turn g n) DESCRIBED_TABLE (table_read g DESCRIBED_TABLE s))
             (with_world (location_described old.surroundings.world) (run_now old past lines)) fits'))
             (t.1.1 n lines),
       ),
@@ -50,7 +53,7 @@ described_not g old new w world past_fits same past has =
         subst (HasRead past.read) (sym same) has,
         λ n lines. (
           with_world (location_described old.surroundings.world) (run_now old past lines),
-          unsaid (view_text g.game (location_described old.surroundings.world)) (λ s. table_done g (turn g n) 1 (table_read g 1 s))
+          unsaid (view_text g.game (location_described old.surroundings.world)) (λ s. table_done g (turn g n) DESCRIBED_TABLE (table_read g DESCRIBED_TABLE s))
               (with_world (location_described old.surroundings.world) (run_now old past lines)) past_fits',
           record { pieces = refl; traces = refl; events = refl },
         ),

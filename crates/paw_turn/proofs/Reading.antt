@@ -1,5 +1,6 @@
 -- A table that is read.
 use Rattle.std.proofs.Common.{◌≡◌, ℕ, suc, [], ◌++◌, refl, sym, subst}
+use Rattle.paw_base.specs.declared.tables.TheConstants.{RESPONSE_TABLE, FRAME_TABLE}
 use Rattle.paw_effects.specs.Story.{Story}
 use Rattle.paw_reading.specs.Run.{Run}
 use Rattle.paw_reading.specs.Reading.{table_read}
@@ -44,12 +45,14 @@ moves_read g x old new nx moves same past has =
     (past.read, (subst (HasRead past.read) (sym same) has, λ n lines. moves past n lines))
 
 -- The time frame reads table 2, and the response table 0.
-pub time_frame_reads : (g : Story) (old new : PlayState) (nx : Next) → ReadsTurn g (λ n r. table_done g (turn g n) 2 (table_read g 2 r)) old nx new
+pub time_frame_reads : (g : Story) (old new : PlayState) (nx : Next)
+    → ReadsTurn g (λ n r. table_done g (turn g n) FRAME_TABLE (table_read g FRAME_TABLE r)) old nx new
     → ReadsTurn g (λ n r. turn g (suc n) AtTimeFrame r) old nx new
 unfolding turn
 time_frame_reads g old new nx reads = reads
 
-pub response_reads : (g : Story) (old new : PlayState) (nx : Next) → ReadsTurn g (λ n r. table_done g (turn g n) 0 (table_read g 0 r)) old nx new
+pub response_reads : (g : Story) (old new : PlayState) (nx : Next)
+    → ReadsTurn g (λ n r. table_done g (turn g n) RESPONSE_TABLE (table_read g RESPONSE_TABLE r)) old nx new
     → ReadsTurn g (λ n r. turn g (suc n) AtResponse r) old nx new
 unfolding turn
 response_reads g old new nx reads = reads
