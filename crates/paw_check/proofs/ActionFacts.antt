@@ -2,6 +2,7 @@
 -- with a word for each usual kind of action.
 use Rattle.std.proofs.Common.{◌≡◌, ℕ, ◌==◌, ◌<◌, ◌≤◌, Bool, true, false, List, [], ◌∷◌, Option, Some, None}
 use Rattle.std.proofs.Common.{refl, sym, subst, length, inl, arith}
+use Rattle.paw_base.specs.Bytes.{Texts}
 use Rattle.paw_base.specs.declared.codes.TheConstants.{PARSE, DESC, SAVE, LOAD, RESET}
 use Rattle.paw_base.specs.declared.flags.TheConstants.{VERB_FLAG}
 use Rattle.paw_base.specs.declared.parts.Condact.{Condact}
@@ -38,7 +39,7 @@ use Rattle.paw_check.proofs.Verb.{HasVerb, LeavesVerb, other_has, moved_has, act
 -- What is known of a condact d that is carried out for c: a text that it names is within what c may name, and its
 -- parameters are bytes.
 pub record StandsFor (g : GameLists) (c d : Condact) : Type 0 where
-  pub named : (texts : List (List ℕ)) → most_at g texts d.a ≤ most_named g texts c
+  pub named : (texts : Texts) → most_at g texts d.a ≤ most_named g texts c
   pub first : d.a < 256
   pub second : d.b < 256
 

@@ -6,6 +6,7 @@ use Rattle.std.specs.Prelude.{if◌then◌else◌, nat_lt}
 use Rattle.std.specs.List.{AllByRecursion}
 use Rattle.std.specs.Option.{option_map_or}
 use Rattle.std.proofs.lemmas.Bool.Decides.{nat_tests}
+use Rattle.paw_base.specs.Bytes.{Line, Lines, Text}
 use Rattle.paw_base.specs.declared.limits.TheConstants.{READ_LIMIT}
 use Rattle.paw_base.specs.declared.parts.Condact.{Condact}
 use Rattle.paw_base.specs.declared.fault.SpentKind.TheVariants as spent
@@ -118,7 +119,7 @@ module _ (g : Story) (Describes : Type 0) (lv : ℕ) where
   over_settled : (r : Run) → Settled Describes lv (over g r)
   over_settled r = prints (Settled Describes lv) (goodbye g r) game_over r tt tt
 
-  answered_alike : (p : Prompt) (f : Frame) (go on : Bool → Run → Out) → GoAlike go on → (line : List ℕ) (r : Run) → AtMost lv r.turning →
+  answered_alike : (p : Prompt) (f : Frame) (go on : Bool → Run → Out) → GoAlike go on → (line : Line) (r : Run) → AtMost lv r.turning →
       Same (prompt_answered g p f go line r) (prompt_answered g p f on line r)
   answered_alike prompt.Quit f go on h line r k =
       both Same (is_yes line) (go f.acted r) (Left true r) (on f.acted r) (Left true r) (h f.acted r k) (itself (Left true r) k)
@@ -127,7 +128,7 @@ module _ (g : Story) (Describes : Type 0) (lv : ℕ) where
       (either (Settled Describes lv) (is_no line) (over g r) (Stopped Restarts (anew r)) (over_settled r) tt)
   answered_alike _ f go on h line r k = h true r k
 
-  asked_alike : (p : Prompt) (f : Frame) (go on : Bool → Run → Out) → GoAlike go on → (r : Run) (lines : List (List ℕ)) → AtMost lv r.turning →
+  asked_alike : (p : Prompt) (f : Frame) (go on : Bool → Run → Out) → GoAlike go on → (r : Run) (lines : Lines) → AtMost lv r.turning →
       Same (prompt_asked g p f go r lines) (prompt_asked g p f on r lines)
   unfolding prompt_asked
   asked_alike p f go on h r [] k = itself (Waits p (f ∷ []) (record r { events = [] })) tt
@@ -140,7 +141,7 @@ module _ (g : Story) (Describes : Type 0) (lv : ℕ) where
       Same (waits g p f go r) (waits g p f on r)
   waits_alike p f go on h r k = asked_alike p f go on h (piece_closed r) r.events k
 
-  printing_alike : (text : List ℕ) (go on : Run → Out) (r : Run) → Same (go (text_printed text r)) (on (text_printed text r)) →
+  printing_alike : (text : Text) (go on : Run → Out) (r : Run) → Same (go (text_printed text r)) (on (text_printed text r)) →
       Same (printing text go r) (printing text on r)
   printing_alike text go on r h =
       both Same (fits r text) (go (text_printed text r)) (halts (halt.Spent spent.Text) r) (on (text_printed text r)) (halts (halt.Spent spent.Text) r) h

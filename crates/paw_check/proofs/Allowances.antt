@@ -1,6 +1,7 @@
 -- How much the phrases of a line may take.
-use Rattle.std.proofs.Common.{◌≡◌, ℕ, suc, ◌+◌, ◌*◌, ◌/◌, ◌≤◌, List, inl, inr, length, arith}
+use Rattle.std.proofs.Common.{◌≡◌, ℕ, suc, ◌+◌, ◌*◌, ◌/◌, ◌≤◌, inl, inr, length, arith}
 use Rattle.std.proofs.lemmas.Nat.{mul-le}
+use Rattle.paw_base.specs.Bytes.{Bytes}
 use Rattle.paw_base.specs.declared.limits.TheConstants.{LINE_LIMIT}
 use Rattle.paw_phrase.specs.inner.Leaving.{IsTwoLess}
 
@@ -24,7 +25,7 @@ one_more : (w a b : ℕ) → suc a ≤ b → a * w + w ≤ b * w
 one_more w a b h = let more : suc a * w ≡ a * w + w = omega arith in omega (arith, rounds_le w (suc a) b h)
 
 -- A phrase takes its share of the allowance, and leaves what the phrases after it take.
-pub phrase_less : (w : ℕ) (pending rest : List ℕ) → 1 ≤ length pending → IsTwoLess pending rest →
+pub phrase_less : (w : ℕ) (pending rest : Bytes) → 1 ≤ length pending → IsTwoLess pending rest →
     for_phrases w (length rest) + w ≤ for_phrases w (length pending)
 unfolding for_phrases phrases_in
 phrase_less w pending rest some (inl none) = rw none (one_more w 0 ((length pending + 1) / 2) (omega arith))

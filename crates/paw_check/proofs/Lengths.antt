@@ -7,6 +7,7 @@ use Rattle.std.specs.Option.{option_map, unwrap_or}
 use Rattle.std.proofs.lemmas.Bool.{eqb-true}
 use Rattle.std.proofs.lemmas.Fmt.{length-decimal-le}
 use Rattle.std.proofs.lemmas.List.Sums.{sum_by-cons}
+use Rattle.paw_base.specs.Bytes.{Bytes, Text, Texts, Name}
 use Rattle.paw_base.specs.declared.flags.TheConstants.{REFERRED_FLAG}
 use Rattle.paw_game.specs.declared.parts.ObjectRow.{ObjectRow}
 use Rattle.paw_game.specs.Game.{GameLists}
@@ -44,12 +45,12 @@ name_most g o = names_most g.objects o
 -- ---- texts ----
 
 -- A byte, or the name that stands for it, and the rest.
-byte_most : (named : Bool) (name rest : List ℕ) (b n m : ℕ) → length name ≤ n → length rest ≤ m
+byte_most : (named : Bool) (name rest : Bytes) (b n m : ℕ) → length name ≤ n → length rest ≤ m
     → length (if named then name ++ rest else b ∷ rest) ≤ (if named then n else 1) + m
 byte_most true name rest b n m short less = omega (arith, length-append name rest)
 byte_most false name rest b n m short less = omega arith
 
-named_most : (name : List ℕ) (n : ℕ) → length name ≤ n → (text : List ℕ)
+named_most : (name : Name) (n : ℕ) → length name ≤ n → (text : Text)
     → length (with_name name text) ≤ sum_by (λ b. if b == 95 then n else 1) text
 named_most name n short [] = omega arith
 named_most name n short (b ∷ bs) =
@@ -57,10 +58,10 @@ named_most name n short (b ∷ bs) =
     let first = byte_most (b == 95) name (with_name name bs) b n (sum_by (λ x. if x == 95 then n else 1) bs) short rest in
     omega (arith, first, sum_by-cons (λ (x : ℕ). if x == 95 then n else 1) b bs)
 
-pub printed_most : (g : GameLists) (w : World) (text : List ℕ) → length (printed_text g w text) ≤ most_bytes g text
+pub printed_most : (g : GameLists) (w : World) (text : Text) → length (printed_text g w text) ≤ most_bytes g text
 printed_most g w text = named_most (object_text g (flag w REFERRED_FLAG)) (longest_name g) (name_most g (flag w REFERRED_FLAG)) text
 
-pub ended_most : (g : GameLists) (w : World) (text : List ℕ) → length (ended_text g w text) ≤ most_bytes g text + 1
+pub ended_most : (g : GameLists) (w : World) (text : Text) → length (ended_text g w text) ≤ most_bytes g text + 1
 ended_most g w [] = omega arith
 ended_most g w (b ∷ bs) = omega (arith, printed_most g w (b ∷ bs), length-append (printed_text g w (b ∷ bs)) (10 ∷ []))
 
@@ -74,7 +75,7 @@ pub message_most : (g : GameLists) (w : World) (m : ℕ) → length (message_tex
 message_most g w m = printed_most g w (unwrap_or (slice_get g.messages m) [])
 
 -- A text by its number is no longer than the longest.
-pub at_most : (g : GameLists) (texts : List (List ℕ)) (n : ℕ) → most_at g texts n ≤ most_of g texts
+pub at_most : (g : GameLists) (texts : Texts) (n : ℕ) → most_at g texts n ≤ most_of g texts
 unfolding greatest
 at_most g [] n = omega arith
 at_most g (text ∷ texts) zero = omega arith

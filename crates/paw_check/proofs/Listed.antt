@@ -9,6 +9,7 @@ use Rattle.std.proofs.lemmas.Nat.{mul-le}
 use Rattle.std.proofs.lemmas.List.Filters.{sum_by-filter_both, length-filter_both}
 use Rattle.std.proofs.lemmas.List.FromFn.{length-range_with_len}
 use Rattle.std.proofs.lemmas.List.Sums.{sum_by-cons}
+use Rattle.paw_base.specs.Bytes.{Texts}
 use Rattle.paw_base.specs.declared.messages.TheConstants.{SEEN_MESSAGE, INVENTORY_MESSAGE, IS_WORN_MESSAGE}
 use Rattle.paw_base.specs.declared.messages.TheConstants.{EMPTY_HANDED_MESSAGE}
 use Rattle.paw_base.specs.declared.flags.TheConstants.{LOCATION_FLAG}
@@ -55,7 +56,7 @@ lines_most f (o ∷ os) =
       length-append (f o ++ 10 ∷ []) (as_lines (map f os)),
     )
 
-joint_most : (texts : List (List ℕ)) → length (joint texts) ≤ 5
+joint_most : (texts : Texts) → length (joint texts) ≤ 5
 joint_most [] = omega arith
 joint_most (text ∷ texts) = omega arith
 

@@ -4,6 +4,7 @@ use Rattle.std.proofs.Common.{Some, None, refl, length, arith}
 use Rattle.std.proofs.Common.{length-append}
 use Rattle.std.specs.Prelude.{if◌then◌else◌, All}
 use Rattle.std.proofs.lemmas.Bool.{le-leb}
+use Rattle.paw_base.specs.Bytes.{Lines, Seed}
 use Rattle.paw_base.specs.declared.flags.TheConstants.{LOCATION_FLAG, VERB_FLAG, PRONOUN_NOUN_FLAG}
 use Rattle.paw_base.specs.declared.flags.TheConstants.{PRONOUN_ADJECTIVE_FLAG}
 use Rattle.paw_base.specs.declared.limits.TheConstants.{PIECE_LIMIT, LINE_LIMIT}
@@ -168,7 +169,7 @@ module _ (g : Story) (valid : ValidStory g) (condacts text : ℕ) (k : Takes) (e
         (goes AtTimeFrame (text_printed (timeout_text g.game w) r))
 
     -- At the main prompt nothing is used of the open piece.
-    at_main_stays : (r : Run) (lines : List (List ℕ)) → IsIn r → length r.read ≤ 0 → length r.current ≤ 0 → All IsLine lines → Stays (at_main g go r lines)
+    at_main_stays : (r : Run) (lines : Lines) → IsIn r → length r.read ≤ 0 → length r.current ≤ 0 → All IsLine lines → Stays (at_main g go r lines)
     unfolding at_main
     at_main_stays r [] h none empty are = record { pieces = h.closed.pieces; traces = h.closed.traces }
     at_main_stays r (line ∷ lines) h none empty are =
@@ -251,7 +252,7 @@ module _ (g : Story) (valid : ValidStory g) (condacts text : ℕ) (k : Takes) (e
   ended Unended h some = absurd (some refl)
 
   -- A reading waits or is over, with all its pieces within the bound.
-  pub readings_stay : (seed : ℕ) (es : List (List ℕ)) → All IsLine es → EndsWithin condacts text (reading g seed es)
+  pub readings_stay : (seed : Seed) (es : List (List ℕ)) → All IsLine es → EndsWithin condacts text (reading g seed es)
   readings_stay seed es are =
       let r : Run = opening g seed es in
       ended (reading g seed es)

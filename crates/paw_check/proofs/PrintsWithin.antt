@@ -1,7 +1,8 @@
 -- Each condact prints no more than its row says.
-use Rattle.std.proofs.Common.{◌≡◌, ℕ, ◌<◌, ◌≤◌, List, Some, refl, subst, length, IsTrue}
+use Rattle.std.proofs.Common.{◌≡◌, ℕ, ◌<◌, ◌≤◌, Some, refl, subst, length, IsTrue}
 use Rattle.std.proofs.Common.{arith}
 use Rattle.std.specs.List.{slice_index_or}
+use Rattle.paw_base.specs.Bytes.{Texts}
 use Rattle.paw_base.specs.declared.codes.TheConstants.{QUIT}
 use Rattle.paw_base.specs.declared.messages.TheConstants.{QUIT_MESSAGE}
 use Rattle.paw_base.specs.declared.parts.Condact.{Condact}
@@ -48,7 +49,7 @@ stands_for : (g : GameLists) (w : World) (c d : Condact) → Valid g → IsTrue 
 stands_for g w c d v right is =
     let second : c.b < 256 = argument_small g v (second_kind c.code) c.b (right-second g c right) in
     record {
-      named = carried g w c d is (λ x. (texts : List (List ℕ)) → most_at g texts x.a ≤ most_named g texts c)
+      named = carried g w c d is (λ x. (texts : Texts) → most_at g texts x.a ≤ most_named g texts c)
           (λ e texts. rw e (omega arith)) (λ e k texts. rw e (at_most g texts (flag w c.a)));
       first = carried g w c d is (λ x. x.a < 256)
           (λ e. argument_small g v (first_kind c.code) c.a (right-first g c right))

@@ -3,6 +3,7 @@ use Rattle.std.proofs.Common.{◌≡◌, ℕ, zero, suc, ◌+◌, ◌≤◌, ◌
 use Rattle.std.proofs.Common.{length, arith, length-append}
 use Rattle.std.specs.Prelude.{All}
 use Rattle.std.proofs.lemmas.List.Elements.{All-append}
+use Rattle.paw_base.specs.Bytes.{Line, Lines, Seed}
 use Rattle.paw_base.specs.declared.limits.TheConstants.{LINE_LIMIT}
 use Rattle.paw_base.specs.declared.words.TheConstants.{NO_WORD}
 use Rattle.paw_base.specs.declared.tables.TheConstants.{FRAME_TABLE}
@@ -106,9 +107,9 @@ module _ (g : Story) (valid : ValidStory g) (condacts text : ℕ) where
   Ends e = EndsSo condacts text e
 
   -- With another world, another line, another verb before it, other words in the open piece and other lines to come.
-  pub changed : (r : Run) → Ready r → (w : World) → IsWorldOf g.game w → (line : List ℕ) → length line ≤ LINE_LIMIT
+  pub changed : (r : Run) → Ready r → (w : World) → IsWorldOf g.game w → (line : Line) → length line ≤ LINE_LIMIT
       → (earlier : ℕ) → earlier < 256 →
-      (words : List ℕ) (lines : List (List ℕ)) → All IsLine lines →
+      (words : List ℕ) (lines : Lines) → All IsLine lines →
       Ready (record r { world = w; pending = line; earlier = earlier; current = words; events = lines })
   changed r h w world line short earlier early words lines are = record {
     world = world;
@@ -122,20 +123,20 @@ module _ (g : Story) (valid : ValidStory g) (condacts text : ℕ) where
   pub in_world : (r : Run) → Ready r → (w : World) → IsWorldOf g.game w → Ready (with_world w r)
   in_world r h w world = changed r h w world r.pending h.line r.earlier h.earlier r.current r.events h.lines
 
-  pub with_line : (r : Run) → Ready r → (line : List ℕ) → length line ≤ LINE_LIMIT
+  pub with_line : (r : Run) → Ready r → (line : Line) → length line ≤ LINE_LIMIT
       → Ready (record r { pending = line })
   with_line r h line short = changed r h r.world h.world line short r.earlier h.earlier r.current r.events h.lines
 
   pub with_words : (r : Run) → Ready r → (words : List ℕ) → Ready (record r { current = words })
   with_words r h words = changed r h r.world h.world r.pending h.line r.earlier h.earlier words r.events h.lines
 
-  pub with_events : (r : Run) → Ready r → (lines : List (List ℕ)) → All IsLine lines → Ready (record r { events = lines })
+  pub with_events : (r : Run) → Ready r → (lines : Lines) → All IsLine lines → Ready (record r { events = lines })
   with_events r h lines are = changed r h r.world h.world r.pending h.line r.earlier h.earlier r.current lines are
 
-  pub heard_ready : (line : List ℕ) (r : Run) → Ready r → Ready (with_line_heard line r)
+  pub heard_ready : (line : Line) (r : Run) → Ready r → Ready (with_line_heard line r)
   heard_ready line r h = in_world r h (with_timeout (is_timeout line) r.world) (timeout_of g.game valid.game (is_timeout line) r.world h.world)
 
-  pub line_ready : (line : List ℕ) (r : Run) → IsLine line → Ready r → Ready (line_set line r)
+  pub line_ready : (line : Line) (r : Run) → IsLine line → Ready r → Ready (line_set line r)
   line_ready line r is h =
       changed r h (with_timeout false r.world) (timeout_of g.game valid.game false r.world h.world) line is.short
       NO_WORD (omega arith) r.current r.events h.lines
@@ -161,7 +162,7 @@ module _ (g : Story) (valid : ValidStory g) (condacts text : ℕ) where
     };
   }
 
-  pub opening_ready : (seed : ℕ) (es : List (List ℕ)) → All IsLine es → Ready (opening g seed es)
+  pub opening_ready : (seed : Seed) (es : List (List ℕ)) → All IsLine es → Ready (opening g seed es)
   opening_ready seed es are = record {
     world = start_of g.game valid.game seed;
     earlier = omega arith;

@@ -1,8 +1,9 @@
 -- What reading a table does beside its condacts leaves the world one of the game, and the verb as it is.
-use Rattle.std.proofs.Common.{◌≡◌, ◌≢◌, ℕ, suc, ◌+◌, ◌<◌, ◌%◌, Bool, true, false, List, Option, Some, None, refl, ◌∙◌}
+use Rattle.std.proofs.Common.{◌≡◌, ◌≢◌, ℕ, suc, ◌+◌, ◌<◌, ◌%◌, Bool, true, false, Option, Some, None, refl, ◌∙◌}
 use Rattle.std.proofs.Common.{All, arith}
 use Rattle.std.specs.Prelude.{slice_get}
 use Rattle.std.proofs.lemmas.List.{get_or-set_other}
+use Rattle.paw_base.specs.Bytes.{RoutineAnswers}
 use Rattle.paw_base.specs.declared.parts.Condact.{Condact}
 use Rattle.paw_base.specs.declared.parts.ObjectFacts.{ObjectFacts}
 use Rattle.paw_base.specs.declared.flags.TheConstants.{NOUN_FLAG, ADJECTIVE_FLAG, LOOP_FLAG, VERB_FLAG}
@@ -55,7 +56,7 @@ module _ (g : GameLists) (v : Valid g) where
   anew_of w k = world_is g w.seed w.draws (world_restarted w) (anew_so g v w.seed w.draws w (now w k))
 
   -- An action is carried out.
-  pub acted_of : (answers : List (List ℕ)) → All AreBytes answers → (w : World) → IsWorldOf g w → (c : Condact) → is_condact g c ≡ true →
+  pub acted_of : (answers : RoutineAnswers) → All AreBytes answers → (w : World) → IsWorldOf g w → (c : Condact) → is_condact g c ≡ true →
       IsWorldOf g (effect_of (story_of g answers) w c).world
   acted_of answers bytes w k c is =
       world_is g w.seed (suc w.draws) (effect_of (story_of g answers) w c).world (effect_so g v w.seed w.draws answers w c bytes (now w k) is)

@@ -8,6 +8,7 @@ use Rattle.std.proofs.lemmas.Bool.{and_parts}
 use Rattle.std.proofs.lemmas.List.Elements.{All-tail}
 use Rattle.std.proofs.lemmas.List.Sums.{sum_by-cons, sum_by-append}
 use Rattle.std.proofs.lemmas.Option.{none-some}
+use Rattle.paw_base.specs.Bytes.{Line, Lines, Texts}
 use Rattle.paw_base.specs.declared.limits.TheConstants.{READ_LIMIT, PIECE_LIMIT}
 use Rattle.paw_base.specs.declared.codes.TheConstants.{PROCESS, DOALL, PARSE}
 use Rattle.paw_base.specs.declared.parts.Condact.{Condact}
@@ -66,8 +67,8 @@ use Rattle.paw_check.proofs.Uses.{closed_more, may_read, may_print}
 
 -- At level lv: the world is one of the game, so much of the line is left at most, the verb is this one unless it may
 -- change, no loop of a deeper level is open, the lines to come are lines, and each closed piece is within the limit.
-pub record Steady (g : GameLists) (kind : SpentKind) (limit pending : ℕ) (changing : Bool) (verb lv : ℕ) (w : World) (earlier : ℕ) (line : List ℕ)
-    (turning : Option OpenLoop) (events : List (List ℕ)) (traces : List (List Step)) (pieces : List (List ℕ)) : Type 0 where
+pub record Steady (g : GameLists) (kind : SpentKind) (limit pending : ℕ) (changing : Bool) (verb lv : ℕ) (w : World) (earlier : ℕ) (line : Line)
+    (turning : Option OpenLoop) (events : Lines) (traces : List (List Step)) (pieces : Texts) : Type 0 where
   pub world : IsWorldOf g w
   pub small : earlier < 256
   pub short : length line ≤ pending
@@ -106,7 +107,7 @@ shallow : (b : Bool) (o : Option OpenLoop) (lv : ℕ) → IfSome o (λ l. l.leve
 shallow true o lv k = tt
 shallow false o lv k = k
 
-shorter_if : (b : Bool) (line : List ℕ) (n : ℕ) → length line ≤ n → length (if b then [] else line) ≤ n
+shorter_if : (b : Bool) (line : Line) (n : ℕ) → length line ≤ n → length (if b then [] else line) ≤ n
 shorter_if true line n k = omega arith
 shorter_if false line n k = k
 
@@ -192,7 +193,7 @@ module _ (g : Story) (valid : ValidStory g) (kind : SpentKind) (limit pending : 
     closed = k.closed;
   }
 
-  with_events : (lv : ℕ) (r : Run) → Is lv r → (events : List (List ℕ)) → All IsLine events → Is lv (record r { events = events })
+  with_events : (lv : ℕ) (r : Run) → Is lv r → (events : Lines) → All IsLine events → Is lv (record r { events = events })
   with_events lv r k events lines = record {
     world = k.world;
     small = k.small;
@@ -236,7 +237,7 @@ module _ (g : Story) (valid : ValidStory g) (kind : SpentKind) (limit pending : 
     closed = k.closed;
   }
 
-  heard_is : (lv : ℕ) (line : List ℕ) (r : Run) → Is lv r → Is lv (with_line_heard line r)
+  heard_is : (lv : ℕ) (line : Line) (r : Run) → Is lv r → Is lv (with_line_heard line r)
   heard_is lv line r k =
       in_world lv r k (with_timeout (is_timeout line) r.world) (timeout_of g.game valid.game (is_timeout line) r.world k.world)
       (λ e. timeout_verb (is_timeout line) r.world)
@@ -279,7 +280,7 @@ module _ (g : Story) (valid : ValidStory g) (kind : SpentKind) (limit pending : 
         may_print (Ends P n) kind text game_over r (omega (arith, most, low)) (game_over_ends P n (text_printed text r) most k.closed) (λ h. h)
 
     module _ (once more : ℕ) (go : Bool → Run → Out) (goes : Goes once more go) (fits : once + more ≤ limit) where
-      answered_ends : (p : Prompt) (f : Frame) (line : List ℕ) (r : Run) → Is lv r → used kind r ≤ 0 →
+      answered_ends : (p : Prompt) (f : Frame) (line : Line) (r : Run) → Is lv r → used kind r ≤ 0 →
           Ends (Inside lv once (once + more)) (once + more) (prompt_answered g p f go line r)
       answered_ends prompt.Quit f line r k u =
           either (Ends (Inside lv once (once + more)) (once + more)) (is_yes line) _ (Left true r)
@@ -303,7 +304,7 @@ module _ (g : Story) (valid : ValidStory g) (kind : SpentKind) (limit pending : 
       answered_ends _ f line r k u =
           inside_up lv (0 + once) (0 + (once + more)) once (once + more) (omega arith) (omega arith) (go true r) (goes true 0 r k u (omega (arith, fits)))
 
-      asked_ends : (p : Prompt) (f : Frame) (r : Run) (lines : List (List ℕ)) → Is lv r → used kind r ≤ 0 → All IsLine lines →
+      asked_ends : (p : Prompt) (f : Frame) (r : Run) (lines : Lines) → Is lv r → used kind r ≤ 0 → All IsLine lines →
           Ends (Inside lv once (once + more)) (once + more) (prompt_asked g p f go r lines)
       unfolding prompt_asked
       asked_ends p f r [] k u are = k.closed

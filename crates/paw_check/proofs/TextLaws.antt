@@ -8,6 +8,7 @@ use Rattle.std.proofs.Math.ListN.{get_or-map}
 use Rattle.std.proofs.lemmas.Bool.{cases_lt}
 use Rattle.std.proofs.lemmas.List.{get_or_past}
 use Rattle.std.proofs.lemmas.Option.{slice_get_past}
+use Rattle.paw_base.specs.Bytes.{Text, Texts}
 use Rattle.paw_base.specs.declared.messages.TheConstants.{SEEN_MESSAGE, NOTHING_THERE_MESSAGE}
 use Rattle.paw_base.specs.declared.limits.TheConstants.{SYSTEM_LIMIT, MESSAGE_LIMIT}
 use Rattle.paw_base.specs.declared.parts.Condact.{Condact}
@@ -36,14 +37,14 @@ byte_alike name most b h = at (b == 95) where
   at true = from_capped name most h
   at false = refl
 
-pub measure_alike : (name most : ℕ) (text : List ℕ) → name ≡ in_32_bits most → in_32_bits (measure_in name text) ≡ in_32_bits (measure_in most text)
+pub measure_alike : (name most : ℕ) (text : Text) → name ≡ in_32_bits most → in_32_bits (measure_in name text) ≡ in_32_bits (measure_in most text)
 measure_alike name most text h = sum_alike (byte_in name) (byte_in most) text (λ b. byte_alike name most b h)
 
-pub greatest_measure_alike : (g : GameLists) (name : ℕ) (texts : List (List ℕ)) → name ≡ in_32_bits (longest_name g)
+pub greatest_measure_alike : (g : GameLists) (name : ℕ) (texts : Texts) → name ≡ in_32_bits (longest_name g)
     → in_32_bits (greatest (map (measure_in name) texts)) ≡ in_32_bits (most_of g texts)
 greatest_measure_alike g name texts h = greatest_alike _ _ texts (λ text. measure_alike name (longest_name g) text h)
 
-pub holds_measures : (g : GameLists) (name : ℕ) (texts : List (List ℕ)) (row : List ℕ) → name ≡ in_32_bits (longest_name g)
+pub holds_measures : (g : GameLists) (name : ℕ) (texts : Texts) (row : List ℕ) → name ≡ in_32_bits (longest_name g)
     → HoldsCapped row (measure_at name texts) → HoldsCapped row (most_at g texts)
 holds_measures g name texts row h holds = record {
   long = holds.long;
@@ -51,11 +52,11 @@ holds_measures g name texts row h holds = record {
 }
 
 -- No text is past the last.
-none_past : (g : GameLists) (texts : List (List ℕ)) (n : ℕ) → length texts ≤ n → most_at g texts n ≡ 0
+none_past : (g : GameLists) (texts : Texts) (n : ℕ) → length texts ≤ n → most_at g texts n ≡ 0
 none_past g texts n past = ap (λ text. most_bytes g (unwrap_or text [])) (slice_get_past texts n past)
 
 -- A row holds the measure of each text, and of none past the last.
-pub at_alike : (g : GameLists) (texts : List (List ℕ)) (row : List ℕ) (n : ℕ) → length texts ≤ 256
+pub at_alike : (g : GameLists) (texts : Texts) (row : List ℕ) (n : ℕ) → length texts ≤ 256
     → HoldsCapped row (most_at g texts) → slice_index_or row n 0 ≡ in_32_bits (most_at g texts n)
 at_alike g texts row n few holds = elim (cases_lt n 256) [
   | inl low ↦ holds.each n low
@@ -105,7 +106,7 @@ text_is : (g : GameLists) (c : Condact) → most_text g c ≡ kind_most g (kind_
 unfolding most_text
 text_is g c = row_at (plain_code c.code) g c
 
-named_alike : (g : GameLists) (texts : List (List ℕ)) (row : List ℕ) (any : ℕ) (c : Condact) → length texts ≤ 256
+named_alike : (g : GameLists) (texts : Texts) (row : List ℕ) (any : ℕ) (c : Condact) → length texts ≤ 256
     → HoldsCapped row (most_at g texts) → any ≡ in_32_bits (most_of g texts) → named_in row any c ≡ in_32_bits (most_named g texts c)
 named_alike g texts row any c few holds most = at (is_indirect c.code) where
   at : (b : Bool) → cond b any (slice_index_or row c.a 0) ≡ in_32_bits (cond b (most_of g texts) (most_at g texts c.a))

@@ -4,6 +4,7 @@ use Rattle.std.proofs.Common.{length-append}
 use Rattle.std.specs.Prelude.{if◌then◌else◌, nat_lt, All}
 use Rattle.std.proofs.lemmas.Bool.{ltb-false, leb-false}
 use Rattle.std.proofs.lemmas.List.Elements.{All-append}
+use Rattle.paw_base.specs.Bytes.{Text}
 use Rattle.paw_base.specs.declared.limits.TheConstants.{READ_LIMIT, PIECE_LIMIT}
 use Rattle.paw_base.specs.declared.parts.Condact.{Condact}
 use Rattle.paw_base.specs.declared.fault.SpentKind.{SpentKind}
@@ -52,13 +53,13 @@ pub noted_use : (kind : SpentKind) (g : GameLists) (r : Run) (f : Frame) (c : Co
 noted_use spent.Condacts g r f c b = omega (arith, length-append r.read (step_at f c b ∷ []))
 noted_use spent.Text g r f c b = omega arith
 
-pub printed_use : (kind : SpentKind) (g : GameLists) (r : Run) (f : Frame) (c : Condact) (b : Bool) (text : List ℕ) →
+pub printed_use : (kind : SpentKind) (g : GameLists) (r : Run) (f : Frame) (c : Condact) (b : Bool) (text : Text) →
     length text ≤ most_text g c → used kind (text_printed text (step_noted f c b r)) ≤ used kind r + own_of kind g c
 printed_use spent.Condacts g r f c b text h = omega (arith, length-append r.read (step_at f c b ∷ []))
 printed_use spent.Text g r f c b text h = omega (arith, length-append r.current text)
 
 -- A text is printed at the start of a piece.
-pub first_use : (kind : SpentKind) (limit : ℕ) (r : Run) (text : List ℕ) → used kind r ≤ 0 → of_kind kind 0 (length text) ≤ limit →
+pub first_use : (kind : SpentKind) (limit : ℕ) (r : Run) (text : Text) → used kind r ≤ 0 → of_kind kind 0 (length text) ≤ limit →
     used kind (text_printed text r) ≤ limit
 first_use spent.Condacts limit r text h k = omega arith
 first_use spent.Text limit r text h k = omega (arith, length-append r.current text)
@@ -92,13 +93,13 @@ pub may_read : (P : Out → Type 0) (kind : SpentKind) (g : GameLists) (c : Cond
 may_read P kind g c r x h k spends =
     passes P (nat_lt (length r.read) READ_LIMIT) x (halts (halt.Spent spent.Condacts) r) k (λ e. spends (unread kind g c r h e))
 
-unfit : (kind : SpentKind) (r : Run) (text : List ℕ) → used kind (text_printed text r) ≤ of_kind kind READ_LIMIT PIECE_LIMIT → fits r text ≡ false →
+unfit : (kind : SpentKind) (r : Run) (text : Text) → used kind (text_printed text r) ≤ of_kind kind READ_LIMIT PIECE_LIMIT → fits r text ≡ false →
     Another kind spent.Text
 unfit spent.Condacts r text h e = tt
 unfit spent.Text r text h e = absurd (omega (arith, length-append r.current text, leb-false (length r.current + length text) PIECE_LIMIT e))
 
 -- A text may be printed where the piece with it is within the limit.
-pub may_print : (P : Out → Type 0) (kind : SpentKind) (text : List ℕ) (go : Run → Out) (r : Run) →
+pub may_print : (P : Out → Type 0) (kind : SpentKind) (text : Text) (go : Run → Out) (r : Run) →
     used kind (text_printed text r) ≤ of_kind kind READ_LIMIT PIECE_LIMIT → P (go (text_printed text r)) →
     (Another kind spent.Text → P (halts (halt.Spent spent.Text) r)) → P (printing text go r)
 may_print P kind text go r h k spends =

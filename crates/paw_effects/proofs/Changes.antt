@@ -10,6 +10,7 @@ use Rattle.std.proofs.lemmas.Option.{slice_get_within, get_or_from_slice_get, sa
 use Rattle.std.proofs.lemmas.Bool.Decides.{nat_tests}
 use Rattle.std.proofs.lemmas.List.{length-map, length-append, length-take, length-drop, length-set, get_or_past}
 use Rattle.std.proofs.lemmas.List.Elements.{All-take, All-drop, All-append, All-set}
+use Rattle.paw_base.specs.Bytes.{RoutineAnswers, Seed}
 use Rattle.paw_base.specs.declared.words.TheConstants.{NO_WORD}
 use Rattle.paw_base.specs.declared.places.TheConstants.{WORN_PLACE, CARRIED_PLACE, NOT_CREATED_PLACE, HERE_PLACE}
 use Rattle.paw_base.specs.declared.flags.TheConstants.{REFERRED_FLAG, REFERRED_PLACE_FLAG, REFERRED_WEIGHT_FLAG}
@@ -59,7 +60,7 @@ use Rattle.paw_effects.proofs.Worlds.{world_of, later, flag_small}
 use Rattle.paw_effects.proofs.Worlds.{flagged, place_of, place_is_small, here_place, named, moved_so, weight_small}
 use Rattle.paw_effects.proofs.Worlds.{returned_so}
 
-module _ (g : GameLists) (v : Valid g) (seed n : ℕ) where
+module _ (g : GameLists) (v : Valid g) (seed : Seed) (n : ℕ) where
   abbrev pub Is : World → Type 0
   Is w = IsWorldAt g seed n w
 
@@ -366,10 +367,10 @@ module _ (g : GameLists) (v : Valid g) (seed n : ℕ) where
   -- A condition, and an action of this code, leave a world of the game; they may make a draw.
   abbrev pub SoBy : ℕ → Meaning → Type 0
   SoBy code (Tests tested) = (w : World) (c : Condact) → Is w → IsNext (tested g w c).world
-  SoBy code (Acts done) = (X : List (List ℕ)) (w : World) (c : Condact) → c.code ≡ code → All AreBytes X → Is w → is_right g c ≡ true →
+  SoBy code (Acts done) = (X : RoutineAnswers) (w : World) (c : Condact) → c.code ≡ code → All AreBytes X → Is w → is_right g c ≡ true →
       c.a < 256 → c.b < 256 → IsNext (done (story_of g X) w c).world
 
-  pub done_so : (m : Meaning) (X : List (List ℕ)) (w : World) (c : Condact) → SoBy c.code m → All AreBytes X → Is w → is_right g c ≡ true →
+  pub done_so : (m : Meaning) (X : RoutineAnswers) (w : World) (c : Condact) → SoBy c.code m → All AreBytes X → Is w → is_right g c ≡ true →
       c.a < 256 → c.b < 256 → IsNext (done_by m (story_of g X) w c).world
   done_so (Tests tested) X w c h bytes k kept a b = next w k
   done_so (Acts done) X w c h bytes k kept a b = h X w c refl bytes k kept a b

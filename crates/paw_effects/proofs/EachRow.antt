@@ -3,6 +3,7 @@ use Rattle.std.proofs.Common.{◌≡◌, ◌≢◌, ℕ, suc, ◌+◌, ◌<◌, 
 use Rattle.std.proofs.Common.{All, IsTrue, arith}
 use Rattle.std.proofs.Math.Nat.{min-le_left}
 use Rattle.std.specs.Prelude.{not}
+use Rattle.paw_base.specs.Bytes.{RoutineAnswers, Seed}
 use Rattle.paw_base.specs.declared.codes.TheConstants.{QUIT, SAVE, PLACE, PUTO}
 use Rattle.paw_base.specs.declared.flags.TheConstants.{VERB_FLAG, REFERRED_FLAG, LOCATION_FLAG}
 use Rattle.paw_base.specs.declared.parts.Condact.{Condact}
@@ -65,7 +66,7 @@ use Rattle.paw_effects.proofs.Saving.{ramloaded_kept, loaded_kept, answered_kept
 record Facts (code : ℕ) (m : Meaning) : Type 0 where
   leads : LeadsOn code m
   places : PlacesBy code m
-  stays : (g : GameLists) (v : Valid g) (seed n : ℕ) → SoBy g v seed n code m
+  stays : (g : GameLists) (v : Valid g) (seed : Seed) (n : ℕ) → SoBy g v seed n code m
   keeps : (ks : List (Option Position)) → KeepsBy ks code m
 
 -- ---- kinds of rows ----
@@ -105,7 +106,7 @@ printed code text = still code _ _ (λ s w c is. tt)
 
 -- An action that gives a flag a byte.
 set : (code : ℕ) (f x : World → Condact → ℕ)
-    → ((g : GameLists) (v : Valid g) (seed n : ℕ) (w : World) (c : Condact) → Is g v seed n w → c.a < 256 → c.b < 256 → x w c < 256)
+    → ((g : GameLists) (v : Valid g) (seed : Seed) (n : ℕ) (w : World) (c : Condact) → Is g v seed n w → c.a < 256 → c.b < 256 → x w c < 256)
     → Facts code (changing (λ w c. with_flag w (f w c) (x w c)))
 set code f x small = record {
   leads = λ s w c is. tt;
@@ -127,7 +128,7 @@ set_two code f h = record {
 moving : (code : ℕ) (o p : World → Condact → ℕ)
     → ((g : GameLists) (w : World) (c : Condact) → c.code ≡ code → Valid g → IsTrue (is_right g c) → IsPlaced g w
     → is_place (length g.locations) (p w c) ≡ true)
-    → ((g : GameLists) (v : Valid g) (seed n : ℕ) (w : World) (c : Condact) → c.code ≡ code → Is g v seed n w → is_right g c ≡ true
+    → ((g : GameLists) (v : Valid g) (seed : Seed) (n : ℕ) (w : World) (c : Condact) → c.code ≡ code → Is g v seed n w → is_right g c ≡ true
     → IsPlace g v seed (p w c))
     → Facts code (changing (λ w c. object_moved w (o w c) (p w c)))
 moving code o p at stands = record {
@@ -139,7 +140,7 @@ moving code o p at stands = record {
 
 -- An action on the object that it names.
 on_object : (code : ℕ) (a : Condact → Action) → ((g : GameLists) (c : Condact) → c.code ≡ code → IsTrue (is_right g c) → Goes g (a c))
-    → ((g : GameLists) (v : Valid g) (seed n : ℕ) (c : Condact) → c.code ≡ code → is_right g c ≡ true → Puts g v seed n (a c))
+    → ((g : GameLists) (v : Valid g) (seed : Seed) (n : ℕ) (c : Condact) → c.code ≡ code → is_right g c ≡ true → Puts g v seed n (a c))
     → Facts code (doing (λ g w c. acted_on g w c.a (a c)))
 on_object code a goes puts = record {
   leads = λ s w c is. acted_leads s.game w c c.a (a c);
@@ -150,7 +151,7 @@ on_object code a goes puts = record {
 
 -- An action on the object that the sentence names.
 by_name : (code : ℕ) (a : Condact → Action) → ((g : GameLists) (c : Condact) → c.code ≡ code → IsTrue (is_right g c) → Goes g (a c))
-    → ((g : GameLists) (v : Valid g) (seed n : ℕ) (c : Condact) → c.code ≡ code → is_right g c ≡ true → Puts g v seed n (a c))
+    → ((g : GameLists) (v : Valid g) (seed : Seed) (n : ℕ) (c : Condact) → c.code ≡ code → is_right g c ≡ true → Puts g v seed n (a c))
     → Facts code (doing (λ g w c. acted_by_name g w (a c)))
 by_name code a goes puts = record {
   leads = λ s w c is. named_leads s.game w c (a c);
@@ -386,8 +387,8 @@ module _ (w : World) (c : Condact) where
   unfolding plain_holds
   plain_test_kept ks g = tested_kept ks (meaning_of c.code) g w c ((facts c.code).keeps ks)
 
-  module _ (g : GameLists) (v : Valid g) (seed n : ℕ) (k : Is g v seed n w) where
-    plain_so : (X : List (List ℕ)) → All AreBytes X → is_right g c ≡ true → IsNext g v seed n (plain_effect (story_of g X) w c).world
+  module _ (g : GameLists) (v : Valid g) (seed : Seed) (n : ℕ) (k : Is g v seed n w) where
+    plain_so : (X : RoutineAnswers) → All AreBytes X → is_right g c ≡ true → IsNext g v seed n (plain_effect (story_of g X) w c).world
     unfolding plain_effect
     plain_so X bytes kept =
         done_so g v seed n (meaning_of c.code) X w c ((facts c.code).stays g v seed n) bytes k kept
@@ -446,8 +447,8 @@ condition_kept ks g w c k =
     (λ d is. plain_test_kept w d ks g k) k
 
 -- The world stays one of the game that is played.
-module _ (g : GameLists) (v : Valid g) (seed n : ℕ) where
-  pub effect_so : (X : List (List ℕ)) (w : World) (c : Condact) → All AreBytes X → Is g v seed n w → is_condact g c ≡ true
+module _ (g : GameLists) (v : Valid g) (seed : Seed) (n : ℕ) where
+  pub effect_so : (X : RoutineAnswers) (w : World) (c : Condact) → All AreBytes X → Is g v seed n w → is_condact g c ≡ true
       → IsNext g v seed n (effect_of (story_of g X) w c).world
   unfolding effect_of
   effect_so X w c bytes k kept =

@@ -9,6 +9,7 @@ use Rattle.std.proofs.lemmas.List.{drop_all}
 use Rattle.std.proofs.lemmas.List.FromFn.{length-range_with_len, get_or-range_with_len}
 use Rattle.std.proofs.lemmas.Bool.{cases_eq}
 use Rattle.std.proofs.lemmas.Bool.Decides.{nat_tests}
+use Rattle.paw_base.specs.Bytes.{ObjectPlaces}
 use Rattle.paw_base.specs.declared.places.TheConstants.{WORN_PLACE, CARRIED_PLACE}
 use Rattle.paw_world.specs.inner.Places.{least_at, left_above}
 use Rattle.paw_world.specs.World.{World}
@@ -64,14 +65,14 @@ held_past w from past =
     let many : length all ≡ length w.places = length-range_with_len 0 (length w.places) in
     ap (filter (is_held w)) (drop_all from all (omega (arith, many)))
 
-later : (places : List ℕ) (p from : ℕ) (found : Option ℕ) → from < length places → get_or places from 0 ≢ p
+later : (places : ObjectPlaces) (p from : ℕ) (found : Option ℕ) → from < length places → get_or places from 0 ≢ p
     → found ≡ least_at places p (length places - from) → found ≡ least_at places p (length places - suc from)
 later places p from found within other is =
     let same : length places - (from + 1) ≡ length places - suc from = omega arith in
     is ∙ (least_at_pass places p from within other ∙ ap (least_at places p) same)
 
 -- Nothing is found before the number from which one looks.
-not_before : (places : List ℕ) (p from : ℕ) (found : Option ℕ) → from ≤ length places → found ≡ least_at places p (length places - from)
+not_before : (places : ObjectPlaces) (p from : ℕ) (found : Option ℕ) → from ≤ length places → found ≡ least_at places p (length places - from)
     → IfSome found (λ o. from ≤ o)
 not_before places p from None low is = tt
 not_before places p from (Some o) low is =
@@ -130,7 +131,7 @@ found_goes_on : (w : World) (from : ℕ) (found : Option ℕ) → Found w from f
 found_goes_on w from _ (nothing e) = tt
 found_goes_on w from _ (object o e) = e
 
-left_on : (places : List ℕ) (above : Option ℕ) → left_above places above ≡ length places - first_above above
+left_on : (places : ObjectPlaces) (above : Option ℕ) → left_above places above ≡ length places - first_above above
 left_on places None = omega arith
 left_on places (Some o) = refl
 

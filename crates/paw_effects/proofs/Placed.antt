@@ -9,6 +9,7 @@ use Rattle.std.proofs.lemmas.Bool.Decides.{nat_tests}
 use Rattle.std.proofs.lemmas.List.{get_or_past}
 use Rattle.std.proofs.lemmas.List.Elements.{All-set, All-map, All-replicate}
 use Rattle.std.proofs.lemmas.Option.{slice_get-get_or}
+use Rattle.paw_base.specs.Bytes.{ObjectPlaces, Seed}
 use Rattle.paw_base.specs.declared.places.TheConstants.{NOT_CREATED_PLACE, HERE_PLACE, CARRIED_PLACE}
 use Rattle.paw_base.specs.declared.limits.TheConstants.{LOCATION_LIMIT, POSITION_COUNT}
 use Rattle.paw_base.specs.declared.codes.TheConstants.{AUTOP, PUTIN, PLACE, PUTO, DOALL}
@@ -68,7 +69,7 @@ first_place g v =
     let some = leb-true 1 (length g.locations) (first_of_and _ (rows_are_valid LOCATION_LIMIT is_text g.locations) v.locations) in
     grind (arith, nat_tests)
 
-pub at_place : (g : GameLists) → Valid g → (places : List ℕ) (o : ℕ) → ArePlacesOf g places → is_place (length g.locations) (slice_index places o) ≡ true
+pub at_place : (g : GameLists) → Valid g → (places : ObjectPlaces) (o : ℕ) → ArePlacesOf g places → is_place (length g.locations) (slice_index places o) ≡ true
 at_place g v places o all =
     elim (cases_lt o (length places)) [
       | inl low ↦ all o 0 low
@@ -118,7 +119,7 @@ opening_at g v =
 begins_placed : (g : GameLists) (facts : List ObjectFacts) → Valid g → facts ≡ map (λ o. o.facts) g.objects → ArePlacesOf g (opening_places facts)
 begins_placed g facts v is = subst (λ fs. ArePlacesOf g (opening_places fs)) (sym is) (opening_at g v)
 
-pub opened_placed : (g : GameLists) (seed : ℕ) → Valid g → IsPlaced g (starting_world (map (λ o. o.facts) g.objects) (length g.locations) seed)
+pub opened_placed : (g : GameLists) (seed : Seed) → Valid g → IsPlaced g (starting_world (map (λ o. o.facts) g.objects) (length g.locations) seed)
 opened_placed g seed v = (refl, (refl, (opening_at g v, (tt, All-replicate (StandsIn g) POSITION_COUNT None tt))))
 
 pub restarted_placed : (g : GameLists) (w : World) → Valid g → IsPlaced g w → IsPlaced g (world_restarted w)

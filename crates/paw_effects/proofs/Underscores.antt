@@ -4,6 +4,7 @@ use Rattle.std.proofs.Common.{ap, arith}
 use Rattle.std.proofs.lemmas.Bool.{false_from_ne_true, or_parts}
 use Rattle.std.specs.List.{list_any}
 use Rattle.memchr.specs.Find.{Passes, is_byte, Nowhere}
+use Rattle.paw_base.specs.Bytes.{Bytes}
 use Rattle.paw_effects.specs.Texts.{with_name}
 
 -- Whether an underscore stands in a text.
@@ -11,14 +12,14 @@ abbrev pub stands_in : List ℕ → Bool
 stands_in text = list_any (λ b. b == 95) text
 
 -- Where none stands the text stays as it is.
-pub kept_without : (name text : List ℕ) → stands_in text ≡ false → with_name name text ≡ text
+pub kept_without : (name text : Bytes) → stands_in text ≡ false → with_name name text ≡ text
 kept_without name [] none = refl
 kept_without name (b ∷ bs) none =
     let both = or_parts (b == 95) (stands_in bs) none in
     rw both.0 (ap (λ t. b ∷ t) (kept_without name bs both.1))
 
 -- Where no byte is an underscore the text stays as it is.
-pub kept_whole : (name text : List ℕ) → Nowhere (Passes (is_byte 95) text) 0 (length text) → with_name name text ≡ text
+pub kept_whole : (name text : Bytes) → Nowhere (Passes (is_byte 95) text) 0 (length text) → with_name name text ≡ text
 kept_whole name [] none = refl
 kept_whole name (b ∷ bs) none =
     let later : Nowhere (Passes (is_byte 95) bs) 0 (length bs) = λ k _ lt. none (suc k) (omega arith) (omega (arith, lt)) in
@@ -26,7 +27,7 @@ kept_whole name (b ∷ bs) none =
     rw differs (ap (λ t. b ∷ t) (kept_whole name bs later))
 
 -- Where the first underscore stands at place n the text before it stays, and the name comes in its place.
-pub replaced_at : (name text : List ℕ) (n : ℕ) → n < length text → Nowhere (Passes (is_byte 95) text) 0 n → Passes (is_byte 95) text n →
+pub replaced_at : (name text : Bytes) (n : ℕ) → n < length text → Nowhere (Passes (is_byte 95) text) 0 n → Passes (is_byte 95) text n →
     with_name name text ≡ (take n text ++ name) ++ with_name name (drop (suc n) text)
 replaced_at name [] n within _ _ = absurd (omega (arith, within))
 replaced_at name (b ∷ bs) zero within none at = rw at refl

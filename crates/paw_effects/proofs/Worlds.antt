@@ -12,6 +12,7 @@ use Rattle.std.proofs.lemmas.List.{length-set, length-map, get_or_past}
 use Rattle.std.proofs.lemmas.List.Elements.{All-set, All-replicate}
 use Rattle.std.proofs.lemmas.List.Sums.{count_by-le-length}
 use Rattle.std.proofs.lemmas.Option.{slice_get-map}
+use Rattle.paw_base.specs.Bytes.{Seed}
 use Rattle.paw_base.specs.declared.words.TheConstants.{LEAST_WORD, GREATEST_WORD, NO_WORD, ADVERB_CLASS, NOUN_CLASS}
 use Rattle.paw_base.specs.declared.words.TheConstants.{ADJECTIVE_CLASS, PREPOSITION_CLASS}
 use Rattle.paw_base.specs.declared.places.TheConstants.{NOT_CREATED_PLACE, CARRIED_PLACE, HERE_PLACE}
@@ -43,7 +44,7 @@ use Rattle.paw_effects.specs.Standing.{AreBytes}
 use Rattle.paw_effects.specs.inner.Standing.{MayBePosition, IsWorldOf}
 
 -- A world of the game with this seed, and at most n words drawn.
-pub record IsWorldAt (g : GameLists) (seed n : ℕ) (w : World) : Type 0 where
+pub record IsWorldAt (g : GameLists) (seed : Seed) (n : ℕ) (w : World) : Type 0 where
   pub of : IsOf g w
   pub places : ArePlacesOf g w.places
   pub flags : AreBytes w.flags
@@ -53,11 +54,11 @@ pub record IsWorldAt (g : GameLists) (seed n : ℕ) (w : World) : Type 0 where
   pub seeded : w.seed ≡ seed
   pub draws : w.draws ≤ n
 
-pub world_at : (g : GameLists) (seed n : ℕ) (w : World) → IsWorldOf g w → w.seed ≡ seed → w.draws ≤ n → IsWorldAt g seed n w
+pub world_at : (g : GameLists) (seed : Seed) (n : ℕ) (w : World) → IsWorldOf g w → w.seed ≡ seed → w.draws ≤ n → IsWorldAt g seed n w
 world_at g seed n w k seeded draws =
     record { of = k.of; places = k.places; flags = k.flags; saved = k.saved; four = k.four; kept = k.kept; seeded = seeded; draws = draws }
 
-pub world_is : (g : GameLists) (seed n : ℕ) (w : World) → IsWorldAt g seed n w → IsWorldOf g w
+pub world_is : (g : GameLists) (seed : Seed) (n : ℕ) (w : World) → IsWorldAt g seed n w → IsWorldOf g w
 world_is g seed n w k = record { of = k.of; flags = k.flags; places = k.places; saved = k.saved; four = k.four; kept = k.kept }
 
 -- ---- bytes ----
@@ -167,7 +168,7 @@ facts_small g v o f e =
 facts_same : (os : List ObjectRow) (o : ℕ) → slice_get (map (λ (r : ObjectRow). r.facts) os) o ≡ option_map (λ (r : ObjectRow). r.facts) (slice_get os o)
 facts_same os o = slice_get-map (λ (r : ObjectRow). r.facts) os o
 
-module _ (g : GameLists) (v : Valid g) (seed : ℕ) where
+module _ (g : GameLists) (v : Valid g) (seed : Seed) where
   abbrev pub IsPlace : ℕ → Type 0
   IsPlace p = IsTrue (is_place (length g.locations) p)
 

@@ -3,6 +3,7 @@ use Rattle.std.proofs.Common.{◌≡◌, ◌≢◌, ℕ, ◌+◌, ◌≤◌, Lis
 use Rattle.std.proofs.Common.{inr}
 use Rattle.std.specs.Prelude.{IfSome}
 use Rattle.std.proofs.lemmas.List.{append-nil}
+use Rattle.paw_base.specs.Bytes.{Text, Name}
 use Rattle.paw_effects.specs.Story.{Story}
 use Rattle.paw_game.specs.Valid.{Valid}
 use Rattle.paw_stage.specs.Disk.{MayLeave, stable}
@@ -35,7 +36,7 @@ use Rattle.paw_play.proofs.Parts.{then_attached}
 use Rattle.paw_journal.proofs.Serving.{serves_among}
 use Rattle.paw_play.proofs.Showing.{state_kept}
 
-module _ (g : Story) (digests : Digests) (name : List ℕ) (st : State) (piece : List ℕ) (old : Standing) (valid : Valid g.game)
+module _ (g : Story) (digests : Digests) (name : Name) (st : State) (piece : Text) (old : Standing) (valid : Valid g.game)
     (shows : ShowsState g.game digests (store_bytes old name) st piece) where
   -- The store is attached, and nothing was asked or shown.
   at_attached : (m : Standing) → m.asked ≡ old.asked → m.shown ≡ old.shown → m.attached ≡ Some name →
@@ -77,7 +78,7 @@ module _ (g : Story) (digests : Digests) (name : List ℕ) (st : State) (piece :
   in_taking_up m i = playing_from (from_state g st piece digests name) old m i
 
 -- While the session is found, where stages say what stands.
-pub found_again : {S : Type 0} (s : Ghosts S) (first mid last : S) (g : Story) (digests : Digests) (name : List ℕ) (st : State) (piece : List ℕ) →
+pub found_again : {S : Type 0} (s : Ghosts S) (first mid last : S) (g : Story) (digests : Digests) (name : Name) (st : State) (piece : Text) →
     Valid g.game → ShowsState g.game digests (store_bytes (s.standing first) name) st piece →
     s.standing mid ≡ attached_to (s.standing first) name → EachMoment s mid last (Still (s.standing mid)) →
     EachMoment s mid last (InPlay (from_state g st piece digests name) (s.standing first))
@@ -89,7 +90,7 @@ found_again s first mid last g digests name st piece valid shows is h =
 pub taken_up_again : {S : Type 0} (s : Ghosts S) →
     ((x : S) (m : Standing) → s.Tells x → s.since x (s.clock x) m → m ≡ s.standing x) →
     ((x : S) (t : ℕ) → s.Tells x → t ≤ s.clock x → s.since x t (s.standing x)) →
-    (first mid last : S) (g : Story) (digests : Digests) (name : List ℕ) (st : State) (piece : List ℕ) →
+    (first mid last : S) (g : Story) (digests : Digests) (name : Name) (st : State) (piece : Text) →
     Valid g.game → ShowsState g.game digests (store_bytes (s.standing first) name) st piece → s.Tells mid →
     s.standing mid ≡ attached_to (s.standing first) name →
     EachMoment s first mid (InAttach (s.standing first) (s.standing mid) name) →
@@ -101,7 +102,7 @@ taken_up_again s only counts first mid last g digests name st piece valid shows 
 
 -- ---- where there is no session ----
 
-module _ (g : Story) (name : List ℕ) (old new : Standing) where
+module _ (g : Story) (name : Name) (old new : Standing) where
   pub refused_again : (r : JournalRefusal) →
       IsSessionRefused (recover (store_bytes old name)) (story_digests g).game (story_digests g).routines r →
       IfSome (outside r) (IsOneOf (call.Read ∷ [])) →

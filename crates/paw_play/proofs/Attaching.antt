@@ -1,6 +1,7 @@
 -- The attach of a session's store.
 use Rattle.std.proofs.Common.{◌≡◌, ◌≢◌, ℕ, List, [], ◌∷◌, Option, Some, None, Ok, refl, sym, ap, ◌∙◌, subst, length}
 use Rattle.std.proofs.Common.{inl, inr}
+use Rattle.paw_base.specs.Bytes.{Bytes, Name}
 use Rattle.paw_stage.specs.Disk.{MayLeave, stable}
 use Rattle.paw_stage.specs.Stage.{Standing, Files, bytes_or_none, made_if_missing, AttachesTo}
 use Rattle.paw_stage.proofs.Names.{holds_same, holds_other}
@@ -11,17 +12,17 @@ use Rattle.paw_play.specs.Keeping.{InPlay, InMaking, InNewSession}
 use Rattle.paw_play.specs.Play.{attached_to, store_bytes}
 use Rattle.paw_play.specs.inner.OnTheWay.{IsRestingStore}
 
-no_bytes : (bytes : List ℕ) → length bytes ≡ 0 → bytes ≡ []
+no_bytes : (bytes : Bytes) → length bytes ≡ 0 → bytes ≡ []
 no_bytes [] h = refl
 no_bytes (b ∷ bytes) h = cc
 
 -- ---- files ----
 
-there_by : (name : List ℕ) (files : Files) (file : Option (List ℕ)) → files name ≡ file → made_if_missing name file files name ≡ Some (bytes_or_none file)
+there_by : (name : Name) (files : Files) (file : Option (List ℕ)) → files name ≡ file → made_if_missing name file files name ≡ Some (bytes_or_none file)
 there_by name files None e = holds_same name (Some []) files
 there_by name files (Some bytes) e = e
 
-is_there : (name : List ℕ) (files : Files) → made_if_missing name (files name) files name ≡ Some (bytes_or_none (files name))
+is_there : (name : Name) (files : Files) → made_if_missing name (files name) files name ≡ Some (bytes_or_none (files name))
 is_there name files = there_by name files (files name) refl
 
 other_by : (name n : List ℕ) (files : Files) (file : Option (List ℕ)) → n ≢ name → made_if_missing name file files n ≡ files n
@@ -34,14 +35,14 @@ other_file old name n ne = other_by name n old.files (old.files name) ne
 
 -- ---- the store ----
 
-pub store_attached : (old : Standing) (name : List ℕ) → IsRestingStore name (attached_to old name)
+pub store_attached : (old : Standing) (name : Name) → IsRestingStore name (attached_to old name)
 store_attached old name = record { attached = refl; stable = stable_is (store_bytes old name); file = is_there name old.files }
 
-pub store_empty : (old new : Standing) (name : List ℕ) (n : ℕ) → AttachesTo old new name (Ok n) → n ≡ 0 → store_bytes old name ≡ []
+pub store_empty : (old new : Standing) (name : Name) (n : ℕ) → AttachesTo old new name (Ok n) → n ≡ 0 → store_bytes old name ≡ []
 store_empty old new name n a e = no_bytes (store_bytes old name) (sym a.0 ∙ e)
 
 -- No bytes are no session.
-none_unmade : (image : List ℕ) → image ≡ [] → IsUnmade (recover image)
+none_unmade : (image : Bytes) → image ≡ [] → IsUnmade (recover image)
 unfolding recover recover_by
 none_unmade image e = rw e tt
 

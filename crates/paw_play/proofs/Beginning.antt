@@ -2,6 +2,7 @@
 use Rattle.std.proofs.Common.{◌≡◌, ◌≢◌, ℕ, ◌+◌, List, [], ◌++◌, Option, Some, None, refl, sym, ap, ◌∙◌, subst, take}
 use Rattle.std.proofs.Common.{drop, length, arith, inl, inr, ◌⊎◌}
 use Rattle.std.proofs.lemmas.List.{take-append-drop}
+use Rattle.paw_base.specs.Bytes.{Text, Name, Seed}
 use Rattle.paw_base.specs.declared.limits.TheConstants.{EVENT_LIMIT}
 use Rattle.paw_stage.specs.Disk.{IsStable}
 use Rattle.paw_stage.specs.Stage.{Standing}
@@ -63,7 +64,7 @@ pub record Begun {F : Type 0} (g : Story) (s : PlayedSession) (first kept : Stan
   pub shows : IsStanding found
   pub beside : ChangesStoreOnly first kept
 
-pub begun : {F : Type 0} (g : Story) (seed : ℕ) (digests : Digests) (name : List ℕ) (first kept : Standing) (next : PlayerView F) (found : Step) →
+pub begun : {F : Type 0} (g : Story) (seed : Seed) (digests : Digests) (name : Name) (first kept : Standing) (next : PlayerView F) (found : Step) →
     IsRestingStore name first → IsSeated next → next.last ≡ found → StepsTo g (reading g seed) found next [] [] → None ≡ end_if_no_piece found →
     ChangesStoreOnly first kept → Begun g (begun_with g seed digests name) first kept next found
 begun g seed digests name first kept next found store seated last plays fine beside = assumption (shows_piece found fine)
@@ -150,13 +151,13 @@ module _ {F : Type 0} {g : Story} {s : PlayedSession} {first kept : Standing} {n
       );
     })
 
-    rests_then : (new : Standing) (text : List ℕ) → new ≡ record kept { shown = text } → RestsWith s first new 0
+    rests_then : (new : Standing) (text : Text) → new ≡ record kept { shown = text } → RestsWith s first new 0
     rests_then new text e = rests_on s first kept new 0 kept.lines kept.asked text e rests
 
-    store_is : (new : Standing) (text : List ℕ) → new ≡ record kept { shown = text } → kept ≡ with_store new first
+    store_is : (new : Standing) (text : Text) → new ≡ record kept { shown = text } → kept ≡ with_store new first
     store_is new text e = beside_is first kept b.beside ∙ ap (λ (q : Standing). with_store q first) (sym e)
 
-    asked_is : (new : Standing) (text : List ℕ) → new ≡ record kept { shown = text } → new.asked ≡ first.asked + 0
+    asked_is : (new : Standing) (text : Text) → new ≡ record kept { shown = text } → new.asked ≡ first.asked + 0
     asked_is new text e = ap (λ (q : Standing). q.asked) e ∙ b.beside.asked ∙ omega arith
 
     -- The session is at its first prompt, or playing it has ended.

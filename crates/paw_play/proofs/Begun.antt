@@ -1,5 +1,6 @@
 -- Making a new session is part of playing it.
 use Rattle.std.proofs.Common.{◌≡◌, ◌∙◌, ℕ, List, refl, sym, ap, subst, inl, inr}
+use Rattle.paw_base.specs.Bytes.{Name, RoutineAnswers, Seed}
 use Rattle.paw_effects.specs.Story.{Story, story_of}
 use Rattle.paw_game.specs.Game.{GameLists}
 use Rattle.paw_world.specs.World.{World}
@@ -25,11 +26,11 @@ begun_plays s first now (end.Outside call.Sync) b = unmade call.Sync (inr (inl r
 begun_plays s first now o b = plays o b
 
 -- A new player has a seed of its own.
-pub own_seed : {F : Type 0} (fresh : PlayerView F) (seed : ℕ) → IsNew fresh seed → IsNew fresh fresh.world.seed
+pub own_seed : {F : Type 0} (fresh : PlayerView F) (seed : Seed) → IsNew fresh seed → IsNew fresh fresh.world.seed
 own_seed fresh seed is = subst (IsNew fresh) (sym (ap (λ (w : World). w.seed) is.world)) is
 
 -- A session that a new player plays, by what was found of its routines.
-pub session_of : {F : Type 0} (fresh : PlayerView F) (g : GameLists) (X : List (List ℕ)) (seed : ℕ) (game rules measured name : List ℕ) →
+pub session_of : {F : Type 0} (fresh : PlayerView F) (g : GameLists) (X : RoutineAnswers) (seed : Seed) (game rules measured name : List ℕ) →
     IsNew fresh seed → fresh.game ≡ g → rules ≡ measured →
     begun_with (story_of fresh.game X) fresh.world.seed (digests_of game rules) name ≡ begun_with (story_of g X) seed (digests_of game measured) name
 session_of fresh g X seed game rules measured name is of same =
@@ -38,6 +39,6 @@ session_of fresh g X seed game rules measured name is of same =
     ∙ ap (λ r. begun_with (story_of g X) seed (digests_of game r) name) same
 
 -- It is the session of the story, where its digests are those of the story.
-pub own_session : (g : Story) (seed : ℕ) (digests : Digests) (name : List ℕ) → digests ≡ story_digests g →
+pub own_session : (g : Story) (seed : Seed) (digests : Digests) (name : Name) → digests ≡ story_digests g →
     begun_with g seed digests name ≡ session_begun g seed name
 own_session g seed digests name same = ap (λ d. begun_with g seed d name) same

@@ -1,6 +1,7 @@
 -- What holds over calls that follow each other.
-use Rattle.std.proofs.Common.{◌≡◌, ℕ, ◌+◌, ◌++◌, List, Option, Some, None, sym, subst, inl, inr}
+use Rattle.std.proofs.Common.{◌≡◌, ℕ, ◌+◌, ◌++◌, Option, Some, None, sym, subst, inl, inr}
 use Rattle.std.specs.Prelude.{IfSome, IfOk, IfErr}
+use Rattle.paw_base.specs.Bytes.{Text}
 use Rattle.paw_stage.specs.Stage.{Standing}
 use Rattle.paw_stage.specs.declared.StageCall.{StageCall}
 use Rattle.paw_stage.specs.declared.Stage.{Ghosts}
@@ -27,7 +28,7 @@ keeps_asked journal room now mid k e =
     (record { rests = record { attached = k.rests.attached; stable = k.rests.stable }; chosen = k.chosen; shown = k.shown; slots = k.slots })
 
 -- Nor does a text that was shown.
-pub keeps_shown : (journal : Journal) (room : Room) (now new : Standing) (text : List ℕ) → KeptIn journal room now →
+pub keeps_shown : (journal : Journal) (room : Room) (now new : Standing) (text : Text) → KeptIn journal room now →
     new ≡ record now { shown = text } → KeptIn journal room new
 keeps_shown journal room now new text k e =
     subst (λ q. KeptIn journal room q) (sym e)
@@ -59,7 +60,7 @@ serves_unless g None a old new s = serves_among g walk_calls play_calls None old
 serves_unless g (Some o) a old new s = serves_among g walk_calls play_calls (call_of_end o) old new walk_plays s
 
 -- The store keeps what it did while the piece was shown.
-pub holds_unless : (tells : Type 0) (events : ℕ) (room : Room) (kept new : Standing) (piece : List ℕ) (step : Step) (o : Option PlayEnd) (session : Session) →
+pub holds_unless : (tells : Type 0) (events : ℕ) (room : Room) (kept new : Standing) (piece : Text) (step : Step) (o : Option PlayEnd) (session : Session) →
     session.events ≡ events → (tells → KeptIn session.journal room kept) → (tells → ShowsStep kept new piece step o) →
     IfOk (unless_ended o session) (HoldsSession tells events room new)
 holds_unless tells events room kept new piece step None session e k told =

@@ -2,6 +2,7 @@
 use Rattle.std.proofs.Common.{◌≡◌, ℕ, zero, suc, ◌+◌, ◌<◌, ◌≤◌, List, [], ◌∷◌, ◌++◌, refl, sym, ap, ◌∙◌, length, drop}
 use Rattle.std.proofs.Common.{append-nil, arith}
 use Rattle.std.specs.List.{concat}
+use Rattle.paw_base.specs.Bytes.{Bytes, Lines, Text, Seed}
 use Rattle.paw_game.specs.Game.{GameLists}
 use Rattle.paw_game.specs.Valid.{Valid}
 use Rattle.paw_effects.specs.Story.{Story}
@@ -106,15 +107,15 @@ whole_kept digests n m lines _ r counted few k = absurd k.played
 abbrev taken_up : Run → List ℕ → List (List ℕ) → Run
 taken_up r piece fs = record r { current = []; read = []; pieces = piece ∷ []; traces = []; events = fs }
 
-goes_from : (g : Story) (n : ℕ) (p : Prompt) (path : List Frame) (r : Run) (piece : List ℕ) (fs : List (List ℕ)) →
+goes_from : (g : Story) (n : ℕ) (p : Prompt) (path : List Frame) (r : Run) (piece : Text) (fs : Lines) →
     going_on g (state_at n p path r) piece fs ≡ going_on_from g p path (taken_up r piece fs)
 goes_from g n p path r piece fs = ap (λ (q : List Frame). going_on_from g p q (taken_up r piece fs)) (path_again path r.turning)
 
-taken_past : (r : Run) (piece : List ℕ) (fs : List (List ℕ)) → r.current ≡ [] → r.read ≡ [] → r.events ≡ [] →
+taken_past : (r : Run) (piece : Text) (fs : Lines) → r.current ≡ [] → r.read ≡ [] → r.events ≡ [] →
     taken_up r piece fs ≡ with_past (piece ∷ []) [] (with_lines fs (without_past r))
 taken_past r piece fs current read events = rw (current, read, events) refl
 
-all_pieces : (n : ℕ) (ps : List (List ℕ)) (es : List (List ℕ)) → length ps + length es ≡ suc n → es ≡ [] → length ps ≡ suc n
+all_pieces : (n : ℕ) (ps : List (List ℕ)) (es : Lines) → length ps + length es ≡ suc n → es ≡ [] → length ps ≡ suc n
 all_pieces n ps es count none = let c : length ps + length es ≡ suc n = count in omega (arith, rw none at c)
 
 -- What was read in the closed pieces.
@@ -123,7 +124,7 @@ traces_of (WaitsAt p path r) = r.traces
 traces_of (Halted halt r) = r.traces
 traces_of Unended = []
 
-module _ (g : Story) (seed : ℕ) (es fs : List (List ℕ)) where
+module _ (g : Story) (seed : Seed) (es fs : Lines) where
   -- A reading that ended in this way ends with more lines as going on from its state and last piece does.
   abbrev pub GoesOnFrom : Ending → State → List ℕ → Type 0
   GoesOnFrom e st piece =
@@ -157,7 +158,7 @@ module _ (g : Story) (seed : ℕ) (es fs : List (List ℕ)) where
 
   ended_goes : (e : Ending) → reading g seed es ≡ e → IsSettled g.game (length es) e → Counted (length es) e →
       (digests other : Digests) (r : Recovered) (kept : IsKept digests (length es) e r)
-      → (st : State) (piece : List ℕ) → Valid g.game → IsValidState g.game st → FitsFields st → r ≡ Shown other (kept_bytes st) piece
+      → (st : State) (piece : Text) → Valid g.game → IsValidState g.game st → FitsFields st → r ≡ Shown other (kept_bytes st) piece
       → (st.events ≡ length es) × GoesOnFrom e st piece
   unfolding kept_bytes
   ended_goes (WaitsAt p path s) is k counted digests other r kept st piece v keeps fits shown =
@@ -176,7 +177,7 @@ module _ (g : Story) (seed : ℕ) (es fs : List (List ℕ)) where
   ended_goes _ is k counted digests other r kept st piece v keeps fits shown = absurd kept.played
 
   -- Going on from the state that a store shows is reading the longer list.
-  pub goes_on : IsSettled g.game (length es) (reading g seed es) → (bytes : List ℕ) (digests : Digests) (st : State) (piece : List ℕ) → Valid g.game
+  pub goes_on : IsSettled g.game (length es) (reading g seed es) → (bytes : Bytes) (digests : Digests) (st : State) (piece : Text) → Valid g.game
       → Stands g seed es bytes → ShowsState g.game digests bytes st piece →
       (st.events ≡ length es) × (going_on g st piece fs ≡ reading_since g seed es fs)
   goes_on settled bytes digests st piece v stands shows =

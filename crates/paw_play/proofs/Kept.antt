@@ -1,6 +1,7 @@
 -- What a session keeps of a player.
 use Rattle.std.proofs.Common.{◌≡◌, ℕ, ◌+◌, List, [], ◌∷◌, ◌++◌, refl, sym, ap, ◌∙◌, length}
 use Rattle.std.specs.Prelude.{reverse}
+use Rattle.paw_base.specs.Bytes.{Text, Texts}
 use Rattle.paw_effects.specs.declared.act.Prompt.{Prompt}
 use Rattle.paw_effects.specs.declared.act.Prompt.TheVariants as prompt
 use Rattle.paw_reading.specs.Run.{Step as Read}
@@ -28,7 +29,7 @@ use Rattle.paw_effects.specs.Story.{Story}
 abbrev pub KeepsLines : PlayedSession → List (List ℕ) → ℕ → Recovered → Type 0
 KeepsLines s lines n r = IsKept s.digests (s.before + n) (s.whole (first_lines n lines)) r
 
-pub last_more : (pieces : List (List ℕ)) (piece : List ℕ) → last_piece (pieces ++ piece ∷ []) ≡ piece
+pub last_more : (pieces : Texts) (piece : Text) → last_piece (pieces ++ piece ∷ []) ≡ piece
 last_more [] piece = refl
 last_more (p ∷ []) piece = refl
 last_more (p ∷ q ∷ pieces) piece = last_more (q ∷ pieces) piece
@@ -38,7 +39,7 @@ abbrev parts : {F : Type 0} → ℕ → Prompt → PlayerView F → Frames → �
 parts events p next frames n = record { world = next.world; frames = frames; pending = next.pending; prompt = p; events = events; piece = n }
 
 -- What a session shows of them, by the path of the machine and the last piece that was closed.
-shown_at : {F : Type 0} (digests : Digests) (events : ℕ) (p : Prompt) (path : List Frame) (next : PlayerView F) (pieces : List (List ℕ)) →
+shown_at : {F : Type 0} (digests : Digests) (events : ℕ) (p : Prompt) (path : List Frame) (next : PlayerView F) (pieces : Texts) →
     machine_kept next.machine ≡ frames_at path next.machine.turning →
     Shown digests (kept_bytes (parts events p next (machine_kept next.machine) (length next.piece))) next.piece
     ≡ Shown digests (kept_bytes (parts events p next (frames_at path next.machine.turning) (length (last_piece (pieces ++ next.piece ∷ [])))))
@@ -49,14 +50,14 @@ shown_at digests events p path next pieces is =
     (sym (last_more pieces next.piece))
 
 -- Where a player waits, its session keeps the reading.
-waits_kept : {F : Type 0} (digests : Digests) (events : ℕ) (e : Ending) (p : Prompt) (next : PlayerView F) (pieces : List (List ℕ))
+waits_kept : {F : Type 0} (digests : Digests) (events : ℕ) (e : Ending) (p : Prompt) (next : PlayerView F) (pieces : Texts)
     (traces : List (List Read)) → next.last ≡ step.Waits p →
     e ≡ WaitsAt p (reverse next.machine.frames) (run_at next (pieces ++ next.piece ∷ []) traces []) →
     IsKept digests events e (Shown digests (seat_state events next) next.piece)
 waits_kept digests events e p next pieces traces last is =
     rw (is, last) (record { played = tt; shown = shown_at digests events p (reverse next.machine.frames) next pieces refl })
 
-over_kept : {F : Type 0} (digests : Digests) (events : ℕ) (e : Ending) (next : PlayerView F) (pieces : List (List ℕ)) (traces : List (List Read)) →
+over_kept : {F : Type 0} (digests : Digests) (events : ℕ) (e : Ending) (next : PlayerView F) (pieces : Texts) (traces : List (List Read)) →
     next.last ≡ step.Ended → next.machine.frames ≡ [] →
     e ≡ Halted halt.Over (run_at next (pieces ++ next.piece ∷ []) traces []) →
     IsKept digests events e (Shown digests (seat_state events next) next.piece)
@@ -67,7 +68,7 @@ over_kept digests events e next pieces traces last closed is = rw (is, last) (re
 })
 
 -- A line that brings a piece leads to a player whose session keeps the reading.
-pub step_kept : {F : Type 0} (g : Story) (digests : Digests) (events : ℕ) (whole : EndingOf) (s : Step) (next : PlayerView F) (pieces : List (List ℕ))
+pub step_kept : {F : Type 0} (g : Story) (digests : Digests) (events : ℕ) (whole : EndingOf) (s : Step) (next : PlayerView F) (pieces : Texts)
     (traces : List (List Read)) → IsStanding s → next.last ≡ s →
     StandsClosed s next.machine → PlaysTo g whole s next pieces traces → IsKept digests events (whole []) (Shown digests (seat_state events next) next.piece)
 step_kept g digests events whole (step.Waits p) next pieces traces shows last stands plays =

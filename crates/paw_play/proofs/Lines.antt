@@ -6,6 +6,7 @@ use Rattle.std.specs.List.{slice_index_or, list_all}
 use Rattle.std.proofs.lemmas.Bool.{leb-true, cases_lt, lt-ltb}
 use Rattle.std.proofs.lemmas.Fmt.{length-decimal-le}
 use Rattle.std.proofs.lemmas.List.{get_or_past}
+use Rattle.paw_base.specs.Bytes.{Bytes}
 use Rattle.paw_base.specs.declared.codes.TheConstants.{INDIRECT}
 use Rattle.paw_base.specs.Condacts.{CondactLine, is_plain_code, is_indirect, no_line, condact_lines, plain_line}
 use Rattle.paw_base.specs.Condacts.{indirect_line, line_of, name_of}
@@ -18,7 +19,7 @@ use Rattle.paw_reading.specs.Run.{Step}
 use Rattle.paw_play.specs.Traces.{step_address, answer_text, step_line, more_line}
 
 -- What fits is put.
-pub put_whole : (ok : Bool) (old new text : List ℕ) → Puts old new ok text → length old + length text ≤ PIECE_LIMIT
+pub put_whole : (ok : Bool) (old new text : Bytes) → Puts old new ok text → length old + length text ≤ PIECE_LIMIT
     → new ≡ old ++ text
 put_whole true old new text puts fits = puts.0
 put_whole false old new text puts fits = absurd (omega (arith, puts, fits))

@@ -3,6 +3,7 @@ use Rattle.std.proofs.Common.{◌≡◌, ℕ, ◌-◌, Bool, true, false, List, 
 use Rattle.std.proofs.Common.{sym, ap, ◌∙◌, arith}
 use Rattle.std.specs.Prelude.{if◌then◌else◌, nat_le}
 use Rattle.std.proofs.lemmas.List.{length-take-le, take_at}
+use Rattle.paw_base.specs.Bytes.{Bytes}
 use Rattle.paw_game.specs.Game.{GameLists}
 use Rattle.paw_game.specs.Valid.{Valid}
 use Rattle.paw_effects.specs.declared.act.Prompt.TheVariants as prompt
@@ -54,7 +55,7 @@ shown_first s st first is n =
     ap (λ (x : List ℕ). x ++ behind) (ap (take first_length) form ∙ take_at head behind first_length l) ∙ sym form
 
 -- So does a store whose slot in use is of version 1.
-chosen_first : (bytes : List ℕ) (digests : Digests) (state piece : List ℕ) → form_length (slot_version (slot (slot_in_use bytes) bytes)) ≡ first_length
+chosen_first : (bytes : Bytes) (digests : Digests) (state piece : Bytes) → form_length (slot_version (slot (slot_in_use bytes) bytes)) ≡ first_length
     → recover bytes ≡ Shown digests state piece
     → take first_length state ++ zeros (state_length - first_length) ≡ state
 chosen_first bytes digests state piece first e =
@@ -67,7 +68,7 @@ chosen_first bytes digests state piece first e =
 -- ---- the state where a reading ended ----
 
 state_same : (g : GameLists) (v : Valid g) (st : State) → IsValidState g st → FitsFields st → st.world.kept ≡ no_positions
-    → (bytes : List ℕ) (digests : Digests) (state piece : List ℕ) → form_length (slot_version (slot (slot_in_use bytes) bytes)) ≡ first_length
+    → (bytes : Bytes) (digests : Digests) (state piece : Bytes) → form_length (slot_version (slot (slot_in_use bytes) bytes)) ≡ first_length
     → recover bytes ≡ Shown digests state piece
     → take first_length state ≡ take first_length (kept_bytes st) → recover bytes ≡ Shown digests (kept_bytes st) piece
 unfolding kept_bytes
@@ -76,7 +77,7 @@ state_same g v st keeps fits none bytes digests state piece first shown same =
     ∙ (ap (λ (x : List ℕ). x ++ zeros (state_length - first_length)) same ∙ ends_in_zeros st (long_state g st v keeps fits) none) in
     shown ∙ ap (λ (x : List ℕ). Shown digests x piece) is
 
-ending_kept : (g : GameLists) (v : Valid g) (digests : Digests) (n : ℕ) (bytes : List ℕ) (e : Ending) → IsSettled g n e → EndsKeeping no_positions e
+ending_kept : (g : GameLists) (v : Valid g) (digests : Digests) (n : ℕ) (bytes : Bytes) (e : Ending) → IsSettled g n e → EndsKeeping no_positions e
     → KeepsAsOlder digests n e bytes → IsKept digests n e (recover bytes)
 ending_kept g v digests n bytes (WaitsAt p path r) k none old = record {
   played = tt;

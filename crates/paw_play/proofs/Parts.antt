@@ -1,5 +1,6 @@
 -- The moments of a session in two parts: before its store is attached, and from then on.
-use Rattle.std.proofs.Common.{◌≡◌, ◌⊎◌, ℕ, ◌≤◌, List, refl, sym, ◌∙◌, subst, arith, inl, inr}
+use Rattle.std.proofs.Common.{◌≡◌, ◌⊎◌, ℕ, ◌≤◌, refl, sym, ◌∙◌, subst, arith, inl, inr}
+use Rattle.paw_base.specs.Bytes.{Name}
 use Rattle.paw_stage.specs.Stage.{Standing, Unattached, made_if_missing}
 use Rattle.paw_stage.specs.Stage.{InAttach}
 use Rattle.paw_stage.specs.AcrossCalls.{EachMoment, InTwoParts, first_alone, both}
@@ -54,26 +55,26 @@ map_two_parts g old new Before After Later f (both turn low high all k) = both t
 
 -- ---- before the store is attached ----
 
-pub not_yet : (name : List ℕ) (old m : Standing) → m ≡ old → NotYet name old m
+pub not_yet : (name : Name) (old m : Standing) → m ≡ old → NotYet name old m
 not_yet name old m e = subst (NotYet name old) (sym e) (record { asked = refl; shown = refl; files = inl refl; store = inl (refl, refl) })
 
-made_yet : (name : List ℕ) (old m : Standing) →
+made_yet : (name : Name) (old m : Standing) →
     m ≡ record old { files = made_if_missing name (old.files name) old.files } → NotYet name old m
 made_yet name old m e = subst (NotYet name old) (sym e) (record { asked = refl; shown = refl; files = inr refl; store = inl (refl, refl) })
 
 -- Inside the attach, or at its end.
-in_attach : (old new : Standing) (name : List ℕ) (m : Standing) → InAttach old new name m → NotYet name old m ⊎ (m ≡ new)
+in_attach : (old new : Standing) (name : Name) (m : Standing) → InAttach old new name m → NotYet name old m ⊎ (m ≡ new)
 in_attach old new name m (inl e) = inl (not_yet name old m e)
 in_attach old new name m (inr (inl e)) = inl (made_yet name old m e)
 in_attach old new name m (inr (inr e)) = inr e
 
-unattached_yet : (old new : Standing) (name : List ℕ) (m : Standing) → Unattached old new → m ≡ new → NotYet name old m
+unattached_yet : (old new : Standing) (name : Name) (m : Standing) → Unattached old new → m ≡ new → NotYet name old m
 unattached_yet old new name m (inl is) e = not_yet name old m (e ∙ is)
 unattached_yet old new name m (inr is) e =
     subst (NotYet name old) (sym (e ∙ is)) (record { asked = refl; shown = refl; files = inl refl; store = inr refl })
 
 -- Inside an attach that failed.
-in_failed_attach : (old new : Standing) (name : List ℕ) (m : Standing) → Unattached old new → InAttach old new name m → NotYet name old m
+in_failed_attach : (old new : Standing) (name : Name) (m : Standing) → Unattached old new → InAttach old new name m → NotYet name old m
 in_failed_attach old new name m left i = elim (in_attach old new name m i) [
   | inl n ↦ n
   | inr e ↦ unattached_yet old new name m left e
@@ -82,7 +83,7 @@ in_failed_attach old new name m left i = elim (in_attach old new name m i) [
 -- ---- an attach, and what comes after it ----
 
 -- An attach that failed, and nothing more.
-pub attach_failed : {S : Type 0} (g : Ghosts S) (old new : S) (name : List ℕ) (After : Standing → Type 0) →
+pub attach_failed : {S : Type 0} (g : Ghosts S) (old new : S) (name : Name) (After : Standing → Type 0) →
     Unattached (g.standing old) (g.standing new) →
     EachMoment g old new (InAttach (g.standing old) (g.standing new) name) → InTwoParts g old new (NotYet name (g.standing old)) After
 attach_failed g old new name After left h =
@@ -93,7 +94,7 @@ attach_failed g old new name After left h =
 pub then_attached : {S : Type 0} (g : Ghosts S) →
     ((s : S) (m : Standing) → g.Tells s → g.since s (g.clock s) m → m ≡ g.standing s) →
     ((s : S) (t : ℕ) → g.Tells s → t ≤ g.clock s → g.since s t (g.standing s)) →
-    (old mid new : S) (name : List ℕ) (After : Standing → Type 0) → g.Tells mid → After (g.standing mid) →
+    (old mid new : S) (name : Name) (After : Standing → Type 0) → g.Tells mid → After (g.standing mid) →
     EachMoment g old mid (InAttach (g.standing old) (g.standing mid) name) → EachMoment g mid new After →
     InTwoParts g old new (NotYet name (g.standing old)) After
 then_attached g only counts old mid new name After now turned h k =

@@ -5,6 +5,7 @@ use Rattle.std.proofs.Common.{length, take, drop, arith, append_assoc, inl, inr}
 use Rattle.std.proofs.lemmas.List.{append-nil, take-append-drop}
 use Rattle.std.specs.Prelude.{reverse}
 use Rattle.std.specs.List.{concat}
+use Rattle.paw_base.specs.Bytes.{Bytes, Line, Lines, Text}
 use Rattle.paw_base.specs.declared.limits.TheConstants.{EVENT_LIMIT, LINE_LIMIT}
 use Rattle.paw_stage.specs.Disk.{MayLeave, IsStable}
 use Rattle.paw_stage.specs.Stage.{Standing, AsksTo}
@@ -48,12 +49,12 @@ use Rattle.paw_effects.specs.Story.{Story}
 
 -- ---- at a prompt ----
 
-keeps_all : (s : PlayedSession) (lines : List (List ℕ)) (n : ℕ) (text bytes : List ℕ) → AgreesWith s lines n text bytes →
+keeps_all : (s : PlayedSession) (lines : Lines) (n : ℕ) (text bytes : Bytes) → AgreesWith s lines n text bytes →
     IsUpToDateWith s lines n text bytes
 keeps_all s lines zero text bytes h = h
 keeps_all s lines (suc n) text bytes h = inl h
 
-whole_text : (s : PlayedSession) (lines : List (List ℕ)) (n : ℕ) (text : List ℕ) → text_for s.whole lines n ≡ text →
+whole_text : (s : PlayedSession) (lines : Lines) (n : ℕ) (text : Text) → text_for s.whole lines n ≡ text →
     (rest : List ℕ) × (text ++ rest ≡ text_for s.whole lines n)
 whole_text s lines n text e = ([], append-nil text ∙ sym e)
 
@@ -72,7 +73,7 @@ shown_is : {F : Type 0} (g : Story) (s : PlayedSession) (first now : Standing) (
 shown_is g s first now seat n w = ap (λ (q : Standing). q.shown) w.walking.stands
 
 agrees_now : {F : Type 0} (g : Story) (s : PlayedSession) (first now : Standing) (seat : PlayerView F) (n : ℕ)
-    (w : IsPlaying g s first now seat n) → IsSeated seat → (image : List ℕ) → MayLeave now.disk image →
+    (w : IsPlaying g s first now seat n) → IsSeated seat → (image : Bytes) → MayLeave now.disk image →
     AgreesWith s first.lines n (concat w.walking.pieces) image
 agrees_now g s first now seat n w seated image may = (
   subst (λ b. KeepsLines s first.lines n (recover b)) (sym (stable_leaves now.disk image w.rests.stable may)) w.rests.keeps,
@@ -114,7 +115,7 @@ line_asked g s first now seat n left w seated there few = record {
   leaves = λ image may. inr (agrees_now g s first now seat n w seated image may);
 }
 
-is_there : {F : Type 0} (g : Story) (s : PlayedSession) (first now mid : Standing) (seat : PlayerView F) (n : ℕ) (line : List ℕ) →
+is_there : {F : Type 0} (g : Story) (s : PlayedSession) (first now mid : Standing) (seat : PlayerView F) (n : ℕ) (line : Line) →
     IsPlaying g s first now seat n → now.lines ≡ line ∷ mid.lines → suc n ≤ length first.lines
 is_there g s first now mid seat n line w e =
     (drop_more first.lines n line mid.lines (ap (λ (q : Standing). q.lines) (sym w.walking.stands) ∙ e)).1
@@ -122,7 +123,7 @@ is_there g s first now mid seat n line w e =
 -- Inside an ask.
 pub in_ask : {F : Type 0} {g : Story} {s : PlayedSession} {first now : Standing} {seat : PlayerView F} {n : ℕ} (w : IsPlaying g s first now seat n)
     (mid : Standing)
-    (a : Asked) (into : List ℕ) → IsSeated seat → s.before + suc n ≤ EVENT_LIMIT → AsksTo now mid a into → (m : Standing) → InAsk now mid m → InPlay s first m
+    (a : Asked) (into : Bytes) → IsSeated seat → s.before + suc n ≤ EVENT_LIMIT → AsksTo now mid a into → (m : Standing) → InAsk now mid m → InPlay s first m
 in_ask {F} {g} {s} {first} {now} {seat} {n} w mid a into seated few asks m (inl e) =
     subst (InPlay s first) (sym e) (at_prompt g s first now seat n w seated)
 in_ask {F} {g} {s} {first} {now} {seat} {n} w mid (asked.Line k) into seated few asks m (inr e) =
@@ -142,7 +143,7 @@ mid_attached : {F : Type 0} (g : Story) (s : PlayedSession) (first now mid : Sta
 mid_attached g s first now mid seat n w e = ap (λ (q : Standing). q.attached) e ∙ w.rests.attached
 
 -- A line was taken that brought a piece.
-pub record Taken {F : Type 0} (g : Story) (s : PlayedSession) (most n events : ℕ) (first now mid : Standing) (seat next : PlayerView F) (given line : List ℕ)
+pub record Taken {F : Type 0} (g : Story) (s : PlayedSession) (most n events : ℕ) (first now mid : Standing) (seat next : PlayerView F) (given line : Bytes)
     (found : Step) (w : IsPlaying g s first now seat n) : Type 0 where
   pub few : n < most
   pub seated : IsSeated seat
@@ -157,7 +158,7 @@ pub record Taken {F : Type 0} (g : Story) (s : PlayedSession) (most n events : �
   pub counts : events ≡ s.before + suc n
   pub fit : events ≤ EVENT_LIMIT
 
-pub taken : {F : Type 0} (g : Story) (s : PlayedSession) (most n events : ℕ) (first now mid : Standing) (seat next : PlayerView F) (given line : List ℕ)
+pub taken : {F : Type 0} (g : Story) (s : PlayedSession) (most n events : ℕ) (first now mid : Standing) (seat next : PlayerView F) (given line : Bytes)
     (found : Step) (w : IsPlaying g s first now seat n) → n < most → IsSeated seat → IsSeated next → next.last ≡ found →
     now.lines ≡ line ∷ mid.lines → given ≡ take LINE_LIMIT line
     → mid ≡ record now { lines = mid.lines; asked = now.asked + 1 } →
@@ -168,7 +169,7 @@ taken g s most n events first now mid seat next given line found w few seated th
     assumption (shows_piece found fine)
 
 module _ {F : Type 0} {g : Story} {s : PlayedSession} {most n events : ℕ} {first now mid : Standing} {seat next : PlayerView F}
-    {given line : List ℕ} {found : Step}
+    {given line : Bytes} {found : Step}
     {w : IsPlaying g s first now seat n} (t : Taken g s most n events first now mid seat next given line found w) where
   -- The text of all lines that were taken.
   whole_is : s.whole (first_lines (suc n) first.lines)
@@ -345,10 +346,10 @@ module _ {F : Type 0} {g : Story} {s : PlayedSession} {most n events : ℕ} {fir
           walks_on Plain g s.whole most n (with_store kept first) (with_store kept now) kept new seat next given line found o walking_with t.few tt
           t.seated t.then_seated t.last (t.lines ∙ ap (λ xs. line ∷ xs) (sym beside.lines)) t.cut kept_is t.plays told
 
-      rests_then : (new : Standing) (text : List ℕ) → new ≡ record kept { shown = text } → RestsWith s first new (suc n)
+      rests_then : (new : Standing) (text : Text) → new ≡ record kept { shown = text } → RestsWith s first new (suc n)
       rests_then new text e = rests_on s first kept new (suc n) kept.lines kept.asked text e rests
 
-      asked_then : (new : Standing) (text : List ℕ) → new ≡ record kept { shown = text } → new.asked ≡ first.asked + suc n
+      asked_then : (new : Standing) (text : Text) → new ≡ record kept { shown = text } → new.asked ≡ first.asked + suc n
       asked_then new text e = ap (λ (q : Standing). q.asked) e ∙ beside.asked ∙ asked_more
 
       -- The session is at the next prompt, or playing on has ended, with the piece shown or not.
@@ -399,7 +400,7 @@ module _ {F : Type 0} (g : Story) (s : PlayedSession) (most n : ℕ) (first now 
     session = (n, asked_is g s first now seat n w, w.rests);
   })
 
-  module _ (mid : Standing) (next : PlayerView F) (given line : List ℕ) (found : Step) (then_seated : IsSeated next) (last : next.last ≡ found)
+  module _ (mid : Standing) (next : PlayerView F) (given line : Bytes) (found : Step) (then_seated : IsSeated next) (last : next.last ≡ found)
       (lines : now.lines ≡ line ∷ mid.lines) (cut : given ≡ take LINE_LIMIT line)
       (took : mid ≡ record now { lines = mid.lines; asked = now.asked + 1 })
       (plays : StepsTo g (λ more. going_on_from g w.walking.prompt (reverse seat.machine.frames)

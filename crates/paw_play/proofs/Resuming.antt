@@ -3,6 +3,7 @@ use Rattle.std.proofs.Common.{◌≡◌, ◌≢◌, ℕ, ◌+◌, List, [], ◌�
 use Rattle.std.proofs.Common.{take, drop, arith}
 use Rattle.std.specs.Prelude.{reverse}
 use Rattle.std.proofs.lemmas.List.{append-nil, take-append-drop}
+use Rattle.paw_base.specs.Bytes.{Bytes, Lines, Text}
 use Rattle.paw_game.specs.Game.{GameLists}
 use Rattle.paw_world.specs.World.{World}
 use Rattle.paw_phrase.specs.Pending.{PendingLine}
@@ -45,14 +46,14 @@ use Rattle.paw_routines.specs.declared.routines.Routines.{Routines}
 abbrev pub run_from : World → OpenTables → PendingLine → List ℕ → List (List ℕ) → Run
 run_from w m p piece lines = run_with w m p (piece ∷ []) [] lines
 
-pub goes_on_from : (g : Story) (w : World) (m : OpenTables) (p : PendingLine) (at : Prompt) (events n : ℕ) (piece : List ℕ) (lines : List (List ℕ)) →
+pub goes_on_from : (g : Story) (w : World) (m : OpenTables) (p : PendingLine) (at : Prompt) (events n : ℕ) (piece : Text) (lines : Lines) →
     going_on g (state_of w m p at events n) piece lines ≡ going_on_from g at (reverse m.frames) (run_from w m p piece lines)
 goes_on_from g w m p at events n piece lines =
     ap (λ (path : List Frame). going_on_from g at path (run_from w m p piece lines)) (path_again (reverse m.frames) m.turning)
 
 -- ---- by the prompt ----
 
-module _ (digests : Digests) (g : Story) (w : World) (m : OpenTables) (p : PendingLine) (events n : ℕ) (piece : List ℕ) (long : length piece ≡ n) where
+module _ (digests : Digests) (g : Story) (w : World) (m : OpenTables) (p : PendingLine) (events n : ℕ) (piece : Text) (long : length piece ≡ n) where
   same_state : (at : Prompt) → state_of w m p at events n ≡ state_at (events + 0) at (reverse m.frames) (run_from w m p piece [])
   same_state at =
       let e : events ≡ events + 0 = omega arith in
@@ -112,7 +113,7 @@ abbrev pub read_session : Story → List ℕ → List ℕ → Restored → Stand
 read_session g name piece r first = from_state g (state_read r) piece (kept_digests first.disk.bytes) name
 
 -- A player was made of what was read of the state of the attached store.
-pub record MadeOfRead {F : Type 0} (g : Story) (name piece : List ℕ) (r : Restored) (first : Standing) (routines : Routines F)
+pub record MadeOfRead {F : Type 0} (g : Story) (name piece : Bytes) (r : Restored) (first : Standing) (routines : Routines F)
     (seat : PlayerView F) : Type 0 where
   pub long : length piece ≡ r.piece
   pub is : seat ≡ seat_at g.game routines r.world (only_counting r.machine) r.pending r.prompt
@@ -121,7 +122,7 @@ pub record MadeOfRead {F : Type 0} (g : Story) (name piece : List ℕ) (r : Rest
   pub store : IsRestingStore name first
   pub state : ShowsState g.game (kept_digests first.disk.bytes) first.disk.bytes (state_read r) piece
 
-module _ {F : Type 0} {g : Story} {name piece : List ℕ} {r : Restored} {first : Standing} {routines : Routines F} {seat : PlayerView F}
+module _ {F : Type 0} {g : Story} {name piece : Bytes} {r : Restored} {first : Standing} {routines : Routines F} {seat : PlayerView F}
     (u : MadeOfRead g name piece r first routines seat) where
   text_is : text_of (going_on g (state_read r) piece []) ≡ piece
   text_is = ap text_of (goes_on_from g r.world r.machine r.pending r.prompt r.events r.piece piece [])
@@ -147,14 +148,14 @@ module _ {F : Type 0} {g : Story} {name piece : List ℕ} {r : Restored} {first 
     bytes = had_bytes (read_session g name piece r first) (kept_digests first.disk.bytes) (kept_bytes (state_read r)) piece first.disk.bytes u.state.shown;
   }
 
-  rests_shown : (new : Standing) (text : List ℕ) → new ≡ record first { shown = text } → RestsWith (read_session g name piece r first) first new 0
+  rests_shown : (new : Standing) (text : Text) → new ≡ record first { shown = text } → RestsWith (read_session g name piece r first) first new 0
   rests_shown new text e = rests_on (read_session g name piece r first) first first new 0 first.lines first.asked text e rests_first
 
   stands_with : (new : Standing) (part : List ℕ) → new ≡ record first { shown = first.shown ++ part } → new ≡ with_lines_taken (with_store new first) 0 part
   stands_with new part e =
       subst (λ q. new ≡ with_lines_taken q 0 part) (ap (λ (q : Standing). with_store q first) (sym e)) (first_stands first new part e)
 
-  asked_is : (new : Standing) (text : List ℕ) → new ≡ record first { shown = text } → new.asked ≡ first.asked + 0
+  asked_is : (new : Standing) (text : Text) → new ≡ record first { shown = text } → new.asked ≡ first.asked + 0
   asked_is new text e = ap (λ (q : Standing). q.asked) e ∙ omega arith
 
   -- Inside the show of the piece.

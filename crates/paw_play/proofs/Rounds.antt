@@ -5,6 +5,7 @@ use Rattle.std.proofs.Common.{length, take, append_assoc, append-nil, arith}
 use Rattle.std.specs.Prelude.{◌-◌, All}
 use Rattle.std.proofs.lemmas.List.{length-take}
 use Rattle.std.proofs.lemmas.List.Elements.{All-append, All-map, All-take}
+use Rattle.paw_base.specs.Bytes.{Bytes, Line, Lines, Name, Seed}
 use Rattle.paw_base.specs.declared.limits.TheConstants.{EVENT_LIMIT, LINE_LIMIT}
 use Rattle.paw_stage.specs.Disk.{MayLeave}
 use Rattle.paw_stage.specs.Stage.{Standing, Files, Unattached, bytes_or_none}
@@ -34,14 +35,14 @@ use Rattle.paw_play.proofs.Standing.{begun_stands, later_stands}
 -- ---- the bytes of the file ----
 
 -- An attach leaves the bytes of its file.
-attached_bytes : (old : Standing) (name : List ℕ) → store_bytes (attached_to old name) name ≡ store_bytes old name
+attached_bytes : (old : Standing) (name : Name) → store_bytes (attached_to old name) name ≡ store_bytes old name
 attached_bytes old name = ap bytes_or_none (store_attached old name).file
 
-bytes_of : (old new : Standing) (name : List ℕ) → new ≡ attached_to old name → store_bytes new name ≡ store_bytes old name
+bytes_of : (old new : Standing) (name : Name) → new ≡ attached_to old name → store_bytes new name ≡ store_bytes old name
 bytes_of old new name e = ap (λ (q : Standing). store_bytes q name) e ∙ attached_bytes old name
 
 -- So does one that failed.
-unattached_bytes : (old new : Standing) (name : List ℕ) → Unattached old new → store_bytes new name ≡ store_bytes old name
+unattached_bytes : (old new : Standing) (name : Name) → Unattached old new → store_bytes new name ≡ store_bytes old name
 unattached_bytes old new name (inl e) = ap (λ (q : Standing). store_bytes q name) e
 unattached_bytes old new name (inr e) = ap (λ (q : Standing). store_bytes q name) e
 
@@ -50,17 +51,17 @@ unattached_asked : (old new : Standing) → Unattached old new → new.asked ≡
 unattached_asked old new (inl e) = ap (λ (q : Standing). q.asked) e ∙ omega arith
 unattached_asked old new (inr e) = ap (λ (q : Standing). q.asked) e ∙ omega arith
 
-attached_asked : (old new : Standing) (name : List ℕ) → new ≡ attached_to old name → new.asked ≡ old.asked + 0 + 0
+attached_asked : (old new : Standing) (name : Name) → new ≡ attached_to old name → new.asked ≡ old.asked + 0 + 0
 attached_asked old new name e = ap (λ (q : Standing). q.asked) e ∙ omega arith
 
 -- Before the attach a crash leaves what the file had.
-files_left : (old : Standing) (name left : List ℕ) (m : Standing) → NotYet name old m → left ≡ bytes_or_none (m.files name) → left ≡ store_bytes old name
+files_left : (old : Standing) (name left : Bytes) (m : Standing) → NotYet name old m → left ≡ bytes_or_none (m.files name) → left ≡ store_bytes old name
 files_left old name left m n e = elim n.files [
   | inl same ↦ e ∙ ap (λ (f : Files). bytes_or_none (f name)) same
   | inr made ↦ e ∙ ap (λ (f : Files). bytes_or_none (f name)) made ∙ attached_bytes old name
 ]
 
-not_yet_left : (r : Round) (bytes : List ℕ) (m : Standing) → BeginsOver bytes r → NotYet r.name r.old m → MayBeLeft r.name m r.left → r.left ≡ bytes
+not_yet_left : (r : Round) (bytes : Bytes) (m : Standing) → BeginsOver bytes r → NotYet r.name r.old m → MayBeLeft r.name m r.left → r.left ≡ bytes
 not_yet_left r bytes m begins n (inr apart) = files_left r.old r.name r.left m n apart.1 ∙ begins.has
 not_yet_left r bytes m begins n (inl is) = elim n.store [
   | inl before ↦ begins.settled r.left (inl (sym before.0 ∙ is.0, subst (λ d. MayLeave d r.left) before.1 is.1))
@@ -68,7 +69,7 @@ not_yet_left r bytes m begins n (inl is) = elim n.store [
 ]
 
 -- Of the attached store a crash leaves what the disk may leave.
-store_left : (name left : List ℕ) (m : Standing) → m.attached ≡ Some name → MayBeLeft name m left → MayLeave m.disk left
+store_left : (name left : Bytes) (m : Standing) → m.attached ≡ Some name → MayBeLeft name m left → MayLeave m.disk left
 store_left name left m is (inl may) = may.1
 store_left name left m is (inr apart) = absurd (apart.0 is)
 
@@ -80,7 +81,7 @@ KeptOf s old stop left = (n : ℕ) × AreKept old stop n × (n ≤ length old.li
 
 module _ (s : PlayedSession) (old : Standing) where
   -- Of one that a crash cut off all that were taken, or all but the last.
-  kept_up : (m : Standing) (n : ℕ) (text left : List ℕ) → n ≤ length old.lines → s.before + n ≤ EVENT_LIMIT → m.asked ≡ old.asked + n →
+  kept_up : (m : Standing) (n : ℕ) (text left : Bytes) → n ≤ length old.lines → s.before + n ≤ EVENT_LIMIT → m.asked ≡ old.asked + n →
       IsUpToDateWith s old.lines n text left → KeptOf s old (cut_at m) left
   kept_up m zero text left there few asked kept = (0, inl asked, there, few, kept.0)
   kept_up m (suc n) text left there few asked (inl kept) = (suc n, inl asked, there, few, kept.0)
@@ -117,7 +118,7 @@ no_writing c (inl e) = rw e (λ rest. rest)
 no_writing c (inr (inl e)) = rw e (λ rest. rest)
 no_writing c (inr (inr h)) = absurd h
 
-module _ (g : Story) (seed : ℕ) (r : Round) (begins : BeginsOver [] r) (made : ¬ IsUnmade (recover r.left)) where
+module _ (g : Story) (seed : Seed) (r : Round) (begins : BeginsOver [] r) (made : ¬ IsUnmade (recover r.left)) where
   first_cut : (m : Standing) → (NotYet r.name r.old m ⊎ InNewSession (session_begun g seed r.name) r.old m) → MayBeLeft r.name m r.left →
       KeptOf (session_begun g seed r.name) r.old (cut_at m) r.left
   first_cut m (inl n) may = absurd (made (empty_unmade r.left (not_yet_left r [] m begins n may)))
@@ -155,7 +156,7 @@ module _ (g : Story) (seed : ℕ) (r : Round) (begins : BeginsOver [] r) (made :
 abbrev StandsBehind : Story → ℕ → List (List ℕ) → Standing → RoundStop → List ℕ → Type 0
 StandsBehind g seed es old stop left = (n : ℕ) × AreKept old stop n × Stands g seed (es ++ first_lines n old.lines) left
 
-module _ (g : Story) (seed : ℕ) (es : List (List ℕ)) (bytes : List ℕ) (r : Round) (begins : BeginsOver bytes r) (stands : Stands g seed es bytes) where
+module _ (g : Story) (seed : Seed) (es : Lines) (bytes : Bytes) (r : Round) (begins : BeginsOver bytes r) (stands : Stands g seed es bytes) where
   -- With no line more it stands for those before.
   none_more : (left : List ℕ) → left ≡ bytes → Stands g seed (es ++ first_lines 0 r.old.lines) left
   none_more left e = subst (λ q. Stands g seed (es ++ []) q) (sym e) (subst (λ q. Stands g seed q bytes) (sym (append-nil es)) stands)
@@ -191,18 +192,18 @@ module _ (g : Story) (seed : ℕ) (es : List (List ℕ)) (bytes : List ℕ) (r :
 
 -- ---- all rounds ----
 
-cut_is_line : (line : List ℕ) → AreBytes line → IsLine (take LINE_LIMIT line)
+cut_is_line : (line : Line) → AreBytes line → IsLine (take LINE_LIMIT line)
 cut_is_line line are = record {
   short = omega (arith, length-take LINE_LIMIT line);
   bytes = All-take (λ b. b < 256) LINE_LIMIT line are;
 }
 
-first_are_lines : (n : ℕ) (lines : List (List ℕ)) → All AreBytes lines → All IsLine (first_lines n lines)
+first_are_lines : (n : ℕ) (lines : Lines) → All AreBytes lines → All IsLine (first_lines n lines)
 first_are_lines n lines are = All-map IsLine (take LINE_LIMIT) (take n lines)
     (λ k d low. cut_is_line _ (All-take AreBytes n lines are k d low))
 
 -- Rounds over bytes that stand.
-later_rounds : (g : Story) (seed : ℕ) (es : List (List ℕ)) (bytes : List ℕ) (rounds : List Round) →
+later_rounds : (g : Story) (seed : Seed) (es : Lines) (bytes : Bytes) (rounds : List Round) →
     IsPlayedWith g seed es → Stands g seed es bytes → AreRounds g seed bytes rounds →
     (kept : List (List ℕ)) × AreKeptOf rounds kept × Stands g seed (es ++ kept) (left_after bytes rounds)
 later_rounds g seed es bytes [] played stands rounds = ([], refl, subst (λ fs. Stands g seed fs bytes) (sym (append-nil es)) stands)

@@ -3,6 +3,7 @@ use Rattle.std.proofs.Common.{◌≡◌, ℕ, suc, ◌+◌, ◌*◌, ◌^◌, �
 use Rattle.std.proofs.Common.{subst, length, arith}
 use Rattle.std.specs.Prelude.{IfNone, All}
 use Rattle.std.proofs.lemmas.List.{length-map}
+use Rattle.paw_base.specs.Bytes.{Lines, Texts, ObjectPlaces, Seed}
 use Rattle.paw_base.specs.declared.limits.TheConstants.{EVENT_LIMIT, READ_LIMIT, PIECE_LIMIT}
 use Rattle.paw_game.specs.Game.{GameLists}
 use Rattle.paw_game.specs.declared.parts.ObjectRow.{ObjectRow}
@@ -41,7 +42,7 @@ closed_line g p path r k = at (waiting_code p) k.places
     at (Some n) places = tt
 
 -- The last piece is as short as each.
-last_short : (pieces : List (List ℕ)) → All (λ piece. length piece ≤ PIECE_LIMIT) pieces
+last_short : (pieces : Texts) → All (λ piece. length piece ≤ PIECE_LIMIT) pieces
     → length (last_piece pieces) ≤ PIECE_LIMIT
 last_short [] all = omega arith
 last_short (p ∷ []) all = all 0 [] (omega arith)
@@ -49,7 +50,7 @@ last_short (p ∷ q ∷ pieces) all = last_short (q ∷ pieces) (λ k d low. all
 
 -- ---- worlds ----
 
-places_are_bytes : (g : GameLists) → Valid g → (places : List ℕ) → ArePlacesOf g places → AreBytes places
+places_are_bytes : (g : GameLists) → Valid g → (places : ObjectPlaces) → ArePlacesOf g places → AreBytes places
 places_are_bytes g v places at = λ k d low. place_small g v _ (at k d low)
 
 saved_stands : (g : GameLists) (saved : Option Position) → MayBePosition g saved → StandsIn g saved
@@ -76,7 +77,7 @@ world_sound g v w k = record {
 
 -- ---- readings ----
 
-module _ (g : GameLists) (v : Valid g) (seed : ℕ) (n : ℕ) (fits : seed < 2 ^ 64) (few : n ≤ EVENT_LIMIT) where
+module _ (g : GameLists) (v : Valid g) (seed : Seed) (n : ℕ) (fits : seed < 2 ^ 64) (few : n ≤ EVENT_LIMIT) where
   -- One piece was closed for each line, and one before them.
   drawn : (r : Run) → IsBounded seed 0 r → length r.pieces + length r.events ≡ suc n → r.world.draws ≤ READ_LIMIT * (n + 1)
   drawn r bound count = let most : r.world.draws ≤ 0 + READ_LIMIT * length r.pieces = bound.draws in omega (arith, most, count)
@@ -117,7 +118,7 @@ module _ (g : GameLists) (v : Valid g) (seed : ℕ) (n : ℕ) (fits : seed < 2 ^
   ending_settles (Halted halt.Over r) at bound count = settles prompt.Over [] r at bound count
   ending_settles _ at bound count = tt
 
-pub reading_settles : (g : Story) (seed : ℕ) (es : List (List ℕ)) → IsPlayedWith g seed es → length es ≤ EVENT_LIMIT →
+pub reading_settles : (g : Story) (seed : Seed) (es : Lines) → IsPlayedWith g seed es → length es ≤ EVENT_LIMIT →
     IsSettled g.game (length es) (reading g seed es)
 reading_settles g seed es played few =
     ending_settles g.game played.valid.game seed (length es) played.fits few (reading g seed es)

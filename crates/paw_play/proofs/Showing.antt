@@ -2,6 +2,7 @@
 use Rattle.std.proofs.Common.{◌≡◌, ℕ, ◌+◌, List, [], Option, Some, None, refl, sym, ap, ◌∙◌, subst, length}
 use Rattle.std.proofs.Common.{take, arith}
 use Rattle.std.specs.Prelude.{IfNone}
+use Rattle.paw_base.specs.Bytes.{Bytes, Text}
 use Rattle.paw_game.specs.Game.{GameLists}
 use Rattle.paw_game.specs.Valid.{Valid}
 use Rattle.paw_world.specs.World.{Position, IsSavedFor}
@@ -38,7 +39,7 @@ use Rattle.paw_play.specs.inner.OnTheWay.{IsRestingStore}
 use Rattle.paw_play.proofs.Resuming.{goes_on_from, kept_at, text_at, seat_game, read_session, MadeOfRead}
 
 -- A buffer begins with the bytes of a state.
-shows_kept : (digests : Digests) (bytes buffer piece : List ℕ) (st : State) →
+shows_kept : (digests : Digests) (bytes buffer piece : Bytes) (st : State) →
     recover bytes ≡ Shown digests (take state_length buffer) piece → take state_length buffer ≡ state_bytes st →
     recover bytes ≡ Shown digests (kept_bytes st) piece
 unfolding kept_bytes
@@ -52,7 +53,7 @@ same_shown : (d e : Digests) (a p b q : List ℕ) → Shown d a p ≡ Shown e b 
 same_shown d e a p b q h = (cc, cc, cc)
 
 -- The bytes show one state and one piece, in one session.
-pub one_state : (g : Story) (d e : Digests) (bytes name : List ℕ) (s t : State) (p q : List ℕ) → Valid g.game →
+pub one_state : (g : Story) (d e : Digests) (bytes name : Bytes) (s t : State) (p q : List ℕ) → Valid g.game →
     ShowsState g.game d bytes s p → ShowsState g.game e bytes t q → from_state g s p d name ≡ from_state g t q e name
 one_state g d e bytes name s t p q valid h k =
     let one = same_shown d e (kept_bytes s) p (kept_bytes t) q (sym h.shown ∙ k.shown) in
@@ -78,7 +79,7 @@ world_of g s k fits =
       kept = λ i d low. position_from g (length s.world.places) _ k.world.places (k.sound.kept.each i d low) (places.1.1 i d low) (fits.kept i d low);
     }
 
-closed_line : (at : Prompt) (m : OpenTables) (bytes : List ℕ) → WaitsAtPrompt at m → IfNone (waiting_code at) (bytes ≡ []) → m.frames ≡ [] → bytes ≡ []
+closed_line : (at : Prompt) (m : OpenTables) (bytes : Bytes) → WaitsAtPrompt at m → IfNone (waiting_code at) (bytes ≡ []) → m.frames ≡ [] → bytes ≡ []
 closed_line prompt.Main m bytes s p e = p
 closed_line prompt.Quit m bytes s p e = absurd (omega (arith, s.tables.some, ap length e))
 closed_line prompt.Again m bytes s p e = absurd (omega (arith, s.tables.some, ap length e))
@@ -94,7 +95,7 @@ pending_of g s m k fits stands =
       earlier = fits.earlier;
     }
 
-pub read_fits : (g : GameLists) (bytes : List ℕ) (r : Restored) → IsRead g bytes r → Fits g r.world r.machine r.pending r.prompt
+pub read_fits : (g : GameLists) (bytes : Bytes) (r : Restored) → IsRead g bytes r → Fits g r.world r.machine r.pending r.prompt
 read_fits g bytes r is =
     restored_fits g r.prompt (machine_kept r.machine) r.world r.machine r.pending (world_of g (state_read r) is.valid is.fits)
     (pending_of g (state_read r) r.machine is.valid is.fits is.stands)
@@ -102,7 +103,7 @@ read_fits g bytes r is =
 
 -- ---- a player that was made of what was read ----
 
-pub resumed : {F : Type 0} (g : Story) (name buffer state piece : List ℕ) (r : Restored) (first : Standing) (routines : Routines F) (seat : PlayerView F) →
+pub resumed : {F : Type 0} (g : Story) (name buffer state piece : Bytes) (r : Restored) (first : Standing) (routines : Routines F) (seat : PlayerView F) →
     recover first.disk.bytes ≡ Shown (kept_digests first.disk.bytes) (take state_length state) piece → buffer ≡ state → IsRead g.game buffer r →
     piece_length buffer ≡ r.piece →
     seat ≡ seat_at g.game routines r.world (only_counting r.machine) r.pending r.prompt → IsSeated seat → IsRestingStore name first →
@@ -122,7 +123,7 @@ resumed g name buffer state piece r first routines seat shown same read long is 
     }
 
 -- The store shows no other state and piece.
-pub one_session : {F : Type 0} (g : Story) (name piece : List ℕ) (r : Restored) (first : Standing) (routines : Routines F) (seat : PlayerView F)
+pub one_session : {F : Type 0} (g : Story) (name piece : Bytes) (r : Restored) (first : Standing) (routines : Routines F) (seat : PlayerView F)
     (digests : Digests) (st : State) (other : List ℕ) → MadeOfRead g name piece r first routines seat →
     ShowsState g.game digests first.disk.bytes st other → read_session g name piece r first ≡ from_state g st other digests name
 one_session g name piece r first routines seat digests st other u shows =
@@ -131,7 +132,7 @@ one_session g name piece r first routines seat digests st other u shows =
 
 -- ---- a state that bytes show ----
 
-module _ (g : Story) (digests : Digests) (bytes : List ℕ) (st : State) (piece : List ℕ) (valid : Valid g.game)
+module _ (g : Story) (digests : Digests) (bytes : Bytes) (st : State) (piece : Text) (valid : Valid g.game)
     (shows : ShowsState g.game digests bytes st piece) where
   -- A machine that is restored from the state.
   machine : OpenTables

@@ -4,6 +4,7 @@ use Rattle.std.proofs.Common.{length, take, drop, arith}
 use Rattle.std.specs.Prelude.{◌-◌}
 use Rattle.std.proofs.Math.Path.{fun_ext}
 use Rattle.std.proofs.lemmas.List.{length-append, length-map, length-take-le}
+use Rattle.paw_base.specs.Bytes.{Bytes, Lines, Text, Name, Seed}
 use Rattle.paw_base.specs.declared.limits.TheConstants.{EVENT_LIMIT, LINE_LIMIT}
 use Rattle.paw_game.specs.Game.{GameLists}
 use Rattle.paw_game.specs.Valid.{Valid}
@@ -40,8 +41,8 @@ use Rattle.paw_effects.specs.Story.{Story}
 
 -- ---- what a store shows ----
 
-ending_shows : (g : GameLists) (digests : Digests) (n : ℕ) (bytes : List ℕ) (e : Ending) → IsSettled g n e → IsKept digests n e (recover bytes) →
-    (st : State) × (piece : List ℕ) × ShowsState g digests bytes st piece
+ending_shows : (g : GameLists) (digests : Digests) (n : ℕ) (bytes : Bytes) (e : Ending) → IsSettled g n e → IsKept digests n e (recover bytes) →
+    (st : State) × (piece : Text) × ShowsState g digests bytes st piece
 ending_shows g digests n bytes (WaitsAt p path r) k kept =
     (state_at n p path r, last_piece r.pieces, record { valid = k.valid; fits = k.fits; shown = kept.shown })
 ending_shows g digests n bytes (Halted halt.Over r) k kept =
@@ -49,8 +50,8 @@ ending_shows g digests n bytes (Halted halt.Over r) k kept =
 ending_shows g digests n bytes _ k kept = absurd kept.played
 
 -- In the session whose lines they are.
-shown_of : (g : Story) (seed : ℕ) (es : List (List ℕ)) (bytes : List ℕ) → IsPlayedWith g seed es → (stands : Stands g seed es bytes) →
-    (st : State) × (piece : List ℕ) × ShowsState g.game stands.digests bytes st piece
+shown_of : (g : Story) (seed : Seed) (es : Lines) (bytes : Bytes) → IsPlayedWith g seed es → (stands : Stands g seed es bytes) →
+    (st : State) × (piece : Text) × ShowsState g.game stands.digests bytes st piece
 shown_of g seed es bytes played stands =
     ending_shows g.game stands.digests (length es) bytes (reading g seed es) (reading_settles g seed es played stands.few) stands.keeps
 
@@ -73,7 +74,7 @@ pieces_with_past ps ts last (Halted halt r) ends = refl
 pieces_with_past ps ts last Unended ends = absurd (ends refl)
 
 -- Going on from a state ends.
-goes_to_an_end : (g : Story) (st : State) (piece : List ℕ) (fs : List (List ℕ)) → going_on g st piece fs ≢ Unended
+goes_to_an_end : (g : Story) (st : State) (piece : Text) (fs : Lines) → going_on g st piece fs ≢ Unended
 goes_to_an_end g st piece fs = going_on_ends g st.prompt (take st.frames.count st.frames.rows) (resumed_run st piece fs)
 
 pub going_on_is_the_reading : GoingOnIsTheReading
@@ -95,11 +96,11 @@ going_on_is_the_reading g seed es fs p path r played few is =
 
 -- ---- what a session keeps stands for its lines ----
 
-count_lines : (n : ℕ) (lines : List (List ℕ)) → n ≤ length lines → length (first_lines n lines) ≡ n
+count_lines : (n : ℕ) (lines : Lines) → n ≤ length lines → length (first_lines n lines) ≡ n
 count_lines n lines there = length-map (take n lines) (take LINE_LIMIT) ∙ length-take-le n lines there
 
 -- Those that it took.
-pub begun_stands : (g : Story) (seed : ℕ) (lines : List (List ℕ)) (name : List ℕ) (n : ℕ) (bytes : List ℕ) → n ≤ length lines → n ≤ EVENT_LIMIT →
+pub begun_stands : (g : Story) (seed : Seed) (lines : Lines) (name : Name) (n : ℕ) (bytes : Bytes) → n ≤ length lines → n ≤ EVENT_LIMIT →
     KeptBy (session_begun g seed name) lines n bytes → Stands g seed (first_lines n lines) bytes
 begun_stands g seed lines name n bytes there few kept =
     let count : length (first_lines n lines) ≡ n = count_lines n lines there in
@@ -112,7 +113,7 @@ begun_stands g seed lines name n bytes there few kept =
     }
 
 -- Bytes that keep lines of a session stand for those that it went on after, and for these.
-pub later_stands : (g : Story) (seed : ℕ) (es lines : List (List ℕ)) (digests : Digests) (name : List ℕ) (n : ℕ) (bytes : List ℕ) → IsOfStory g digests →
+pub later_stands : (g : Story) (seed : Seed) (es lines : Lines) (digests : Digests) (name : Name) (n : ℕ) (bytes : Bytes) → IsOfStory g digests →
     n ≤ length lines → length es + n ≤ EVENT_LIMIT → KeptBy (from_lines g seed es digests name) lines n bytes → Stands g seed (es ++ first_lines n lines) bytes
 later_stands g seed es lines digests name n bytes belongs there few kept =
     let fs : List (List ℕ) = first_lines n lines in
@@ -132,7 +133,7 @@ kept_lines_stand = record { first = begun_stands; later = later_stands }
 -- ---- taking it up again ----
 
 -- The bytes show the state that a session goes on from.
-pub record IsShown (g : Story) (name bytes : List ℕ) (s : PlayedSession) : Type 0 where
+pub record IsShown (g : Story) (name bytes : Bytes) (s : PlayedSession) : Type 0 where
   pub digests : Digests
   pub belongs : IsOfStory g digests
   pub state : State
@@ -140,17 +141,17 @@ pub record IsShown (g : Story) (name bytes : List ℕ) (s : PlayedSession) : Typ
   pub shows : ShowsState g.game digests bytes state piece
   pub same : from_state g state piece digests name ≡ s
 
-same_session : (whole by : EndingOf) (before past : ℕ) (digests : Digests) (name : List ℕ) → whole ≡ by → before ≡ past →
+same_session : (whole by : EndingOf) (before past : ℕ) (digests : Digests) (name : Name) → whole ≡ by → before ≡ past →
     ◌≡◌ {A = PlayedSession} (record { whole = whole; before = before; digests = digests; name = name })
     (record { whole = by; before = past; digests = digests; name = name })
 same_session whole by before past digests name e f = cc
 
-pub is_shown : (g : Story) (name bytes : List ℕ) (s : PlayedSession) → GoesOnFrom g name bytes s → IsShown g name bytes s
+pub is_shown : (g : Story) (name bytes : Bytes) (s : PlayedSession) → GoesOnFrom g name bytes s → IsShown g name bytes s
 is_shown g name bytes _ (from_shown st piece digests belongs shows) =
     record { digests = digests; belongs = belongs; state = st; piece = piece; shows = shows; same = refl }
 is_shown g name bytes _ (from_played seed es played stands) =
     let shown = shown_of g seed es bytes played stands in
-    let goes = λ (fs : List (List ℕ)). standing_goes_on g seed es fs bytes stands.digests shown.0 shown.1 played stands shown.2 in
+    let goes = λ (fs : Lines). standing_goes_on g seed es fs bytes stands.digests shown.0 shown.1 played stands shown.2 in
     record {
       digests = stands.digests;
       belongs = stands.belongs;
@@ -166,7 +167,7 @@ is_shown g name bytes _ (from_played seed es played stands) =
 same_digests : (d e : Digests) (s p t q : List ℕ) → Shown d s p ≡ Shown e t q → d ≡ e
 same_digests d e s p t q h = cc
 
-never_refused : (g : Story) (digests : Digests) (bytes state piece : List ℕ) (r : JournalRefusal) → IsOfStory g digests →
+never_refused : (g : Story) (digests : Digests) (bytes state piece : Bytes) (r : JournalRefusal) → IsOfStory g digests →
     recover bytes ≡ Shown digests state piece → ¬ Refuses (story_digests g) bytes r
 never_refused g digests bytes state piece (refusal.Unmade n mark) of is h = cc
 never_refused g digests bytes state piece (refusal.Damaged part at) of is h = cc
@@ -197,7 +198,7 @@ is_fit g d e bytes buffer piece q st shows is =
       are = same_state e d (take state_length buffer) piece (state_bytes st) q (sym is ∙ shows.shown);
     }
 
-module _ (g : Story) (name : List ℕ) (old new : Standing) (valid : Valid g.game) (d : Digests) (of : IsOfStory g d) (st : State) (piece : List ℕ)
+module _ (g : Story) (name : Name) (old new : Standing) (valid : Valid g.game) (d : Digests) (of : IsOfStory g d) (st : State) (piece : Text)
     (shows : ShowsState g.game d (store_bytes old name) st piece) where
   goes_up : (e : Digests) (o : PlayEnd) → Resumed g e name (attached_to old name) new o → GoesOn (from_state g st piece d name) old new o
   goes_up e _ (memory is) = memory is
@@ -215,7 +216,7 @@ module _ (g : Story) (name : List ℕ) (old new : Standing) (valid : Valid g.gam
   goes_again _ (resumes_play o e mine up) = goes_up e o up
 
 -- How resuming a session that goes on from the bytes of its store ends.
-pub again_goes_on : (g : Story) (name : List ℕ) (old new : Standing) (s : PlayedSession) → Valid g.game → GoesOnFrom g name (store_bytes old name) s →
+pub again_goes_on : (g : Story) (name : Name) (old new : Standing) (s : PlayedSession) → Valid g.game → GoesOnFrom g name (store_bytes old name) s →
     (o : PlayEnd) → PlaysAgain g name old new o → GoesOn s old new o
 again_goes_on g name old new s valid from o p =
     let k = is_shown g name (store_bytes old name) s from in

@@ -1,6 +1,7 @@
 -- The bytes of a state, as they are committed.
-use Rattle.std.proofs.Common.{◌≡◌, ℕ, List, ◌++◌, length, take, sym, ap, ◌∙◌}
+use Rattle.std.proofs.Common.{◌≡◌, ℕ, ◌++◌, length, take, sym, ap, ◌∙◌}
 use Rattle.std.proofs.Math.Seq.{take-append_seam}
+use Rattle.paw_base.specs.Bytes.{Bytes}
 use Rattle.paw_world.specs.World.{World}
 use Rattle.paw_phrase.specs.Pending.{PendingLine}
 use Rattle.paw_effects.specs.declared.act.Prompt.{Prompt}
@@ -9,7 +10,7 @@ use Rattle.paw_state.specs.inner.State.{state_of}
 use Rattle.paw_play.specs.Session.{kept_bytes}
 
 -- The first bytes of a buffer.
-pub cut : (bytes rest into : List ℕ) (n : ℕ) → into ≡ bytes ++ rest → length bytes ≡ n → take n into ≡ bytes
+pub cut : (bytes rest into : Bytes) (n : ℕ) → into ≡ bytes ++ rest → length bytes ≡ n → take n into ≡ bytes
 cut bytes rest into n e l = ap (take n) e ∙ ap (λ k. take k (bytes ++ rest)) (sym l) ∙ take-append_seam bytes rest
 
 -- States of the same parts.

@@ -5,6 +5,7 @@ use Rattle.std.proofs.Common.{arith, append_assoc, length-append}
 use Rattle.std.proofs.lemmas.List.{append-nil, length-reverse, take-append-drop}
 use Rattle.std.specs.Prelude.{reverse}
 use Rattle.std.specs.List.{concat}
+use Rattle.paw_base.specs.Bytes.{Bytes, Line, Lines, Texts, Seed}
 use Rattle.paw_base.specs.declared.limits.TheConstants.{EVENT_LIMIT, LINE_LIMIT}
 use Rattle.paw_stage.specs.Stage.{Standing}
 use Rattle.paw_effects.specs.declared.act.Prompt.{Prompt}
@@ -37,32 +38,32 @@ use Rattle.paw_effects.specs.Story.{Story}
 -- ---- lines ----
 
 -- The line after the first n lines is this one.
-take_more : (lines : List (List ℕ)) (n : ℕ) (line : List ℕ) (rest : List (List ℕ)) → drop n lines ≡ line ∷ rest → take (suc n) lines ≡ take n lines ++ line ∷ []
+take_more : (lines : Lines) (n : ℕ) (line : Line) (rest : List (List ℕ)) → drop n lines ≡ line ∷ rest → take (suc n) lines ≡ take n lines ++ line ∷ []
 take_more [] zero line rest h = cc
 take_more [] (suc n) line rest h = cc
 take_more (l ∷ lines) zero line rest h = let e : l ≡ line = cc in rw e refl
 take_more (l ∷ lines) (suc n) line rest h = ap (λ xs. l ∷ xs) (take_more lines n line rest h)
 
-pub drop_more : (lines : List (List ℕ)) (n : ℕ) (line : List ℕ) (rest : List (List ℕ)) → drop n lines ≡ line ∷ rest →
+pub drop_more : (lines : Lines) (n : ℕ) (line : Line) (rest : List (List ℕ)) → drop n lines ≡ line ∷ rest →
     (drop (suc n) lines ≡ rest) × (suc n ≤ length lines)
 drop_more [] zero line rest h = cc
 drop_more [] (suc n) line rest h = cc
 drop_more (l ∷ lines) zero line rest h = let e : lines ≡ rest = cc in (e, omega arith)
 drop_more (l ∷ lines) (suc n) line rest h = let m = drop_more lines n line rest h in (m.0, omega (arith, m.1))
 
-pub drop_all : (lines : List (List ℕ)) (n : ℕ) → drop n lines ≡ [] → n ≤ length lines → n ≡ length lines
+pub drop_all : (lines : Lines) (n : ℕ) → drop n lines ≡ [] → n ≤ length lines → n ≡ length lines
 drop_all [] zero h k = refl
 drop_all [] (suc n) h k = absurd (omega arith)
 drop_all (l ∷ lines) zero h k = cc
 drop_all (l ∷ lines) (suc n) h k = ap suc (drop_all lines n h (omega arith))
 
-map_append : (xs : List (List ℕ)) (line : List ℕ)
+map_append : (xs : List (List ℕ)) (line : Line)
     → map (take LINE_LIMIT) (xs ++ line ∷ []) ≡ map (take LINE_LIMIT) xs ++ take LINE_LIMIT line ∷ []
 map_append [] line = refl
 map_append (x ∷ xs) line = ap (λ ys. take LINE_LIMIT x ∷ ys) (map_append xs line)
 
 -- The lines that come after one more.
-pub lines_more : (lines : List (List ℕ)) (n : ℕ) (line : List ℕ) (rest more : List (List ℕ)) → drop n lines ≡ line ∷ rest →
+pub lines_more : (lines : Lines) (n : ℕ) (line : Line) (rest more : List (List ℕ)) → drop n lines ≡ line ∷ rest →
     first_lines (suc n) lines ++ more ≡ first_lines n lines ++ take LINE_LIMIT line ∷ more
 lines_more lines n line rest more h =
     ap (λ xs. map (take LINE_LIMIT) xs ++ more) (take_more lines n line rest h)
@@ -71,7 +72,7 @@ lines_more lines n line rest more h =
 
 -- ---- what stands ----
 
-played_more : (old : Standing) (n : ℕ) (text part line : List ℕ) (rest : List (List ℕ)) → drop n old.lines ≡ line ∷ rest →
+played_more : (old : Standing) (n : ℕ) (text part line : Bytes) (rest : List (List ℕ)) → drop n old.lines ≡ line ∷ rest →
     record (with_lines_taken old n text) { lines = rest; asked = old.asked + n + 1; shown = (old.shown ++ text) ++ part }
     ≡ with_lines_taken old (suc n) (text ++ part)
 played_more old n text part line rest h =
@@ -81,7 +82,7 @@ played_more old n text part line rest h =
     rw (a, s, m.0) refl
 
 -- Once a line was taken and a text shown.
-pub stands_after : (first now mid new : Standing) (n : ℕ) (text part line : List ℕ) → now ≡ with_lines_taken first n text → now.lines ≡ line ∷ mid.lines →
+pub stands_after : (first now mid new : Standing) (n : ℕ) (text part line : Bytes) → now ≡ with_lines_taken first n text → now.lines ≡ line ∷ mid.lines →
     mid ≡ record now { lines = mid.lines; asked = now.asked + 1 } → new ≡ record mid { shown = mid.shown ++ part } →
     new ≡ with_lines_taken first (suc n) (text ++ part)
 stands_after first now mid new n text part line e l m s =
@@ -145,7 +146,7 @@ text_so_far showing g whole n first now seat w seated =
 
 -- The text of a step that brings a piece.
 pub text_shown : {F : Type 0} (showing : ShowSteps) (g : Story) (whole : EndingOf) (s : Step) (next : PlayerView F)
-    (pieces : List (List ℕ)) (traces : List (List Read)) → HaveSteps showing pieces traces → KeepsShown showing next.machine.steps.most → IsStanding s → StandsClosed s next.machine →
+    (pieces : Texts) (traces : List (List Read)) → HaveSteps showing pieces traces → KeepsShown showing next.machine.steps.most → IsStanding s → StandsClosed s next.machine →
     PlaysTo g whole s next pieces traces →
     text_of (with_shown_steps showing whole []) ≡ concat (shown_pieces showing pieces traces) ++ seat_text showing next
 text_shown showing g whole (step.Waits p) next pieces traces each keeps h m plays =
@@ -166,7 +167,7 @@ shown_nothing mid = ap (λ t. record mid { shown = t }) (sym (append-nil mid.sho
 
 -- How a step ends after n lines, where `after` is the reading of those that are left then.
 module _ {F : Type 0} (showing : ShowSteps) (g : Story) (whole after : EndingOf) (n : ℕ) (first mid new : Standing) (next : PlayerView F) (s : Step)
-    (pieces : List (List ℕ)) (traces : List (List Read)) (each : HaveSteps showing pieces traces)
+    (pieces : Texts) (traces : List (List Read)) (each : HaveSteps showing pieces traces)
     (keeps : KeepsShown showing next.machine.steps.most)
     (last : next.last ≡ s) (seated : IsSeated next) (there : n ≤ length first.lines)
     (whole_after : (more : List (List ℕ)) → whole (first_lines n first.lines ++ more) ≡ after more)
@@ -254,7 +255,7 @@ module _ {F : Type 0} (showing : ShowSteps) (g : Story) (whole after : EndingOf)
 
 -- ---- one line more ----
 
-module _ {F : Type 0} (showing : ShowSteps) (g : Story) (whole : EndingOf) (n : ℕ) (first now mid : Standing) (seat : PlayerView F) (given line : List ℕ)
+module _ {F : Type 0} (showing : ShowSteps) (g : Story) (whole : EndingOf) (n : ℕ) (first now mid : Standing) (seat : PlayerView F) (given line : Bytes)
     (w : IsWalking showing g whole first now seat n) (lines : now.lines ≡ line ∷ mid.lines)
     (cut : given ≡ take LINE_LIMIT line) where
   line_stands : drop n first.lines ≡ line ∷ mid.lines
@@ -275,7 +276,7 @@ module _ {F : Type 0} (showing : ShowSteps) (g : Story) (whole : EndingOf) (n : 
   read_after = ap whole (sym (append-nil (first_lines (suc n) first.lines))) ∙ whole_after []
 
 pub walks_on : {F : Type 0} (showing : ShowSteps) (g : Story) (whole : EndingOf) (most n : ℕ) (first now mid new : Standing)
-    (seat next : PlayerView F) (given line : List ℕ) (s : Step) (o : Option PlayEnd)
+    (seat next : PlayerView F) (given line : Bytes) (s : Step) (o : Option PlayEnd)
     (w : IsWalking showing g whole first now seat n) → n < most → KeepsShown showing next.machine.steps.most → IsSeated seat → IsSeated next → next.last ≡ s →
     now.lines ≡ line ∷ mid.lines → given ≡ take LINE_LIMIT line
     → mid ≡ record now { lines = mid.lines; asked = now.asked + 1 } →
@@ -330,7 +331,7 @@ walk_begins showing g whole most old new seat s o keeps seated last plays told =
     plays most (omega arith) o told
 
 -- A player that was new has played piece 0.
-pub walk_starts : {F : Type 0} (showing : ShowSteps) (g : Story) (seed most : ℕ) (old new : Standing) (fresh seat : PlayerView F) (s : Step)
+pub walk_starts : {F : Type 0} (showing : ShowSteps) (g : Story) (seed : Seed) (most : ℕ) (old new : Standing) (fresh seat : PlayerView F) (s : Step)
     (o : Option PlayEnd) → IsNew fresh seed → KeepsShown showing seat.machine.steps.most → IsSeated seat → seat.last ≡ s →
     PlaysTo g (reading g fresh.world.seed) s seat [] [] → ShowsStep old new (seat_text showing seat) s o →
     WalksTo showing g (reading g seed) most old new seat 0 o

@@ -1,7 +1,7 @@
 -- The bytes of a session's store, commit by commit.
 use Rattle.std.proofs.Common.{◌≡◌, ℕ, suc, ◌+◌, List, [], ◌∷◌, ◌++◌, refl, ap, ◌∙◌, length, arith}
 use Rattle.std.specs.Prelude.{◌-◌}
-use Rattle.paw_base.specs.Bytes.{zeros}
+use Rattle.paw_base.specs.Bytes.{Bytes, Lines, zeros}
 use Rattle.paw_reading.specs.Turn.{Ending, pieces_of}
 use Rattle.paw_journal.specs.Session.{Digests, Shown, recover, recover_by, base_length, state_length, made_session}
 use Rattle.paw_journal.specs.Session.{session_committed}
@@ -19,13 +19,13 @@ shown_piece_is : (d : Digests) (a p b q : List ℕ) → Shown d a p ≡ Shown d 
 shown_piece_is d a p b q e = cc
 
 -- A session that keeps a reading has the state and the piece of it.
-base_is : (digests : Digests) (events : ℕ) (e : Ending) (state piece : List ℕ) → IsKept digests events e (Shown digests state piece) →
+base_is : (digests : Digests) (events : ℕ) (e : Ending) (state piece : Bytes) → IsKept digests events e (Shown digests state piece) →
     state ++ zeros (base_length - state_length) ≡ base_after events e
 base_is digests events e state piece k =
     ap (λ x. x ++ zeros (base_length - state_length))
     (shown_state_is digests state piece (state_after events e) (last_piece (pieces_of e)) k.shown)
 
-piece_is : (digests : Digests) (events : ℕ) (e : Ending) (state piece : List ℕ) → IsKept digests events e (Shown digests state piece) →
+piece_is : (digests : Digests) (events : ℕ) (e : Ending) (state piece : Bytes) → IsKept digests events e (Shown digests state piece) →
     piece ≡ last_piece (pieces_of e)
 piece_is digests events e state piece k = shown_piece_is digests state piece (state_after events e) (last_piece (pieces_of e)) k.shown
 
@@ -39,7 +39,7 @@ pub made_same : (digests : Digests) (state base piece last : List ℕ) → state
 made_same digests state base piece last e f = ap (λ x. made_session digests x piece) e ∙ ap (λ x. made_session digests base x) f
 
 -- One commit more.
-pub more_bytes : (s : PlayedSession) (n : ℕ) (lines : List (List ℕ)) (state piece begun old new : List ℕ) →
+pub more_bytes : (s : PlayedSession) (n : ℕ) (lines : Lines) (state piece begun old new : List ℕ) →
     IsKept s.digests (s.before + suc n) (s.whole (first_lines (suc n) lines)) (Shown s.digests state piece) →
     new ≡ session_committed (state ++ zeros (base_length - state_length)) piece old → old ≡ store_bytes_after s lines n begun →
     new ≡ store_bytes_after s lines (suc n) begun
@@ -51,7 +51,7 @@ more_bytes s n lines state piece begun old new k wrote before =
     (piece_is s.digests (s.before + suc n) e state piece k) before
 
 -- A session that was made in a store that had no bytes.
-pub made_bytes : (s : PlayedSession) (state piece old new : List ℕ) → IsKept s.digests 0 (s.whole []) (Shown s.digests state piece) →
+pub made_bytes : (s : PlayedSession) (state piece old new : Bytes) → IsKept s.digests 0 (s.whole []) (Shown s.digests state piece) →
     length old ≡ 0 → new ≡ made_session s.digests (state ++ zeros (base_length - state_length)) piece → new ≡ bytes_before s old
 made_bytes s state piece [] new k empty made =
     made ∙ made_same s.digests (state ++ zeros (base_length - state_length)) (base_after 0 (s.whole [])) piece (last_piece (pieces_of (s.whole [])))
@@ -59,7 +59,7 @@ made_bytes s state piece [] new k empty made =
 made_bytes s state piece (b ∷ old) new k empty made = absurd (omega (arith, empty))
 
 -- A store that had some, which show a session.
-pub had_bytes : (s : PlayedSession) (kept : Digests) (state piece bytes : List ℕ) → recover bytes ≡ Shown kept state piece → bytes ≡ bytes_before s bytes
+pub had_bytes : (s : PlayedSession) (kept : Digests) (state piece bytes : Bytes) → recover bytes ≡ Shown kept state piece → bytes ≡ bytes_before s bytes
 unfolding recover recover_by
 had_bytes s kept state piece [] e = cc
 had_bytes s kept state piece (b ∷ bytes) e = refl

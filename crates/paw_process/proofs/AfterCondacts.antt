@@ -3,6 +3,7 @@ use Rattle.std.proofs.Common.{◌≡◌, ℕ, ◌<◌, ◌≤◌, ◌+◌, List,
 use Rattle.std.specs.Prelude.{IfSome, IfNone}
 use Rattle.std.specs.Option.{option_map}
 use Rattle.std.specs.Fn.{Shared}
+use Rattle.paw_base.specs.Bytes.{RoutineAnswers}
 use Rattle.paw_base.specs.declared.limits.TheConstants.{ENTRY_LIMIT}
 use Rattle.paw_base.specs.declared.flags.TheConstants.{VERB_FLAG, NOUN_FLAG}
 use Rattle.paw_game.specs.declared.cursor.CondactCursor.{CondactCursor}
@@ -138,7 +139,7 @@ module _ {F : Type 0} (calls : Shared F (ℕ × (ℕ × Unit {0})) ℕ) (routine
   -- After a condact reading goes on at another frame.
   pub table_goes_on : (start : Frame) (first : Held) (f : Frame) (now : Held) (next : Frame) (new : Held)
       → IsInTable calls routines g start first reading_at f now
-      → ((X : List (List ℕ)) → AreAnswersOf calls routines X
+      → ((X : RoutineAnswers) → AreAnswersOf calls routines X
       → ReadsTable (story_of g X) (reading_at (story_of g X) (below now.machine.frames) f) now None (record new { machine = with_frame next new.machine }))
       → HasStepped g now None new → Progress (with_frame f now.machine) (with_frame next new.machine)
       → IsInTable calls routines g start first going_at next new

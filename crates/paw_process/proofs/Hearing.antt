@@ -1,5 +1,6 @@
 -- Answers at the prompts inside tables.
-use Rattle.std.proofs.Common.{◌≡◌, ℕ, Bool, true, false, List, ◌∷◌, refl, sym, ap, ◌∙◌, length, reverse, add-one}
+use Rattle.std.proofs.Common.{◌≡◌, Bool, true, false, List, ◌∷◌, refl, sym, ap, ◌∙◌, length, reverse, add-one}
+use Rattle.paw_base.specs.Bytes.{Line, Lines}
 use Rattle.paw_base.specs.declared.limits.TheConstants.{ENTRY_LIMIT}
 use Rattle.paw_effects.specs.Story.{Story}
 use Rattle.paw_game.specs.Valid.{Valid}
@@ -17,19 +18,19 @@ use Rattle.paw_process.specs.inner.Meaning.{to_come, going_in, AnswersQuit, Answ
 use Rattle.paw_process.specs.inner.Moves.{loop_resolved, past_of, after_quit, after_key}
 
 -- A line that isn't ignored is heard, and answers.
-hears : (g : Story) (p : Prompt) (f : Frame) (go : Bool → Run → Out) (r : Run) (line : List ℕ) (lines : List (List ℕ))
+hears : (g : Story) (p : Prompt) (f : Frame) (go : Bool → Run → Out) (r : Run) (line : Line) (lines : Lines)
     → is_ignored r.world line ≡ false
     → prompt_asked g p f go (to_come (line ∷ lines) r) (line ∷ lines) ≡ prompt_answered g p f go (reply line) (with_line_heard line (to_come lines r))
 unfolding prompt_asked
 hears g p f go r line lines h = rw h refl
 
-heard_at : (g : Story) (p : Prompt) (f : Frame) (fs : List Frame) (r : Run) (line : List ℕ) (lines : List (List ℕ)) → is_ignored r.world line ≡ false
+heard_at : (g : Story) (p : Prompt) (f : Frame) (fs : List Frame) (r : Run) (line : Line) (lines : Lines) → is_ignored r.world line ≡ false
     → on_path g p 0 (reverse (f ∷ fs)) (to_come (line ∷ lines) r)
     ≡ loop_resolved g fs (prompt_answered g p f (past_of g fs f) (reply line) (with_line_heard line (to_come lines r)))
 heard_at g p f fs r line lines h =
     on_path_reverse g p f fs (to_come (line ∷ lines) r) ∙ ap (loop_resolved g fs) (hears g p f (past_of g fs f) r line lines h)
 
-quits : (g : Story) (f : Frame) (fs : List Frame) (line : List ℕ) (r : Run) (agrees : Bool) → Valid g.game → is_yes (reply line) ≡ agrees
+quits : (g : Story) (f : Frame) (fs : List Frame) (line : Line) (r : Run) (agrees : Bool) → Valid g.game → is_yes (reply line) ≡ agrees
     → loop_resolved g fs (prompt_answered g prompt.Quit f (past_of g fs f) (reply line) r) ≡ going_in g (after_quit agrees f ∷ fs) r
 quits g f fs line r true v h = rw (h, add-one) refl
 quits g f fs line r false v h =

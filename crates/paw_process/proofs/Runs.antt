@@ -1,6 +1,7 @@
 -- A run, step by step.
-use Rattle.std.proofs.Common.{ℕ, List, Some, None, refl, ◌∙◌, arith}
+use Rattle.std.proofs.Common.{ℕ, Some, None, refl, ◌∙◌, arith}
 use Rattle.std.specs.Fn.{Shared}
+use Rattle.paw_base.specs.Bytes.{RoutineAnswers}
 use Rattle.paw_game.specs.Game.{GameLists}
 use Rattle.paw_routines.specs.declared.routines.Routines.{Routines}
 use Rattle.paw_routines.specs.Routines.{AreAnswersOf}
@@ -23,7 +24,7 @@ module _ {F : Type 0} (calls : Shared F (ℕ × (ℕ × Unit {0})) ℕ) (routine
   }
 
   pub running_on : (first now new : Held) → IsRunning calls routines g first now
-      → ((X : List (List ℕ)) → AreAnswersOf calls routines X → ReadsTable (story_of g X) (going_in (story_of g X) now.machine.frames) now None new)
+      → ((X : RoutineAnswers) → AreAnswersOf calls routines X → ReadsTable (story_of g X) (going_in (story_of g X) now.machine.frames) now None new)
       → IsReading new.machine → IsAfterReading g now new → IsRunning calls routines g first new
   running_on first now new h reads reading after = record {
     reads = λ X answers.
@@ -33,7 +34,7 @@ module _ {F : Type 0} (calls : Shared F (ℕ × (ℕ × Unit {0})) ℕ) (routine
   }
 
   pub running_ends : (first now : Held) (t : Turned) (new : Held) → IsRunning calls routines g first now
-      → (X : List (List ℕ)) → AreAnswersOf calls routines X
+      → (X : RoutineAnswers) → AreAnswersOf calls routines X
       → ReadsTable (story_of g X) (going_in (story_of g X) now.machine.frames) now (Some t) new → RunsTo (story_of g X) first t new
   running_ends first now t new h X answers reads =
       runs_to (story_of g X) first t new

@@ -3,6 +3,7 @@ use Rattle.std.proofs.Common.{◌≡◌, ℕ, suc, ◌+◌, ◌≤◌, ◌<◌, 
 use Rattle.std.proofs.Common.{sym, ap, ◌∙◌, subst, length, arith}
 use Rattle.std.specs.Prelude.{nat_le, reverse}
 use Rattle.std.proofs.lemmas.Bool.Decides.{nat_tests}
+use Rattle.paw_base.specs.Bytes.{Bytes, Text}
 use Rattle.paw_base.specs.declared.fault.SpentKind.TheVariants as spent
 use Rattle.paw_base.specs.inner.Piece.{Puts}
 use Rattle.paw_base.specs.declared.limits.TheConstants.{PIECE_LIMIT, LEVEL_LIMIT}
@@ -50,24 +51,24 @@ call_goes g fs u r some low =
 
 -- ---- prompts ----
 
-pub no_fit : (r : Run) (text : List ℕ) (go : Run → Out) → PIECE_LIMIT < length r.current + length text →
+pub no_fit : (r : Run) (text : Text) (go : Run → Out) → PIECE_LIMIT < length r.current + length text →
     printing text go r ≡ halts (halt.Spent spent.Text) r
 no_fit r text go h =
     let t : nat_le (length r.current + length text) PIECE_LIMIT ≡ false = grind (arith, nat_tests) in rw t refl
 
-pub fit : (r : Run) (text : List ℕ) (go : Run → Out) → length r.current + length text ≤ PIECE_LIMIT
+pub fit : (r : Run) (text : Text) (go : Run → Out) → length r.current + length text ≤ PIECE_LIMIT
     → printing text go r ≡ go (text_printed text r)
 fit r text go h =
     let t : nat_le (length r.current + length text) PIECE_LIMIT ≡ true = grind (arith, nat_tests) in rw t refl
 
 -- The question doesn't fit.
-pub ask_spent : (g : Story) (fs : List Frame) (text : List ℕ) (go : Run → Out) (r : Run) →
+pub ask_spent : (g : Story) (fs : List Frame) (text : Text) (go : Run → Out) (r : Run) →
     PIECE_LIMIT < length r.current + length text
     → loop_resolved g fs (printing text go r) ≡ halts (halt.Spent spent.Text) r
 ask_spent g fs text go r h = ap (loop_resolved g fs) (no_fit r text go h) ∙ along_stopped g fs (Halts (halt.Spent spent.Text)) r
 
 -- The question is put, and the run goes on at the prompt along the frames.
-pub ask_waits : (g : Story) (fs old : List Frame) (f : Frame) (p : Prompt) (text piece : List ℕ) (r : Run) → old ≡ f ∷ fs
+pub ask_waits : (g : Story) (fs old : List Frame) (f : Frame) (p : Prompt) (text piece : Text) (r : Run) → old ≡ f ∷ fs
     → length r.current + length text ≤ PIECE_LIMIT → piece ≡ r.current ++ text
     → loop_resolved g fs (printing text (waits g p f (past_of g fs f)) r) ≡ on_path g p 0 (reverse old) (piece_closed (record r { current = piece }))
 ask_waits g fs old f p text piece r top h is =
@@ -75,11 +76,11 @@ ask_waits g fs old f p text piece r top h is =
     ∙ (settled_waits g fs f p (text_printed text r) ∙ rw (top, is) refl)
 
 -- What stands where text was put or not.
-pub put_no : (old new text : List ℕ) (ok : Bool) → Puts old new ok text → ok ≡ false
+pub put_no : (old new text : Bytes) (ok : Bool) → Puts old new ok text → ok ≡ false
     → PIECE_LIMIT < length old + length text
 put_no old new text ok h e = rw e at h
 
-pub put_yes : (old new text : List ℕ) (ok : Bool) → Puts old new ok text → ok ≡ true
+pub put_yes : (old new text : Bytes) (ok : Bool) → Puts old new ok text → ok ≡ true
     → (new ≡ old ++ text) × (length old + length text ≤ PIECE_LIMIT)
 put_yes old new text ok h e = rw e at h
 
@@ -87,7 +88,7 @@ put_yes old new text ok h e = rw e at h
 pub goes_from : (g : Story) (x y : Out) (t : Option Turned) (fs : List Frame) (r : Run) → x ≡ y → Continues g y t fs r → Continues g x t fs r
 goes_from g x y t fs r e h = subst (λ (z : Out). Continues g z t fs r) (sym e) h
 
-pub ask_stops : (g : Story) (fs : List Frame) (text : List ℕ) (go : Run → Out) (r : Run) (t : Option Turned) (fs' : List Frame) (s : Run)
+pub ask_stops : (g : Story) (fs : List Frame) (text : Text) (go : Run → Out) (r : Run) (t : Option Turned) (fs' : List Frame) (s : Run)
     → t ≡ Some (turned.Halted (halt.Spent spent.Text)) → PIECE_LIMIT < length r.current + length text → SamePast s r
     → Continues g (loop_resolved g fs (printing text go r)) t fs' s
 ask_stops g fs text go r t fs' s e h past =

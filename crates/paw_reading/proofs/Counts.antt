@@ -1,6 +1,7 @@
 -- Reading closes one piece for each line, and one before them.
-use Rattle.std.proofs.Common.{◌≡◌, ℕ, zero, suc, ◌+◌, ◌-◌, Bool, true, false, ◌||◌, List, [], ◌∷◌, Option, Some, None}
+use Rattle.std.proofs.Common.{◌≡◌, ℕ, zero, suc, ◌+◌, ◌-◌, Bool, true, false, ◌||◌, [], ◌∷◌, Option, Some, None}
 use Rattle.std.proofs.Common.{refl, length, arith, length-append}
+use Rattle.paw_base.specs.Bytes.{Line, Lines, Text}
 use Rattle.paw_base.specs.declared.parts.Condact.{Condact}
 use Rattle.paw_base.specs.declared.fault.SpentKind.TheVariants as spent
 use Rattle.paw_base.specs.declared.flags.TheConstants.{LOCATION_FLAG, VERB_FLAG}
@@ -92,13 +93,13 @@ over_counts g v r k =
     let last : Run = without_loop (line_dropped (text_printed (goodbye g r) r)) in
     prints (Counts v) (goodbye g r) game_over r (omega (arith, closed_counts last, k)) k
 
-answered_counts : (g : Story) (p : Prompt) (f : Frame) (go : Bool → Run → Out) → AreCounting go → (line : List ℕ) → IsCounting (prompt_answered g p f go line)
+answered_counts : (g : Story) (p : Prompt) (f : Frame) (go : Bool → Run → Out) → AreCounting go → (line : Line) → IsCounting (prompt_answered g p f go line)
 answered_counts g prompt.Quit f go h line v r k = either (Counts v) (is_yes line) _ (Left true r) (h f.acted v r k) k
 answered_counts g prompt.Again f go h line v r k =
     either (Counts v) (is_no line) (over g r) (Stopped Restarts (anew r)) (over_counts g v r k) k
 answered_counts g _ f go h line v r k = h true v r k
 
-asked_counts : (g : Story) (p : Prompt) (f : Frame) (go : Bool → Run → Out) → AreCounting go → (v : ℕ) (r : Run) (lines : List (List ℕ)) →
+asked_counts : (g : Story) (p : Prompt) (f : Frame) (go : Bool → Run → Out) → AreCounting go → (v : ℕ) (r : Run) (lines : Lines) →
     length r.pieces + length lines ≡ suc v → Counts v (prompt_asked g p f go r lines)
 unfolding prompt_asked
 asked_counts g p f go h v r [] k = (refl, k)
@@ -179,7 +180,7 @@ table_counts g t = reads_count g (deeper g 0) 0 (called_counts g LEVEL_LIMIT 0) 
 abbrev TurnsCounting : (Run → Ending) → Type 0
 TurnsCounting go = (v : ℕ) (r : Run) → count r ≡ v → Counted v (go r)
 
-saying_counts : (text : List ℕ) (go : Run → Ending) → TurnsCounting go → TurnsCounting (saying text go)
+saying_counts : (text : Text) (go : Run → Ending) → TurnsCounting go → TurnsCounting (saying text go)
 saying_counts text go h v r k =
     either (Counted v) (fits r text) _ (Halted (halt.Spent spent.Text) r) (h v (text_printed text r) k) k
 
@@ -206,7 +207,7 @@ module _ (g : Story) (go : TurnPhase → Run → Ending) (counts : (s : TurnPhas
   read_counts : (t : ℕ) → TurnsCounting (λ r. table_done g go t (table_read g t r))
   read_counts t v r k = table_done_counts t v (table_read g t r) (table_counts g t v r k)
 
-  at_main_counts : (v : ℕ) (r : Run) (lines : List (List ℕ)) → length r.pieces + length lines ≡ suc v → Counted v (at_main g go r lines)
+  at_main_counts : (v : ℕ) (r : Run) (lines : Lines) → length r.pieces + length lines ≡ suc v → Counted v (at_main g go r lines)
   unfolding at_main
   at_main_counts v r [] k = (refl, k)
   at_main_counts v r (line ∷ lines) k =

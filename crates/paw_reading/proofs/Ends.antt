@@ -3,6 +3,7 @@ use Rattle.std.proofs.Common.{◌≡◌, ◌≢◌, ℕ, zero, suc, ◌+◌, ◌
 use Rattle.std.proofs.Common.{inl, inr, Option}
 use Rattle.std.proofs.Common.{Some, None, refl, sym, ◌∙◌, length, arith}
 use Rattle.std.specs.Prelude.{if◌then◌else◌}
+use Rattle.paw_base.specs.Bytes.{Lines, Text}
 use Rattle.paw_base.specs.declared.fault.SpentKind.TheVariants as spent
 use Rattle.paw_base.specs.declared.flags.TheConstants.{LOCATION_FLAG, VERB_FLAG, PRONOUN_NOUN_FLAG}
 use Rattle.paw_base.specs.declared.flags.TheConstants.{PRONOUN_ADJECTIVE_FLAG}
@@ -50,7 +51,7 @@ needed_granted AtResponse r = omega arith
 abbrev pub EndsWithin : ℕ → (TurnPhase → Run → Ending) → Type 0
 EndsWithin n go = (s : TurnPhase) (r : Run) → phases_needed s r ≤ n → go s r ≢ Unended
 
-saying_ends : (text : List ℕ) (go : Run → Ending) (r : Run) → go (text_printed text r) ≢ Unended → saying text go r ≢ Unended
+saying_ends : (text : Text) (go : Run → Ending) (r : Run) → go (text_printed text r) ≢ Unended → saying text go r ≢ Unended
 saying_ends text go r h = by_test (fits r text)
   where
     by_test : (b : Bool) → (if b then go (text_printed text r) else Halted (halt.Spent spent.Text) r) ≢ Unended
@@ -92,7 +93,7 @@ table_done_ends g n go h t v k (Stopped Restarts r) s = h AtDescribe r (omega (a
 table_done_ends g n go h t v k (Stopped (Halts halt) r) s = λ e. cc
 table_done_ends g n go h t v k (Waits p path r) s = λ e. cc
 
-at_main_ends : (g : Story) (n : ℕ) (go : TurnPhase → Run → Ending) → EndsWithin n go → (r : Run) (lines : List (List ℕ)) →
+at_main_ends : (g : Story) (n : ℕ) (go : TurnPhase → Run → Ending) → EndsWithin n go → (r : Run) (lines : Lines) →
     4 * (length r.pending + brought lines) ≤ n →
     at_main g go r lines ≢ Unended
 unfolding at_main
@@ -176,7 +177,7 @@ going_on_ends g p path r = goes_on_ends g (phases_left r) p path r (omega arith)
 abbrev pub Refines : (TurnPhase → Run → Ending) → (TurnPhase → Run → Ending) → Type 0
 Refines go more = (s : TurnPhase) (r : Run) → go s r ≢ Unended → more s r ≡ go s r
 
-saying_more : (text : List ℕ) (go more : Run → Ending) (r : Run) → ((s : Run) → go s ≢ Unended → more s ≡ go s) → saying text go r ≢ Unended →
+saying_more : (text : Text) (go more : Run → Ending) (r : Run) → ((s : Run) → go s ≢ Unended → more s ≡ go s) → saying text go r ≢ Unended →
     saying text more r ≡ saying text go r
 saying_more text go more r h = by_test (fits r text)
   where
@@ -206,7 +207,7 @@ table_done_more g go more h t (Stopped Restarts r) k = h AtDescribe r k
 table_done_more g go more h t (Stopped (Halts halt) r) k = refl
 table_done_more g go more h t (Waits p path r) k = refl
 
-pub at_main_more : (g : Story) (go more : TurnPhase → Run → Ending) → Refines go more → (r : Run) (lines : List (List ℕ)) →
+pub at_main_more : (g : Story) (go more : TurnPhase → Run → Ending) → Refines go more → (r : Run) (lines : Lines) →
     at_main g go r lines ≢ Unended → at_main g more r lines ≡ at_main g go r lines
 unfolding at_main
 at_main_more g go more h r [] k = refl

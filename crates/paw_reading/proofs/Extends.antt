@@ -5,6 +5,7 @@ use Rattle.std.proofs.Common.{None, refl, sym, ap, ◌∙◌, length, arith, app
 use Rattle.std.specs.Prelude.{if◌then◌else◌, nat_lt}
 use Rattle.std.specs.Option.{option_map_or}
 use Rattle.std.proofs.lemmas.Option.{slice_get_past}
+use Rattle.paw_base.specs.Bytes.{Line, Lines, Text}
 use Rattle.paw_base.specs.declared.limits.TheConstants.{READ_LIMIT, LEVEL_LIMIT}
 use Rattle.paw_base.specs.declared.parts.Condact.{Condact}
 use Rattle.paw_base.specs.declared.fault.SpentKind.TheVariants as spent
@@ -45,11 +46,11 @@ use Rattle.paw_reading.proofs.Stops.{Stops, deeper_stops, path_stops}
 abbrev pub around : List (List ℕ) → List (List Step) → List (List ℕ) → Run → Run
 around ps ts lines r = record r { pieces = ps ++ r.pieces; traces = ts ++ r.traces; events = r.events ++ lines }
 
-closed_around : (ps : List (List ℕ)) (ts : List (List Step)) (lines : List (List ℕ)) (r : Run) →
+closed_around : (ps : List (List ℕ)) (ts : List (List Step)) (lines : Lines) (r : Run) →
     piece_closed (around ps ts lines r) ≡ around ps ts lines (piece_closed r)
 closed_around ps ts lines r = rw (append_assoc ps r.pieces (r.current ∷ []), append_assoc ts r.traces (r.read ∷ [])) refl
 
-module _ (g : Story) (ps : List (List ℕ)) (ts : List (List Step)) (lines : List (List ℕ)) where
+module _ (g : Story) (ps : List (List ℕ)) (ts : List (List Step)) (lines : Lines) where
   -- How a reading at a level ends with these pieces before it and these lines after it.
   abbrev pub extends : ℕ → Out → Out
   extends lv (Left a r) = Left a (around ps ts lines r)
@@ -86,7 +87,7 @@ module _ (g : Story) (ps : List (List ℕ)) (ts : List (List Step)) (lines : Lis
     settles_or true x x' y y' h k = h
     settles_or false x x' y y' h k = k
 
-    settles_printing : (text : List ℕ) (go : Run → Out) (r : Run) →
+    settles_printing : (text : Text) (go : Run → Out) (r : Run) →
         loops lv (go (around ps ts lines (text_printed text r))) ≡ settles lv (go (text_printed text r)) →
         loops lv (printing text go (around ps ts lines r)) ≡ settles lv (printing text go r)
     settles_printing text go r h =
@@ -111,14 +112,14 @@ module _ (g : Story) (ps : List (List ℕ)) (ts : List (List Step)) (lines : Lis
         settles_printing (goodbye g r) game_over r
         (ap (halts halt.Over) (closed_around ps ts lines (without_loop (line_dropped (text_printed (goodbye g r) r)))))
 
-    settles_answered : (p : Prompt) (f : Frame) (go : Bool → Run → Out) → ((a : Bool) → IsSettling lv (go a)) → (line : List ℕ) →
+    settles_answered : (p : Prompt) (f : Frame) (go : Bool → Run → Out) → ((a : Bool) → IsSettling lv (go a)) → (line : Line) →
         IsSettling lv (prompt_answered g p f go line)
     settles_answered prompt.Quit f go hg line r = settles_or (is_yes line) _ _ (go f.acted r) (Left true r) (hg f.acted r) refl
     settles_answered prompt.Again f go hg line r =
         settles_or (is_no line) _ _ (over g r) (Stopped Restarts (anew r)) (settles_over r) refl
     settles_answered _ f go hg line r = hg true r
 
-    settles_asked : (p : Prompt) (f : Frame) → ((a : Bool) → IsSettling lv (past_of lv f a)) → (r : Run) (es : List (List ℕ)) →
+    settles_asked : (p : Prompt) (f : Frame) → ((a : Bool) → IsSettling lv (past_of lv f a)) → (r : Run) (es : Lines) →
         loops lv (prompt_asked g p f (past_of lv f) (around ps ts lines (record r { events = es })) (es ++ lines))
         ≡ settles lv (prompt_asked g p f (past_of lv f) r es)
     unfolding prompt_asked

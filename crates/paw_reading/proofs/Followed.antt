@@ -2,6 +2,7 @@
 use Rattle.std.proofs.Common.{◌≡◌, ◌≢◌, ℕ, zero, suc, ◌+◌, Bool, true, false, List, [], ◌∷◌, ◌++◌, inl, inr, Option}
 use Rattle.std.proofs.Common.{Some, None, refl, sym, ◌∙◌, subst, arith}
 use Rattle.std.specs.Prelude.{if◌then◌else◌}
+use Rattle.paw_base.specs.Bytes.{Lines, Text}
 use Rattle.paw_base.specs.declared.fault.SpentKind.TheVariants as spent
 use Rattle.paw_base.specs.declared.flags.TheConstants.{LOCATION_FLAG, VERB_FLAG}
 use Rattle.paw_base.specs.declared.tables.TheConstants.{RESPONSE_TABLE, DESCRIBED_TABLE, FRAME_TABLE}
@@ -41,7 +42,7 @@ left_none : (a : Bool) (r : Run) → Keeps None (Left a r) → r.turning ≡ Non
 left_none a r (inl h) = h
 left_none a r (inr h) = h
 
-module _ (g : Story) (lines : List (List ℕ)) where
+module _ (g : Story) (lines : Lines) where
   -- Going on with these lines, in at most m phases more.
   abbrev pub goes_from : ℕ → Ending → Ending
   goes_from m (WaitsAt p path r) = goes_on g m p path (with_lines lines r)
@@ -55,7 +56,7 @@ module _ (g : Story) (lines : List (List ℕ)) where
   abbrev AreFollowing : ℕ → (TurnPhase → Run → Ending) → (TurnPhase → Run → Ending) → Type 0
   AreFollowing m go more = (s : TurnPhase) (r : Run) → r.turning ≡ None → Follows m (go s r) (more s (with_lines lines r))
 
-  saying_follows : (m : ℕ) (text : List ℕ) (go more : Run → Ending) (r : Run) →
+  saying_follows : (m : ℕ) (text : Text) (go more : Run → Ending) (r : Run) →
       Follows m (go (text_printed text r)) (more (with_lines lines (text_printed text r))) →
       Follows m (saying text go r) (saying text more (with_lines lines r))
   saying_follows m text go more r h = by_test (fits r text)
@@ -114,7 +115,7 @@ module _ (g : Story) (lines : List (List ℕ)) where
         (rest_stops g 0 t 0 0 false r)
         (rest_stays t g 0 t 0 0 (λ z. refl) false r (subst (IsLoopOf t) (sym none) tt)))
 
-    at_main_follows : (r : Run) (es : List (List ℕ)) → r.turning ≡ None →
+    at_main_follows : (r : Run) (es : Lines) → r.turning ≡ None →
         Follows m (at_main g go r es)
         (at_main g more (with_lines lines (record r { events = es })) (es ++ lines))
     unfolding at_main

@@ -5,6 +5,7 @@ use Rattle.std.proofs.Common.{sym, ap, ◌∙◌, subst, length, drop, slice_get
 use Rattle.std.specs.Prelude.{if◌then◌else◌, nat_lt, IfSome}
 use Rattle.std.proofs.lemmas.Bool.Decides.{nat_tests}
 use Rattle.std.proofs.lemmas.Option.{same_Some}
+use Rattle.paw_base.specs.Bytes.{Line, Lines}
 use Rattle.paw_base.specs.declared.limits.TheConstants.{READ_LIMIT, LEVEL_LIMIT}
 use Rattle.paw_base.specs.declared.codes.TheConstants.{QUIT, PROCESS, DOALL}
 use Rattle.paw_base.specs.declared.parts.Condact.{Condact}
@@ -225,7 +226,7 @@ module _ (g : Story) (v : Valid g.game) (ts : List ℕ) (lv : ℕ) (deep : lengt
   }
   after_call_held left f go c t own at is called h (Stopped stop r) k = k
 
-  answered_held : (p : Prompt) (f : Frame) (go : Bool → Run → Out) → GoesHeld (ts ++ u ∷ []) go → (line : List ℕ) (r : Run) → IsSound r
+  answered_held : (p : Prompt) (f : Frame) (go : Bool → Run → Out) → GoesHeld (ts ++ u ∷ []) go → (line : Line) (r : Run) → IsSound r
       → Inside (prompt_answered g p f go line r)
   answered_held prompt.Quit f go h line r k = either Inside (is_yes line) _ (Left true r) (h f.acted r k) k
   answered_held prompt.Again f go h line r k =
@@ -236,7 +237,7 @@ module _ (g : Story) (v : Valid g.game) (ts : List ℕ) (lv : ℕ) (deep : lengt
 
   asked_held : (p : Prompt) (f : Frame) (code : ℕ) (go : Bool → Run → Out) → AsksAt code p → f.table ≡ u → IsAt g.game code f.table f.entry f.at →
       GoesHeld (ts ++ u ∷ []) go
-      → (r : Run) (lines : List (List ℕ)) → IsSound r → Inside (prompt_asked g p f go r lines)
+      → (r : Run) (lines : Lines) → IsSound r → Inside (prompt_asked g p f go r lines)
   unfolding prompt_asked
   asked_held p f code go asks own at h r [] k = record {
     code = code;

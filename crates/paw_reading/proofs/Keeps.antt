@@ -1,11 +1,12 @@
 -- A table that is left has the loop with which it was begun, or none.
-use Rattle.std.proofs.Common.{◌≡◌, ℕ, zero, suc, ◌-◌, Bool, true, false, ◌||◌, List, [], ◌∷◌, Option, Some, None, ◌⊎◌}
+use Rattle.std.proofs.Common.{◌≡◌, ℕ, zero, suc, ◌-◌, Bool, true, false, ◌||◌, [], ◌∷◌, Option, Some, None, ◌⊎◌}
 use Rattle.std.proofs.Common.{inl, inr, refl, sym}
 use Rattle.std.proofs.Common.{ap, ◌∙◌, subst, length, arith}
 use Rattle.std.specs.Prelude.{◌==◌, if◌then◌else◌}
 use Rattle.std.specs.Option.{option_map_or}
 use Rattle.std.proofs.lemmas.Bool.Decides.{nat_tests}
 use Rattle.std.proofs.lemmas.Bool.{eqb-true}
+use Rattle.paw_base.specs.Bytes.{Line, Lines, Text}
 use Rattle.paw_base.specs.declared.limits.TheConstants.{LEVEL_LIMIT}
 use Rattle.paw_base.specs.declared.parts.Condact.{Condact}
 use Rattle.paw_base.specs.declared.fault.SpentKind.TheVariants as spent
@@ -68,7 +69,7 @@ either P true x y h k = h
 either P false x y h k = k
 
 -- What holds after a print, whether its text fits or not.
-pub prints : (P : Out → Type 0) (text : List ℕ) (go : Run → Out) (r : Run) → P (go (text_printed text r)) →
+pub prints : (P : Out → Type 0) (text : Text) (go : Run → Out) (r : Run) → P (go (text_printed text r)) →
     P (halts (halt.Spent spent.Text) r) → P (printing text go r)
 prints P text go r h k = either P (fits r text) (go (text_printed text r)) (halts (halt.Spent spent.Text) r) h k
 
@@ -118,7 +119,7 @@ after_call_keeps f go h o (Left b r) k = Keeps_from o r.turning _ k (h (f.acted 
 after_call_keeps f go h o (Waits p path r) k = tt
 after_call_keeps f go h o (Stopped stop r) k = tt
 
-answered_keeps : (g : Story) (p : Prompt) (f : Frame) (go : Bool → Run → Out) → GoesKeeping go → (line : List ℕ) (r : Run) →
+answered_keeps : (g : Story) (p : Prompt) (f : Frame) (go : Bool → Run → Out) → GoesKeeping go → (line : Line) (r : Run) →
     Keeps r.turning (prompt_answered g p f go line r)
 answered_keeps g prompt.Quit f go h line r = either (Keeps r.turning) (is_yes line) _ (Left true r) (h f.acted r) (inl refl)
 answered_keeps g prompt.Again f go h line r =
@@ -126,7 +127,7 @@ answered_keeps g prompt.Again f go h line r =
     either (Keeps r.turning) (is_no line) (over g r) (Stopped Restarts (anew r)) ends tt
 answered_keeps g _ f go h line r = h true r
 
-pub asked_keeps : (g : Story) (p : Prompt) (f : Frame) (go : Bool → Run → Out) → GoesKeeping go → (r : Run) (lines : List (List ℕ)) →
+pub asked_keeps : (g : Story) (p : Prompt) (f : Frame) (go : Bool → Run → Out) → GoesKeeping go → (r : Run) (lines : Lines) →
     Keeps r.turning (prompt_asked g p f go r lines)
 unfolding prompt_asked
 asked_keeps g p f go h r [] = tt

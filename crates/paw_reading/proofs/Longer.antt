@@ -1,5 +1,6 @@
 -- Reading with more lines, over the definitions.
-use Rattle.std.proofs.Common.{◌≡◌, ℕ, List, [], refl, ◌∙◌}
+use Rattle.std.proofs.Common.{◌≡◌, ℕ, [], refl, ◌∙◌}
+use Rattle.paw_base.specs.Bytes.{Lines}
 use Rattle.paw_effects.specs.Story.{Story}
 use Rattle.paw_reading.specs.Reading.{Out, Left, Waits, Stopped, rest_of_table}
 use Rattle.paw_reading.specs.GoingOn.{on_path}
@@ -7,7 +8,7 @@ use Rattle.paw_reading.specs.inner.GoingOn.{out_followed}
 use Rattle.paw_reading.specs.inner.Longer.{TablesGoOn, PathsGoOn}
 use Rattle.paw_reading.proofs.Extends.{extends, rest_extends, path_extends}
 
-pub extends_lines : (g : Story) (lines : List (List ℕ)) (lv : ℕ) (x : Out) → extends g [] [] lines lv x ≡ out_followed g lines lv x
+pub extends_lines : (g : Story) (lines : Lines) (lv : ℕ) (x : Out) → extends g [] [] lines lv x ≡ out_followed g lines lv x
 extends_lines g lines lv (Left a r) = refl
 extends_lines g lines lv (Waits p path r) = refl
 extends_lines g lines lv (Stopped stop r) = refl

@@ -4,6 +4,7 @@ use Rattle.std.proofs.Common.{sym, ap, ◌∙◌, append_assoc, append-nil}
 use Rattle.std.specs.Prelude.{if◌then◌else◌}
 use Rattle.std.specs.List.{concat}
 use Rattle.std.proofs.lemmas.List.Folds.{concat-append}
+use Rattle.paw_base.specs.Bytes.{Lines, Text}
 use Rattle.paw_base.specs.declared.fault.SpentKind.TheVariants as spent
 use Rattle.paw_base.specs.declared.flags.TheConstants.{LOCATION_FLAG, VERB_FLAG}
 use Rattle.paw_base.specs.declared.tables.TheConstants.{RESPONSE_TABLE, DESCRIBED_TABLE, FRAME_TABLE}
@@ -72,7 +73,7 @@ module _ (g : Story) (ps : List (List ℕ)) (ts : List (List Step)) where
 
   -- ---- turns ----
 
-  saying_past : (text : List ℕ) (go : Run → Ending) (r : Run) → go (with_past ps ts (text_printed text r)) ≡ ending_with_past ps ts (go (text_printed text r)) →
+  saying_past : (text : Text) (go : Run → Ending) (r : Run) → go (with_past ps ts (text_printed text r)) ≡ ending_with_past ps ts (go (text_printed text r)) →
       saying text go (with_past ps ts r) ≡ ending_with_past ps ts (saying text go r)
   saying_past text go r h = by_test (fits r text)
     where
@@ -107,7 +108,7 @@ module _ (g : Story) (ps : List (List ℕ)) (ts : List (List Step)) where
     read_past : (t : ℕ) (r : Run) → table_done g go t (table_read g t (with_past ps ts r)) ≡ ending_with_past ps ts (table_done g go t (table_read g t r))
     read_past t r = rw (table_past t r) (table_done_past t (table_read g t r))
 
-    at_main_past : (r : Run) (es : List (List ℕ)) →
+    at_main_past : (r : Run) (es : Lines) →
         at_main g go (with_past ps ts r) es ≡ ending_with_past ps ts (at_main g go r es)
     unfolding at_main
     at_main_past r [] = refl

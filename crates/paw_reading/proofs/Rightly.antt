@@ -4,6 +4,7 @@ use Rattle.std.proofs.Common.{None, refl, sym, ap}
 use Rattle.std.proofs.Common.{subst, length, arith, append-nil}
 use Rattle.std.specs.Prelude.{All}
 use Rattle.std.proofs.Math.ListN.{get_or}
+use Rattle.paw_base.specs.Bytes.{Lines, Text, Seed}
 use Rattle.paw_base.specs.declared.limits.TheConstants.{READ_LIMIT, LEVEL_LIMIT}
 use Rattle.paw_base.specs.declared.fault.SpentKind.TheVariants as spent
 use Rattle.paw_base.specs.declared.flags.TheConstants.{LOCATION_FLAG, VERB_FLAG, UNLIT_VIEW_FLAG, DARK_VIEW_FLAG}
@@ -113,7 +114,7 @@ module _ (g : Story) (v : Valid g.game) where
   abbrev GoRightly : (Run → Ending) → Type 0
   GoRightly go = (r : Run) → IsBetween r → IsRightly (go r)
 
-  saying_rightly : (text : List ℕ) (go : Run → Ending) → GoRightly go → GoRightly (saying text go)
+  saying_rightly : (text : Text) (go : Run → Ending) → GoRightly go → GoRightly (saying text go)
   saying_rightly text go h r k =
       let printed_so : IsBetween (text_printed text r) = record { of = k.of; none = k.none } in
       either IsRightly (fits r text) _ (Halted (halt.Spent spent.Text) r) (h (text_printed text r) printed_so) tt
@@ -149,7 +150,7 @@ module _ (g : Story) (v : Valid g.game) where
     read_rightly : (t : ℕ) → t ≤ FRAME_TABLE → GoRightly (λ r. table_done g go t (table_read g t r))
     read_rightly t low r k = table_done_rightly t low (table_read g t r) (table_held g v t r k.of k.none)
 
-    at_main_rightly : (r : Run) (lines : List (List ℕ)) → IsBetween r → r.pending ≡ [] → IsRightly (at_main g go r lines)
+    at_main_rightly : (r : Run) (lines : Lines) → IsBetween r → r.pending ≡ [] → IsRightly (at_main g go r lines)
     unfolding at_main
     at_main_rightly r [] k empty = (λ e. cc, record { places = (refl, k.none); line = λ e. empty })
     at_main_rightly r (line ∷ lines) k empty =
@@ -206,7 +207,7 @@ module _ (g : Story) (v : Valid g.game) where
 -- ---- all that holds ----
 
 -- The places, the line, and what is sound stand rightly.
-stands : (g : Story) (valid : ValidStory g) (seed n : ℕ) (p : Prompt) (path : List Frame) (r : Run) → IsPlacedRightly g.game p path r →
+stands : (g : Story) (valid : ValidStory g) (seed : Seed) (n : ℕ) (p : Prompt) (path : List Frame) (r : Run) → IsPlacedRightly g.game p path r →
     IsResting g.game seed n r
     → StandsRightly g.game p path r
 stands g valid seed n p path r at k = record {
@@ -219,12 +220,12 @@ stands g valid seed n p path r at k = record {
   read = k.read;
 }
 
-stop_rightly : (g : Story) (valid : ValidStory g) (seed n : ℕ) (e : Ending) → StopsPlaced g.game e → EndsSound g valid seed n e → StopsRightly g.game e
+stop_rightly : (g : Story) (valid : ValidStory g) (seed : Seed) (n : ℕ) (e : Ending) → StopsPlaced g.game e → EndsSound g valid seed n e → StopsRightly g.game e
 stop_rightly g valid seed n (WaitsAt p path r) at k = (at.0, stands g valid seed n p path r at.1 k)
 stop_rightly g valid seed n (Halted halt.Over r) at k = stands g valid seed n prompt.Over [] r at k
 stop_rightly g valid seed n _ at k = tt
 
-bounded : (g : GameLists) (seed n : ℕ) (r : Run) → IsResting g seed n r → IsBounded seed n r
+bounded : (g : GameLists) (seed : Seed) (n : ℕ) (r : Run) → IsResting g seed n r → IsBounded seed n r
 bounded g seed n r k = record {
   seeded = k.sound.world.seeded;
   draws = let none : length r.read ≡ 0 = ap length k.read in omega (arith, none, k.sound.world.draws);
@@ -232,7 +233,7 @@ bounded g seed n r k = record {
   traced = k.sound.traced;
 }
 
-stop_bounded : (g : Story) (valid : ValidStory g) (seed n : ℕ) (e : Ending) → EndsSound g valid seed n e → StopsBounded seed n e
+stop_bounded : (g : Story) (valid : ValidStory g) (seed : Seed) (n : ℕ) (e : Ending) → EndsSound g valid seed n e → StopsBounded seed n e
 stop_bounded g valid seed n (WaitsAt p path r) k = bounded g.game seed n r k
 stop_bounded g valid seed n (Halted halt.Over r) k = bounded g.game seed n r k
 stop_bounded g valid seed n _ k = tt
@@ -249,7 +250,7 @@ pub readings_are_bounded : ReadingsAreBounded
 readings_are_bounded g seed es valid lines = stop_bounded g valid seed 0 (reading g seed es) (reading_sounds g valid seed 0 es (are_lines es lines))
 
 -- A run that stands rightly is sound.
-rests : (g : GameLists) (seed n : ℕ) (p : Prompt) (path : List Frame) (r : Run) → StandsRightly g p path r → IsBounded seed n r → All IsLine r.events →
+rests : (g : GameLists) (seed : Seed) (n : ℕ) (p : Prompt) (path : List Frame) (r : Run) → StandsRightly g p path r → IsBounded seed n r → All IsLine r.events →
     IsResting g seed n r
 rests g seed n p path r k bound lines = record {
   sound = record {

@@ -2,6 +2,7 @@
 use Rattle.std.proofs.Common.{◌≡◌, ℕ, zero, suc, ◌-◌, Bool, true, false, ◌||◌, List, [], ◌∷◌, Option, Some, None, refl}
 use Rattle.std.proofs.Common.{ap, ◌∙◌, length, drop}
 use Rattle.std.specs.Prelude.{nat_lt}
+use Rattle.paw_base.specs.Bytes.{Line, Lines, Text}
 use Rattle.paw_base.specs.declared.limits.TheConstants.{READ_LIMIT, LEVEL_LIMIT}
 use Rattle.paw_base.specs.declared.parts.Condact.{Condact}
 use Rattle.paw_base.specs.declared.parts.ObjectFacts.{ObjectFacts}
@@ -104,14 +105,14 @@ module _ (g : Story) (never : NeverSaves g.game) (ks : List (Option Position)) w
 
   -- ---- prompts and phrases ----
 
-  answered_keeps : (p : Prompt) (f : Frame) (go : Bool → Run → Out) → GoesKeeping go → (line : List ℕ) (r : Run) → Is r →
+  answered_keeps : (p : Prompt) (f : Frame) (go : Bool → Run → Out) → GoesKeeping go → (line : Line) (r : Run) → Is r →
       Keeps (prompt_answered g p f go line r)
   answered_keeps prompt.Quit f go h line r k = either Keeps (is_yes line) _ (Left true r) (h f.acted r k) k
   answered_keeps prompt.Again f go h line r k =
       either Keeps (is_no line) (over g r) (Stopped Restarts (anew r)) (prints Keeps (goodbye g r) game_over r k k) k
   answered_keeps _ f go h line r k = h true r k
 
-  asked_keeps : (p : Prompt) (f : Frame) (go : Bool → Run → Out) → GoesKeeping go → (r : Run) (lines : List (List ℕ)) → Is r →
+  asked_keeps : (p : Prompt) (f : Frame) (go : Bool → Run → Out) → GoesKeeping go → (r : Run) (lines : Lines) → Is r →
       Keeps (prompt_asked g p f go r lines)
   unfolding prompt_asked
   asked_keeps p f go h r [] k = k
@@ -243,7 +244,7 @@ module _ (g : Story) (never : NeverSaves g.game) (ks : List (Option Position)) w
   abbrev GoEnding : (Run → Ending) → Type 0
   GoEnding go = (r : Run) → Is r → Ends (go r)
 
-  saying_ends : (text : List ℕ) (go : Run → Ending) → GoEnding go → GoEnding (saying text go)
+  saying_ends : (text : Text) (go : Run → Ending) → GoEnding go → GoEnding (saying text go)
   saying_ends text go h r k = either Ends (fits r text) _ (Halted (halt.Spent spent.Text) r) (h (text_printed text r) k) k
 
   module _ (go : TurnPhase → Run → Ending) (goes : (s : TurnPhase) → GoEnding (go s)) where
@@ -268,7 +269,7 @@ module _ (g : Story) (never : NeverSaves g.game) (ks : List (Option Position)) w
     read_ends : (t : ℕ) → GoEnding (λ r. table_done g go t (table_read g t r))
     read_ends t r k = table_done_ends t (table_read g t r) (table_keeps t r k)
 
-    at_main_ends : (r : Run) (lines : List (List ℕ)) → Is r → Ends (at_main g go r lines)
+    at_main_ends : (r : Run) (lines : Lines) → Is r → Ends (at_main g go r lines)
     unfolding at_main
     at_main_ends r [] k = k
     at_main_ends r (line ∷ lines) k =

@@ -7,6 +7,7 @@ use Rattle.std.specs.List.{list_all}
 use Rattle.std.proofs.Math.Nat.{min-le_left}
 use Rattle.std.proofs.lemmas.Bool.{ltb-true, leb-true}
 use Rattle.std.proofs.lemmas.List.Elements.{All-append}
+use Rattle.paw_base.specs.Bytes.{Bytes, Line, Lines, Text, Seed}
 use Rattle.paw_base.specs.declared.limits.TheConstants.{READ_LIMIT, ENTRY_LIMIT, PIECE_LIMIT, CONDACT_LIMIT}
 use Rattle.paw_base.specs.declared.limits.TheConstants.{LEVEL_LIMIT}
 use Rattle.paw_base.specs.declared.parts.Condact.{Condact}
@@ -75,7 +76,7 @@ abbrev pub AreLines : List (List ℕ) → Type 0
 AreLines [] = Unit {0}
 AreLines (line ∷ lines) = IsLine line × AreLines lines
 
-pub are_lines : (lines : List (List ℕ)) → All IsLine lines → AreLines lines
+pub are_lines : (lines : Lines) → All IsLine lines → AreLines lines
 are_lines [] all = tt
 are_lines (line ∷ lines) all = (all 0 [] (omega arith), are_lines lines (λ k d low. all (suc k) d (omega arith)))
 
@@ -83,7 +84,7 @@ no_line : IsLine []
 no_line = record { short = omega arith; bytes = λ k d low. absurd (omega arith) }
 
 -- A run of a game that is played: each piece drew at most 200,000 words, and what is kept of the run are bytes.
-pub record IsSound (g : GameLists) (seed base : ℕ) (r : Run) : Type 0 where
+pub record IsSound (g : GameLists) (seed : Seed) (base : ℕ) (r : Run) : Type 0 where
   pub world : IsWorldAt g seed (base + READ_LIMIT * length r.pieces + length r.read) r.world
   pub few : length r.read ≤ READ_LIMIT
   pub line : IsLine r.pending
@@ -94,12 +95,12 @@ pub record IsSound (g : GameLists) (seed base : ℕ) (r : Run) : Type 0 where
   pub traced : length r.traces ≡ length r.pieces
 
 -- Nothing of a piece is open.
-pub record IsResting (g : GameLists) (seed base : ℕ) (r : Run) : Type 0 where
+pub record IsResting (g : GameLists) (seed : Seed) (base : ℕ) (r : Run) : Type 0 where
   pub sound : IsSound g seed base r
   pub current : r.current ≡ []
   pub read : r.read ≡ []
 
-one_short : (piece : List ℕ) → length piece ≤ PIECE_LIMIT → All (λ q. length q ≤ PIECE_LIMIT) (piece ∷ [])
+one_short : (piece : Text) → length piece ≤ PIECE_LIMIT → All (λ q. length q ≤ PIECE_LIMIT) (piece ∷ [])
 one_short piece short zero d low = short
 one_short piece short (suc k) d low = absurd (omega arith)
 
@@ -108,7 +109,7 @@ kept_drop p zero xs all = all
 kept_drop p (suc n) [] all = all
 kept_drop p (suc n) (x ∷ xs) all = kept_drop p n xs (second_of_and (p x) _ all)
 
-module _ (g : Story) (valid : ValidStory g) (seed base : ℕ) where
+module _ (g : Story) (valid : ValidStory g) (seed : Seed) (base : ℕ) where
   abbrev v : Valid g.game
   v = valid.game
 
@@ -137,7 +138,7 @@ module _ (g : Story) (valid : ValidStory g) (seed base : ℕ) where
   -- ---- changes of a run ----
 
   -- With another world, another line, another verb before it and another loop.
-  changed : (r : Run) → Is r → (w : World) → IsWorldAt g.game seed (bound r) w → (line : List ℕ) → IsLine line → (earlier : ℕ) → earlier < 256 →
+  changed : (r : Run) → Is r → (w : World) → IsWorldAt g.game seed (bound r) w → (line : Line) → IsLine line → (earlier : ℕ) → earlier < 256 →
       (turning : Option OpenLoop) → Is (record r { world = w; pending = line; earlier = earlier; turning = turning })
   changed r k w world line is earlier small turning =
       record { world = world; few = k.few; line = is; earlier = small; text = k.text; pieces = k.pieces; lines = k.lines; traced = k.traced }
@@ -148,20 +149,20 @@ module _ (g : Story) (valid : ValidStory g) (seed base : ℕ) where
   no_loop : (r : Run) → Is r → (o : Option OpenLoop) → Is (record r { turning = o })
   no_loop r k o = changed r k r.world k.world r.pending k.line r.earlier k.earlier o
 
-  with_pending : (r : Run) → Is r → (line : List ℕ) → IsLine line → Is (record r { pending = line })
+  with_pending : (r : Run) → Is r → (line : Line) → IsLine line → Is (record r { pending = line })
   with_pending r k line is = changed r k r.world k.world line is r.earlier k.earlier r.turning
 
   dropped : (r : Run) → Is r → Is (line_dropped r)
   dropped r k = with_pending r k [] no_line
 
-  with_events : (r : Run) → Is r → (lines : List (List ℕ)) → AreLines lines → Is (record r { events = lines })
+  with_events : (r : Run) → Is r → (lines : Lines) → AreLines lines → Is (record r { events = lines })
   with_events r k lines are =
       record { world = k.world; few = k.few; line = k.line; earlier = k.earlier; text = k.text; pieces = k.pieces; lines = are; traced = k.traced }
 
-  resting_events : (r : Run) → Rests r → (lines : List (List ℕ)) → AreLines lines → Rests (record r { events = lines })
+  resting_events : (r : Run) → Rests r → (lines : Lines) → AreLines lines → Rests (record r { events = lines })
   resting_events r k lines are = record { sound = with_events r k.sound lines are; current = k.current; read = k.read }
 
-  printed_so : (r : Run) (text : List ℕ) → Is r → fits r text ≡ true → Is (text_printed text r)
+  printed_so : (r : Run) (text : Text) → Is r → fits r text ≡ true → Is (text_printed text r)
   printed_so r text k fit = record {
     world = k.world;
     few = k.few;
@@ -219,7 +220,7 @@ module _ (g : Story) (valid : ValidStory g) (seed base : ℕ) where
       low : (x : ℕ) → x % 128 < 256
       low x = omega arith
 
-  heard_so : (line : List ℕ) (r : Run) → Is r → Is (with_line_heard line r)
+  heard_so : (line : Line) (r : Run) → Is r → Is (with_line_heard line r)
   heard_so line r k = in_world r k (with_timeout (is_timeout line) r.world) (timeout_so (bound r) (is_timeout line) r.world k.world)
 
   anew_run : (r : Run) → Is r → Is (anew r)
@@ -234,7 +235,7 @@ module _ (g : Story) (valid : ValidStory g) (seed base : ℕ) where
       SECOND_ADJECTIVE_FLAG s.second_adjective b.second_adjective)
       PRONOUN_NOUN_FLAG s.pronoun_noun b.pronoun_noun) PRONOUN_ADJECTIVE_FLAG s.pronoun_adjective b.pronoun_adjective
 
-  left_line : (pending left : List ℕ) → IsRestOf pending left → IsLine pending → IsLine left
+  left_line : (pending left : Bytes) → IsRestOf pending left → IsLine pending → IsLine left
   left_line pending left at k = record {
     short = omega (arith, rest-shorter pending left at, k.short);
     bytes = rest-all (λ b. b < 256) pending left at k.bytes;
@@ -303,7 +304,7 @@ module _ (g : Story) (valid : ValidStory g) (seed base : ℕ) where
 
   -- ---- prompts ----
 
-  printing_sounds : (text : List ℕ) (go : Run → Out) → ((r : Run) → Is r → Sounds (go r)) → (r : Run) → Is r → Sounds (printing text go r)
+  printing_sounds : (text : Text) (go : Run → Out) → ((r : Run) → Is r → Sounds (go r)) → (r : Run) → Is r → Sounds (printing text go r)
   printing_sounds text go h r k =
       by_test Sounds (fits r text) _ (halts (halt.Spent spent.Text) r)
       (λ fit. h (text_printed text r) (printed_so r text k fit)) tt
@@ -313,14 +314,14 @@ module _ (g : Story) (valid : ValidStory g) (seed base : ℕ) where
       printing_sounds (goodbye g r) game_over
       (λ s j. closed_rests (without_loop (line_dropped s)) (no_loop (line_dropped s) (dropped s j) None)) r k
 
-  answered_sounds : (p : Prompt) (f : Frame) (go : Bool → Run → Out) → GoesSound go → (line : List ℕ) (r : Run) → Is r →
+  answered_sounds : (p : Prompt) (f : Frame) (go : Bool → Run → Out) → GoesSound go → (line : Line) (r : Run) → Is r →
       Sounds (prompt_answered g p f go line r)
   answered_sounds prompt.Quit f go h line r k = either Sounds (is_yes line) _ (Left true r) (h f.acted r k) k
   answered_sounds prompt.Again f go h line r k =
       either Sounds (is_no line) (over g r) (Stopped Restarts (anew r)) (over_sounds r k) (anew_run r k)
   answered_sounds _ f go h line r k = h true r k
 
-  asked_sounds : (p : Prompt) (f : Frame) (go : Bool → Run → Out) → GoesSound go → (r : Run) (lines : List (List ℕ)) → Rests r → AreLines lines →
+  asked_sounds : (p : Prompt) (f : Frame) (go : Bool → Run → Out) → GoesSound go → (r : Run) (lines : Lines) → Rests r → AreLines lines →
       Sounds (prompt_asked g p f go r lines)
   unfolding prompt_asked
   asked_sounds p f go h r [] k are = resting_events r k [] tt
@@ -341,7 +342,7 @@ module _ (g : Story) (valid : ValidStory g) (seed base : ℕ) where
   after_parse_sounds f next go hn hg r k (IsUnknown left) e = hg f.acted (record r { pending = left }) (unknown_so r k left e)
   after_parse_sounds f next go hn hg r k IsNoPhrase e = hg f.acted r k
 
-  dropped_if : (b : Bool) (line : List ℕ) → IsLine line → IsLine (if b then [] else line)
+  dropped_if : (b : Bool) (line : Line) → IsLine line → IsLine (if b then [] else line)
   dropped_if true line k = no_line
   dropped_if false line k = k
 
@@ -473,7 +474,7 @@ module _ (g : Story) (valid : ValidStory g) (seed base : ℕ) where
   one_of true x y h k = h refl
   one_of false x y h k = k
 
-  saying_sounds : (text : List ℕ) (go : Run → Ending) → TurnsSound go → TurnsSound (saying text go)
+  saying_sounds : (text : Text) (go : Run → Ending) → TurnsSound go → TurnsSound (saying text go)
   saying_sounds text go h r k =
       one_of (fits r text) _ (Halted (halt.Spent spent.Text) r) (λ fit. h (text_printed text r) (printed_so r text k fit)) tt
 
@@ -543,11 +544,11 @@ module _ (g : Story) (valid : ValidStory g) (seed base : ℕ) where
     read_sounds : (t : ℕ) → TurnsSound (λ r. table_done g go t (table_read g t r))
     read_sounds t r k = table_done_sounds t (table_read g t r) (table_sounds t r k)
 
-    line_set_so : (line : List ℕ) (r : Run) → IsLine line → Is r → Is (line_set line r)
+    line_set_so : (line : Line) (r : Run) → IsLine line → Is r → Is (line_set line r)
     line_set_so line r is k = changed r k _ (timeout_so (bound r) false r.world k.world) line is NO_WORD
         (omega arith) r.turning
 
-    at_main_sounds : (r : Run) (lines : List (List ℕ)) → Rests r → AreLines lines → EndsSound (at_main g go r lines)
+    at_main_sounds : (r : Run) (lines : Lines) → Rests r → AreLines lines → EndsSound (at_main g go r lines)
     unfolding at_main
     at_main_sounds r [] k are = resting_events r k [] tt
     at_main_sounds r (line ∷ lines) k are =
@@ -584,7 +585,7 @@ module _ (g : Story) (valid : ValidStory g) (seed base : ℕ) where
   turn_sounds (suc n) AtPhrase r k = after_phrase_sounds (turn g n) (turn_sounds n) r k (coming_phrase g r) refl
   turn_sounds (suc n) AtResponse r k = read_sounds (turn g n) (turn_sounds n) RESPONSE_TABLE r k
 
-  opening_so : (es : List (List ℕ)) → AreLines es → Is (opening g seed es)
+  opening_so : (es : Lines) → AreLines es → Is (opening g seed es)
   opening_so es are = record {
     world = later g.game v seed 0 _ (start_so g.game v seed) (bound (opening g seed es)) (omega arith);
     few = omega arith;
@@ -597,7 +598,7 @@ module _ (g : Story) (valid : ValidStory g) (seed base : ℕ) where
   }
 
   -- Where a reading stops nothing is open, and the run is sound.
-  pub reading_sounds : (es : List (List ℕ)) → AreLines es → EndsSound (reading g seed es)
+  pub reading_sounds : (es : Lines) → AreLines es → EndsSound (reading g seed es)
   reading_sounds es are = turn_sounds (phases_left (opening g seed es)) AtDescribe (opening g seed es) (opening_so es are)
 
   in_table_sounds : (n : ℕ) (p : Prompt) (path : List Frame) (r : Run) → Rests r → EndsSound (in_table g n p path r)

@@ -3,6 +3,7 @@ use Rattle.std.proofs.Common.{◌≡◌, ℕ, zero, suc, ◌+◌, ◌-◌, ◌�
 use Rattle.std.proofs.Common.{arith, length-append}
 use Rattle.std.specs.Prelude.{if◌then◌else◌, sum_by}
 use Rattle.std.proofs.lemmas.List.Sums.{sum_by-cons}
+use Rattle.paw_base.specs.Bytes.{Bytes, Line, Lines}
 use Rattle.paw_base.specs.declared.limits.TheConstants.{READ_LIMIT, LEVEL_LIMIT}
 use Rattle.paw_base.specs.declared.parts.Condact.{Condact}
 use Rattle.paw_base.specs.declared.fault.SpentKind.TheVariants as spent
@@ -43,7 +44,7 @@ abbrev pub brought : List (List ℕ) → ℕ
 brought lines = sum_by (λ line. length line + (READ_LIMIT + 1)) lines
 
 -- One line more brings so much more.
-pub brought_more : (line : List ℕ) (lines : List (List ℕ)) → brought (line ∷ lines) ≡ length line + (READ_LIMIT + 1) + brought lines
+pub brought_more : (line : Line) (lines : Lines) → brought (line ∷ lines) ≡ length line + (READ_LIMIT + 1) + brought lines
 brought_more line lines = sum_by-cons (λ l. length l + (READ_LIMIT + 1)) line lines
 
 -- What comes out leaves at most so much to read, and less where the turn begins anew.
@@ -98,7 +99,7 @@ after_call_spends f go h v (Stopped stop r) k = k
 over_spends : (g : Story) (v : ℕ) (r : Run) → Spends v (over g r)
 over_spends g v r = prints (Spends v) (goodbye g r) game_over r tt tt
 
-answered_spends : (g : Story) (p : Prompt) (f : Frame) (go : Bool → Run → Out) → AreSpending go → (line : List ℕ) (r : Run) (v : ℕ) →
+answered_spends : (g : Story) (p : Prompt) (f : Frame) (go : Bool → Run → Out) → AreSpending go → (line : Line) (r : Run) (v : ℕ) →
     left_to_read r < v → brought r.events + READ_LIMIT < v → Spends v (prompt_answered g p f go line r)
 answered_spends g prompt.Quit f go h line r v k n =
     either (Spends v) (is_yes line) _ (Left true r) (Spends_up (left_to_read r) v (omega arith) _ (h f.acted r)) (omega arith)
@@ -106,7 +107,7 @@ answered_spends g prompt.Again f go h line r v k n =
     either (Spends v) (is_no line) (over g r) (Stopped Restarts (anew r)) (over_spends g v r) (omega arith)
 answered_spends g _ f go h line r v k n = Spends_up (left_to_read r) v (omega arith) _ (h true r)
 
-pub asked_spends : (g : Story) (p : Prompt) (f : Frame) (go : Bool → Run → Out) → AreSpending go → (r : Run) (lines : List (List ℕ)) →
+pub asked_spends : (g : Story) (p : Prompt) (f : Frame) (go : Bool → Run → Out) → AreSpending go → (r : Run) (lines : Lines) →
     Spends (length r.pending + brought lines) (prompt_asked g p f go r lines)
 unfolding prompt_asked
 asked_spends g p f go h r [] = tt
@@ -156,7 +157,7 @@ module _ (g : Story) (sub : ℕ → Run → Out) (lv : ℕ) (calls : CallsSpendi
       (flag r.world PRONOUN_ADJECTIVE_FLAG)))
   after_action_spends f next go hn hg effect.Spent r = tt
 
-  dropped_less : (b : Bool) (bytes : List ℕ) → length (if b then [] else bytes) ≤ length bytes
+  dropped_less : (b : Bool) (bytes : Bytes) → length (if b then [] else bytes) ≤ length bytes
   dropped_less true bytes = omega arith
   dropped_less false bytes = omega arith
 

@@ -2,6 +2,7 @@
 use Rattle.std.proofs.Common.{◌≡◌, ℕ, zero, suc, ◌-◌, Bool, true, false, ◌||◌, List, [], ◌∷◌, Option, Some, None, refl}
 use Rattle.std.proofs.Common.{sym, ◌∙◌, subst, length}
 use Rattle.std.specs.Prelude.{if◌then◌else◌}
+use Rattle.paw_base.specs.Bytes.{Line, Lines}
 use Rattle.paw_base.specs.declared.limits.TheConstants.{LEVEL_LIMIT}
 use Rattle.paw_base.specs.declared.parts.Condact.{Condact}
 use Rattle.paw_base.specs.declared.fault.SpentKind.TheVariants as spent
@@ -86,7 +87,7 @@ module _ (t : ℕ) where
   after_call_stays lv f go own h (Waits p path r) k = record { inner = k.inner; first = own; loop = k.loop }
   after_call_stays lv f go own h (Stopped stop r) k = tt
 
-  answered_stays : (g : Story) (p : Prompt) (lv : ℕ) (f : Frame) (go : Bool → Run → Out) → GoesStaying lv go → (line : List ℕ) (r : Run) → IsLoopOf t r.turning
+  answered_stays : (g : Story) (p : Prompt) (lv : ℕ) (f : Frame) (go : Bool → Run → Out) → GoesStaying lv go → (line : Line) (r : Run) → IsLoopOf t r.turning
       → Stays t lv (prompt_answered g p f go line r)
   answered_stays g prompt.Quit lv f go h line r k = either (Stays t lv) (is_yes line) _ (Left true r) (h f.acted r k) k
   answered_stays g prompt.Again lv f go h line r k =
@@ -95,7 +96,7 @@ module _ (t : ℕ) where
   answered_stays g _ lv f go h line r k = h true r k
 
   asked_stays : (g : Story) (p : Prompt) (lv : ℕ) (f : Frame) (go : Bool → Run → Out) → IsInner p → IsOwn lv f.table → GoesStaying lv go
-      → (r : Run) (lines : List (List ℕ)) → IsLoopOf t r.turning → Stays t lv (prompt_asked g p f go r lines)
+      → (r : Run) (lines : Lines) → IsLoopOf t r.turning → Stays t lv (prompt_asked g p f go r lines)
   unfolding prompt_asked
   asked_stays g p lv f go inner own h r [] k = record { inner = inner; first = own; loop = k }
   asked_stays g p lv f go inner own h r (line ∷ lines) k =

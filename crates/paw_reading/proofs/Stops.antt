@@ -1,6 +1,7 @@
 -- Where reading stops: a wait has a table open and has taken every line, and where the turn begins anew no loop is
 -- open.
 use Rattle.std.proofs.Common.{◌≡◌, ◌≢◌, ℕ, zero, suc, ◌-◌, Bool, true, false, ◌||◌, List, [], ◌∷◌, None, refl, length}
+use Rattle.paw_base.specs.Bytes.{Line, Lines}
 use Rattle.paw_base.specs.declared.limits.TheConstants.{LEVEL_LIMIT}
 use Rattle.paw_base.specs.declared.parts.Condact.{Condact}
 use Rattle.paw_base.specs.declared.fault.SpentKind.TheVariants as spent
@@ -71,14 +72,14 @@ after_call_stops f go h (Stopped stop r) k = k
 
 -- ---- prompts ----
 
-answered_stops : (g : Story) (p : Prompt) (f : Frame) (go : Bool → Run → Out) → AreStopping go → (line : List ℕ) (r : Run) →
+answered_stops : (g : Story) (p : Prompt) (f : Frame) (go : Bool → Run → Out) → AreStopping go → (line : Line) (r : Run) →
     Stops (prompt_answered g p f go line r)
 answered_stops g prompt.Quit f go h line r = either Stops (is_yes line) _ (Left true r) (h f.acted r) tt
 answered_stops g prompt.Again f go h line r =
     either Stops (is_no line) (over g r) (Stopped Restarts (anew r)) (prints Stops (goodbye g r) game_over r tt tt) refl
 answered_stops g _ f go h line r = h true r
 
-asked_stops : (g : Story) (p : Prompt) (f : Frame) (go : Bool → Run → Out) → AreStopping go → (r : Run) (lines : List (List ℕ)) →
+asked_stops : (g : Story) (p : Prompt) (f : Frame) (go : Bool → Run → Out) → AreStopping go → (r : Run) (lines : Lines) →
     Stops (prompt_asked g p f go r lines)
 unfolding prompt_asked
 asked_stops g p f go h r [] = record { some = λ e. cc; none_left = refl }

@@ -4,6 +4,7 @@ use Rattle.std.proofs.Common.{None, length, map, take, drop, nat_le, refl, sym, 
 use Rattle.std.specs.Prelude.{All, if◌then◌else◌}
 use Rattle.std.proofs.lemmas.List.{length-take}
 use Rattle.std.proofs.lemmas.Bool.{leb-true}
+use Rattle.paw_base.specs.Bytes.{Line, ObjectPlaces}
 use Rattle.paw_base.specs.declared.limits.TheConstants.{OBJECT_LIMIT, LINE_LIMIT}
 use Rattle.paw_game.specs.Game.{GameLists}
 use Rattle.paw_game.specs.Valid.{Valid, is_place}
@@ -30,19 +31,19 @@ use Rattle.paw_state.proofs.Loops.{presence}
 -- ---- from fields ----
 
 -- Places without a fault: those of the objects, and zeros.
-pub objects_stand : (g : GameLists) (at : ℕ) (places : List ℕ) → places_fault g at places ≡ None
+pub objects_stand : (g : GameLists) (at : ℕ) (places : ObjectPlaces) → places_fault g at places ≡ None
     → first_not (is_place (length g.locations)) at (take (length g.objects) places) ≡ None
 objects_stand g at places h =
     (two (first_not (is_place (length g.locations)) at (take (length g.objects) places))
     (first_not is_zero (at + length g.objects) (drop (length g.objects) places)) h).0
 
-pub zeros_behind : (g : GameLists) (at : ℕ) (places : List ℕ) → places_fault g at places ≡ None
+pub zeros_behind : (g : GameLists) (at : ℕ) (places : ObjectPlaces) → places_fault g at places ≡ None
     → first_not is_zero (at + length g.objects) (drop (length g.objects) places) ≡ None
 zeros_behind g at places h =
     (two (first_not (is_place (length g.locations)) at (take (length g.objects) places))
     (first_not is_zero (at + length g.objects) (drop (length g.objects) places)) h).1
 
-pub places_back : (g : GameLists) (at : ℕ) (places : List ℕ) → Valid g → length places ≡ OBJECT_LIMIT → places_fault g at places ≡ None
+pub places_back : (g : GameLists) (at : ℕ) (places : ObjectPlaces) → Valid g → length places ≡ OBJECT_LIMIT → places_fault g at places ≡ None
     → filled_with_zeros OBJECT_LIMIT (take (length g.objects) places) ≡ places
 places_back g at places v size h = filled_take (at + length g.objects) (length g.objects) places size (few_objects g v) (zeros_behind g at places h)
 
@@ -81,7 +82,7 @@ code_back (suc (suc (suc zero))) low = refl
 code_back (suc (suc (suc (suc zero)))) low = refl
 code_back (suc (suc (suc (suc (suc n))))) low = absurd (omega (arith, low))
 
-pub line_length : (n : ℕ) (line : List ℕ) → length line ≡ LINE_LIMIT → n < 256 → length (take n line) ≡ n
+pub line_length : (n : ℕ) (line : Line) → length line ≡ LINE_LIMIT → n < 256 → length (take n line) ≡ n
 line_length n line size low = omega (arith, length-take n line)
 
 -- ---- from a state ----

@@ -4,6 +4,7 @@ use Rattle.std.proofs.Common.{Option, None, refl, ap, ◌∙◌}
 use Rattle.std.specs.Prelude.{All, flat_map}
 use Rattle.std.specs.Int.{w64, to_le_bytes}
 use Rattle.std.proofs.lemmas.List.{append_assoc}
+use Rattle.paw_base.specs.Bytes.{Bytes}
 use Rattle.paw_base.specs.declared.layout.TheConstants.{STATE_LENGTH}
 use Rattle.paw_base.specs.declared.limits.TheConstants.{POSITION_COUNT, FLAG_COUNT, OBJECT_LIMIT, LINE_LIMIT}
 use Rattle.paw_game.specs.Image.{two_bytes}
@@ -150,7 +151,7 @@ sized_by f (
   kept = λ k d less. sized_held _ (kept.1 k d less);
 }
 
-pub sized_at : (bytes : List ℕ) → STATE_LENGTH ≤ length bytes → AreBytes bytes → AreSized (fields_at bytes)
+pub sized_at : (bytes : Bytes) → STATE_LENGTH ≤ length bytes → AreBytes bytes → AreSized (fields_at bytes)
 sized_at bytes n h = sized_by (fields_at bytes) (fields_shape_sound.fit bytes 0 n h) (each_byte bytes h PENDING)
 
 -- ---- bytes ----
@@ -160,7 +161,7 @@ pub fields_cut : (f : Fields) (q : List ℕ) → AreSized f → fields_at (field
 fields_cut f q s = fields_shape_sound.back f (field_bytes f ++ q) q 0 (fits_of f s) refl
 
 -- The bytes of the fields that stand in some bytes are these bytes.
-pub fields_join : (bytes : List ℕ) → STATE_LENGTH ≤ length bytes → AreBytes bytes → field_bytes (fields_at bytes) ≡ take STATE_LENGTH bytes
+pub fields_join : (bytes : Bytes) → STATE_LENGTH ≤ length bytes → AreBytes bytes → field_bytes (fields_at bytes) ≡ take STATE_LENGTH bytes
 fields_join bytes n h = fields_shape_sound.read bytes 0 n h
 
 pub length-fields : (f : Fields) → AreSized f → length (field_bytes f) ≡ STATE_LENGTH

@@ -5,6 +5,7 @@ use Rattle.std.specs.Prelude.{All, flat_map, nat_le, nat_lt, is_some, if◌then�
 use Rattle.std.specs.Option.{option_map, option_map_or, option_or}
 use Rattle.std.proofs.lemmas.List.{length-append}
 use Rattle.std.proofs.lemmas.Bool.Decides.{nat_tests}
+use Rattle.paw_base.specs.Bytes.{Bytes, ObjectPlaces}
 use Rattle.paw_base.specs.declared.limits.TheConstants.{FLAG_COUNT}
 use Rattle.paw_base.specs.declared.codes.TheConstants.{PROCESS}
 use Rattle.paw_game.specs.Game.{GameLists}
@@ -92,14 +93,14 @@ step g at n xs ys x y e k h =
 -- ---- bytes ----
 
 -- Bytes without a rule.
-pub free : (g : GameLists) (at i : ℕ) (bs : List ℕ) → fault_from g at (one_by_one (λ i b g. true) i bs) ≡ None
+pub free : (g : GameLists) (at i : ℕ) (bs : Bytes) → fault_from g at (one_by_one (λ i b g. true) i bs) ≡ None
 unfolding fault_from one_by_one
 free g at i [] = refl
 free g at i (b ∷ bs) = free g (at + 1) (suc i) bs
 
 -- Bytes that have one rule from number n on.
 behind : (g : GameLists) (h : ℕ → ℕ → GameLists → Bool) (q : ℕ → Bool) (n : ℕ) → ((i b : ℕ) → n ≤ i → h i b g ≡ q b)
-    → (at i : ℕ) (bs : List ℕ) → n ≤ i → fault_from g at (one_by_one h i bs) ≡ first_not q at bs
+    → (at i : ℕ) (bs : Bytes) → n ≤ i → fault_from g at (one_by_one h i bs) ≡ first_not q at bs
 unfolding fault_from one_by_one first_not
 behind g h q n e at i [] low = refl
 behind g h q n e at i (b ∷ bs) low =
@@ -109,7 +110,7 @@ behind g h q n e at i (b ∷ bs) low =
 -- Bytes that have one rule up to number n, and another one from there on.
 pub parted : (g : GameLists) (h : ℕ → ℕ → GameLists → Bool) (p q : ℕ → Bool) (n : ℕ)
     → ((i b : ℕ) → suc i ≤ n → h i b g ≡ p b) → ((i b : ℕ) → n ≤ i → h i b g ≡ q b)
-    → (m at i : ℕ) (bs : List ℕ) → i + m ≡ n
+    → (m at i : ℕ) (bs : Bytes) → i + m ≡ n
     → fault_from g at (one_by_one h i bs) ≡ option_or (first_not p at (take m bs)) (first_not q (at + m) (drop m bs))
 unfolding fault_from one_by_one first_not
 parted g h p q n ep eq zero at i bs s =
@@ -130,12 +131,12 @@ parted g h p q n ep eq (suc m) at i (b ∷ bs) s = go (p b) (ep i b (omega (arit
         rw (e, k) (r ∙ ap (λ (j : ℕ). option_or (first_not p (suc at) (take m bs)) (first_not q j (drop m bs))) there)
     go false e r = rw e refl
 
-nothing : (at : ℕ) (bs : List ℕ) → first_not (λ b. true) at bs ≡ None
+nothing : (at : ℕ) (bs : Bytes) → first_not (λ b. true) at bs ≡ None
 unfolding first_not
 nothing at [] = refl
 nothing at (b ∷ bs) = nothing (suc at) bs
 
-pub places_same : (g : GameLists) (at : ℕ) (places : List ℕ) → fault_from g at (place_fields places) ≡ places_fault g at places
+pub places_same : (g : GameLists) (at : ℕ) (places : ObjectPlaces) → fault_from g at (place_fields places) ≡ places_fault g at places
 places_same g at places =
     let n = length g.objects in
     let p = is_place (length g.locations) in
@@ -158,7 +159,7 @@ there_joined n [] ys = refl
 there_joined n (x ∷ xs) ys =
     ap (λ (l : List Field). record x { holds = λ g. if n == 0 then x.value == 0 else x.holds g } ∷ l) (there_joined n xs ys)
 
-there_zero : (g : GameLists) (n : ℕ) (h : ℕ → ℕ → GameLists → Bool) (at i : ℕ) (bs : List ℕ) → (n == 0) ≡ true
+there_zero : (g : GameLists) (n : ℕ) (h : ℕ → ℕ → GameLists → Bool) (at i : ℕ) (bs : Bytes) → (n == 0) ≡ true
     → fault_from g at (if_there n (one_by_one h i bs)) ≡ first_not is_zero at bs
 unfolding fault_from if_there one_by_one first_not
 there_zero g n h at i [] e = refl

@@ -1,11 +1,12 @@
 -- Where no fault is found.
-use Rattle.std.proofs.Common.{◌≡◌, ℕ, zero, suc, ◌-◌, ◌≤◌, Bool, true, false, List, [], ◌∷◌, Option, Some, None, length}
+use Rattle.std.proofs.Common.{◌≡◌, ℕ, zero, suc, ◌-◌, ◌≤◌, Bool, true, false, [], ◌∷◌, Option, Some, None, length}
 use Rattle.std.proofs.Common.{take, drop, refl, sym, ap, ◌∙◌, arith}
 use Rattle.std.specs.Prelude.{All, IsTrue, if◌then◌else◌}
 use Rattle.std.proofs.lemmas.List.{length-take, length-drop, length-replicate, length-append, take-append-drop, take_at}
 use Rattle.std.proofs.lemmas.List.{drop_at}
 use Rattle.std.proofs.lemmas.List.Elements.{All-cons}
 use Rattle.std.proofs.lemmas.Bool.{eqb-true}
+use Rattle.paw_base.specs.Bytes.{Bytes}
 use Rattle.paw_state.specs.State.{zeros, filled_with_zeros}
 use Rattle.std.specs.Option.{option_or}
 use Rattle.paw_state.specs.inner.Faults.{rule, first, first_not, is_zero}
@@ -26,7 +27,7 @@ none_first a b h k = rw (h, k) refl
 
 -- ---- bytes that are so ----
 
-pub all_so : (p : ℕ → Bool) (at : ℕ) (bytes : List ℕ) → first_not p at bytes ≡ None → All (λ b. IsTrue (p b)) bytes
+pub all_so : (p : ℕ → Bool) (at : ℕ) (bytes : Bytes) → first_not p at bytes ≡ None → All (λ b. IsTrue (p b)) bytes
 unfolding first_not
 all_so p at [] h = λ k d low. absurd (omega (arith, low))
 all_so p at (b ∷ bs) h = go (all_so p (suc at) bs) (p b) refl h
@@ -36,7 +37,7 @@ all_so p at (b ∷ bs) h = go (all_so p (suc at) bs) (p b) refl h
     go later true e q = All-cons (λ x. IsTrue (p x)) b bs e (later q)
     go later false e q = cc
 
-pub none_not : (p : ℕ → Bool) (at : ℕ) (bytes : List ℕ) → All (λ b. IsTrue (p b)) bytes → first_not p at bytes ≡ None
+pub none_not : (p : ℕ → Bool) (at : ℕ) (bytes : Bytes) → All (λ b. IsTrue (p b)) bytes → first_not p at bytes ≡ None
 unfolding first_not
 none_not p at [] h = refl
 none_not p at (b ∷ bs) h =
@@ -45,7 +46,7 @@ none_not p at (b ∷ bs) h =
 
 -- ---- zeros ----
 
-pub zeros_are : (at : ℕ) (bytes : List ℕ) → first_not is_zero at bytes ≡ None → bytes ≡ zeros (length bytes)
+pub zeros_are : (at : ℕ) (bytes : Bytes) → first_not is_zero at bytes ≡ None → bytes ≡ zeros (length bytes)
 unfolding first_not zeros
 zeros_are at [] h = refl
 zeros_are at (b ∷ bs) h = go (zeros_are (suc at) bs) (is_zero b) refl h
@@ -67,7 +68,7 @@ length-zeros n = length-replicate n 0
 -- ---- bytes that are filled up ----
 
 -- Bytes of which the ones from n on are 0 are the first n, filled up.
-pub filled_take : (at n : ℕ) (bytes : List ℕ) → length bytes ≡ 255 → n ≤ 255 → first_not is_zero at (drop n bytes) ≡ None →
+pub filled_take : (at n : ℕ) (bytes : Bytes) → length bytes ≡ 255 → n ≤ 255 → first_not is_zero at (drop n bytes) ≡ None →
     filled_with_zeros 255 (take n bytes) ≡ bytes
 filled_take at n bytes size low h =
     let k : length (take n bytes) ≡ n = omega (arith, length-take n bytes) in
@@ -76,13 +77,13 @@ filled_take at n bytes size low h =
     rw k (rw (sym z) (take-append-drop n bytes))
 
 -- Bytes that were filled up are first themselves, and then zeros.
-pub take_filled : (n : ℕ) (bytes : List ℕ) → length bytes ≡ n → take n (filled_with_zeros 255 bytes) ≡ bytes
+pub take_filled : (n : ℕ) (bytes : Bytes) → length bytes ≡ n → take n (filled_with_zeros 255 bytes) ≡ bytes
 take_filled n bytes k = take_at bytes (zeros (255 - length bytes)) n k
 
-pub drop_filled : (n : ℕ) (bytes : List ℕ) → length bytes ≡ n → drop n (filled_with_zeros 255 bytes) ≡ zeros (255 - length bytes)
+pub drop_filled : (n : ℕ) (bytes : Bytes) → length bytes ≡ n → drop n (filled_with_zeros 255 bytes) ≡ zeros (255 - length bytes)
 drop_filled n bytes k = drop_at bytes (zeros (255 - length bytes)) n k
 
-pub length-filled : (bytes : List ℕ) → length bytes ≤ 255 → length (filled_with_zeros 255 bytes) ≡ 255
+pub length-filled : (bytes : Bytes) → length bytes ≤ 255 → length (filled_with_zeros 255 bytes) ≡ 255
 length-filled bytes low = omega (arith, length-append bytes (zeros (255 - length bytes)), length-zeros (255 - length bytes))
 
 -- ---- two faults ----

@@ -7,6 +7,7 @@ use Rattle.std.specs.Option.{option_or, unwrap_or}
 use Rattle.std.proofs.lemmas.List.{length-take}
 use Rattle.std.proofs.lemmas.List.Elements.{All-cons}
 use Rattle.std.proofs.lemmas.Bool.{eqb-true}
+use Rattle.paw_base.specs.Bytes.{Bytes, Line, ObjectPlaces}
 use Rattle.paw_base.specs.declared.limits.TheConstants.{OBJECT_LIMIT, FLAG_COUNT}
 use Rattle.paw_game.specs.Game.{GameLists}
 use Rattle.paw_game.specs.Valid.{Valid, is_place}
@@ -56,7 +57,7 @@ machine_sound g code k h = go (count_fits code k.count) refl h
 
 -- ---- fields without a fault say a state that follows its rules ----
 
-pub objects_length : (g : GameLists) (places : List ℕ) → Valid g → length places ≡ OBJECT_LIMIT → length (take (length g.objects) places) ≡ length g.objects
+pub objects_length : (g : GameLists) (places : ObjectPlaces) → Valid g → length places ≡ OBJECT_LIMIT → length (take (length g.objects) places) ≡ length g.objects
 objects_length g places v size = omega (arith, length-take (length g.objects) places, few_objects g v)
 
 pub held_kept : (g : GameLists) (at : ℕ) (h : PositionField) → Valid g → IsSizedPosition h → position_fault g at h ≡ None → IsHeldOf g (held_in (length g.objects) h)
@@ -82,13 +83,13 @@ kept_kept g at (k ∷ ks) v z h =
     All-cons (IsHeldOf g) (held_in (length g.objects) k) (map (held_in (length g.objects)) ks) (held_kept g at k v (z 0 k (omega arith)) p.0)
     (kept_kept g (at + POSITION_LENGTH) ks v (λ i d low. z (suc i) d (omega (arith, low))) p.1)
 
-pub line_kept : (code : Option ℕ) (n : ℕ) (line : List ℕ) → (is_some code || (n == 0)) ≡ true → IfNone code (take n line ≡ [])
+pub line_kept : (code : Option ℕ) (n : ℕ) (line : Line) → (is_some code || (n == 0)) ≡ true → IfNone code (take n line ≡ [])
 line_kept None n line h = let z : n ≡ 0 = eqb-true n 0 h in rw z refl
 line_kept (Some code) n line h = tt
 
 -- ---- the fields of a state that follows its rules have no fault ----
 
-pub places_sound : (g : GameLists) (at : ℕ) (places : List ℕ) → length places ≡ length g.objects → ArePlacesOf g places
+pub places_sound : (g : GameLists) (at : ℕ) (places : ObjectPlaces) → length places ≡ length g.objects → ArePlacesOf g places
     → places_fault g at (filled_with_zeros OBJECT_LIMIT places) ≡ None
 places_sound g at places size h =
     two_none (first_not (is_place (length g.locations)) at (take (length g.objects) (filled_with_zeros OBJECT_LIMIT places)))
@@ -120,7 +121,7 @@ code_low prompt.Again = refl
 code_low prompt.Key = refl
 code_low prompt.Over = refl
 
-pub line_sound : (code : Option ℕ) (bytes : List ℕ) → IfNone code (bytes ≡ []) → (is_some code || (length bytes == 0)) ≡ true
+pub line_sound : (code : Option ℕ) (bytes : Bytes) → IfNone code (bytes ≡ []) → (is_some code || (length bytes == 0)) ≡ true
 line_sound None bytes h = rw h refl
 line_sound (Some code) bytes h = refl
 
@@ -130,7 +131,7 @@ pub saved_sized : (n : ℕ) (o : Option Position) → n ≤ OBJECT_LIMIT → IsS
 saved_sized n None low h = record { flags = length-zeros FLAG_COUNT; places = length-zeros OBJECT_LIMIT }
 saved_sized n (Some q) low h = record { flags = h.flags; places = length-filled q.places (omega (arith, h.places, low)) }
 
-pub places_from : (g : GameLists) (at : ℕ) (places : List ℕ) → length places ≡ length g.objects
+pub places_from : (g : GameLists) (at : ℕ) (places : ObjectPlaces) → length places ≡ length g.objects
     → places_fault g at (filled_with_zeros OBJECT_LIMIT places) ≡ None
     → ArePlacesOf g places
 places_from g at places size h =

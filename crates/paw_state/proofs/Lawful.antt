@@ -1,6 +1,7 @@
 -- The laws of a state's bytes, proved.
 use Rattle.std.proofs.Common.{◌≡◌, ℕ, ◌≤◌, List, [], ◌++◌, Some, None, length, take, drop, sym, ap, ◌∙◌, subst}
 use Rattle.std.proofs.lemmas.List.{take-append-drop, take_at}
+use Rattle.paw_base.specs.Bytes.{Bytes}
 use Rattle.paw_base.specs.declared.layout.TheConstants.{STATE_LENGTH}
 use Rattle.paw_game.specs.Game.{GameLists}
 use Rattle.paw_game.specs.Valid.{Valid}
@@ -35,41 +36,41 @@ one_fault g bytes at u =
     ap (fields_fault g) (ap fields_at split ∙ fields_cut u.fields (drop STATE_LENGTH bytes) u.sized) ∙ u.fault
 
 -- A fault of the fields at their offsets is the one of the bytes.
-pub is_unfit : (g : GameLists) (bytes : List ℕ) (at : ℕ) → STATE_LENGTH ≤ length bytes → AreBytes bytes → unfit g bytes ≡ Some at → Unfit g bytes at
+pub is_unfit : (g : GameLists) (bytes : Bytes) (at : ℕ) → STATE_LENGTH ≤ length bytes → AreBytes bytes → unfit g bytes ≡ Some at → Unfit g bytes at
 is_unfit g bytes at n b h =
     record { fields = fields_at bytes; sized = sized_at bytes n b; are = sym (fields_join bytes n b) ∙ sym (bytes_same (fields_at bytes)); fault = h }
 
 -- The fields that stand in bytes of which the first are a state's.
-fields_there : (g : GameLists) (s : State) (bytes : List ℕ) → Valid g → FollowsEach g s → FitsFields s → take STATE_LENGTH bytes ≡ state_bytes s
+fields_there : (g : GameLists) (s : State) (bytes : Bytes) → Valid g → FollowsEach g s → FitsFields s → take STATE_LENGTH bytes ≡ state_bytes s
     → fields_at bytes ≡ fields_of s
 fields_there g s bytes v k h e =
     let split : bytes ≡ field_bytes (fields_of s) ++ drop STATE_LENGTH bytes =
     sym (take-append-drop STATE_LENGTH bytes) ∙ ap (λ (l : List ℕ). l ++ drop STATE_LENGTH bytes) (e ∙ state_same s) in
     ap fields_at split ∙ fields_cut (fields_of s) (drop STATE_LENGTH bytes) (sized_of g s v k h)
 
-pub fit_has_none : (g : GameLists) (bytes : List ℕ) → Valid g → Fit g bytes → unfit g bytes ≡ None
+pub fit_has_none : (g : GameLists) (bytes : Bytes) → Valid g → Fit g bytes → unfit g bytes ≡ None
 fit_has_none g bytes v h = ap (fields_fault g) (fields_there g h.state bytes v (each_of g h.state h.valid) h.fits h.are) ∙ h.valid.fields
 
 -- The fault that is found part by part.
-pub unfit_parts : (g : GameLists) (bytes : List ℕ) → STATE_LENGTH ≤ length bytes → AreBytes bytes → unfit g bytes ≡ parts_fault g (fields_at bytes)
+pub unfit_parts : (g : GameLists) (bytes : Bytes) → STATE_LENGTH ≤ length bytes → AreBytes bytes → unfit g bytes ≡ parts_fault g (fields_at bytes)
 unfit_parts g bytes n b = faults_same g (fields_at bytes) (lengths_sized (fields_at bytes) (sized_at bytes n b))
 
-sound_at : (g : GameLists) (bytes : List ℕ) → STATE_LENGTH ≤ length bytes → AreBytes bytes → unfit g bytes ≡ None → AreSound g (fields_at bytes)
+sound_at : (g : GameLists) (bytes : Bytes) → STATE_LENGTH ≤ length bytes → AreBytes bytes → unfit g bytes ≡ None → AreSound g (fields_at bytes)
 sound_at g bytes n b h = sound_of g (fields_at bytes) (sym (unfit_parts g bytes n b) ∙ h)
 
 -- Bytes without a fault are those of the state that their fields say.
-pub bytes_are : (g : GameLists) (bytes : List ℕ) → Valid g → STATE_LENGTH ≤ length bytes → AreBytes bytes → unfit g bytes ≡ None
+pub bytes_are : (g : GameLists) (bytes : Bytes) → Valid g → STATE_LENGTH ≤ length bytes → AreBytes bytes → unfit g bytes ≡ None
     → take STATE_LENGTH bytes ≡ state_bytes (state_in g (fields_at bytes))
 bytes_are g bytes v n b h =
     sym (state_same (state_in g (fields_at bytes))
     ∙ (ap field_bytes (state_back g (fields_at bytes) v (sized_at bytes n b) (sound_at g bytes n b h)) ∙ fields_join bytes n b))
 
-pub state_kept : (g : GameLists) (bytes : List ℕ) → Valid g → STATE_LENGTH ≤ length bytes → AreBytes bytes → unfit g bytes ≡ None
+pub state_kept : (g : GameLists) (bytes : Bytes) → Valid g → STATE_LENGTH ≤ length bytes → AreBytes bytes → unfit g bytes ≡ None
     → IsValidState g (state_in g (fields_at bytes))
 state_kept g bytes v n b h =
     keeps_of g (state_in g (fields_at bytes)) (keeps_in g (fields_at bytes) v (sized_at bytes n b) (sound_at g bytes n b h))
 
-pub none_is_fit : (g : GameLists) (bytes : List ℕ) → Valid g → STATE_LENGTH ≤ length bytes → AreBytes bytes → unfit g bytes ≡ None → Fit g bytes
+pub none_is_fit : (g : GameLists) (bytes : Bytes) → Valid g → STATE_LENGTH ≤ length bytes → AreBytes bytes → unfit g bytes ≡ None → Fit g bytes
 none_is_fit g bytes v n b h = record {
   state = state_in g (fields_at bytes);
   valid = state_kept g bytes v n b h;
@@ -104,7 +105,7 @@ written_is_fit g s rest v k h =
 
 -- ---- what is read ----
 
-pub is_read : (g : GameLists) (bytes : List ℕ) (r : Restored) → Valid g → STATE_LENGTH ≤ length bytes → AreBytes bytes → unfit g bytes ≡ None
+pub is_read : (g : GameLists) (bytes : Bytes) (r : Restored) → Valid g → STATE_LENGTH ≤ length bytes → AreBytes bytes → unfit g bytes ≡ None
     → state_read r ≡ state_in g (fields_at bytes) → r.machine ≡ machine_restored (machine_kept r.machine) (waiting_at r.prompt) →
     WaitsAtPrompt r.prompt r.machine →
     IsRead g bytes r

@@ -3,6 +3,7 @@ use Rattle.std.proofs.Common.{◌≡◌, ℕ, suc, ◌-◌, Bool, true, List, []
 use Rattle.std.proofs.Common.{refl, ap, ◌∙◌}
 use Rattle.std.specs.Prelude.{flat_map}
 use Rattle.std.proofs.lemmas.Grind.{flat_map-append}
+use Rattle.paw_base.specs.Bytes.{Bytes}
 use Rattle.paw_game.specs.Game.{GameLists}
 use Rattle.paw_game.specs.Tables.{condact_at}
 use Rattle.paw_reading.specs.declared.frames.OpenLoop.{OpenLoop}
@@ -15,7 +16,7 @@ use Rattle.paw_state.specs.Fields.{frame_fields, frames_fields, loop_fields, fla
 use Rattle.paw_state.specs.Fields.{looping_fields, pending_fields}
 use Rattle.paw_state.specs.inner.Fields.{frame_shape, loop_shape, position_shape}
 
-pub each_bytes : (h : ℕ → ℕ → GameLists → Bool) (i : ℕ) (bs : List ℕ) → bytes_of (one_by_one h i bs) ≡ bs
+pub each_bytes : (h : ℕ → ℕ → GameLists → Bool) (i : ℕ) (bs : Bytes) → bytes_of (one_by_one h i bs) ≡ bs
 unfolding one_by_one
 each_bytes h i [] = refl
 each_bytes h i (b ∷ bs) = ap (λ (l : List ℕ). b ∷ l) (each_bytes h (suc i) bs)

@@ -8,6 +8,7 @@ use Rattle.std.proofs.lemmas.List.{length-take, length-map}
 use Rattle.std.proofs.lemmas.List.Elements.{All-map, All-take}
 use Rattle.std.specs.Option.{unwrap_or, option_or}
 use Rattle.std.specs.Prelude.{nat_le, is_some, if◌then◌else◌, IfNone, slice_index, slice_range}
+use Rattle.paw_base.specs.Bytes.{Bytes}
 use Rattle.paw_base.specs.declared.layout.TheConstants.{STATE_LENGTH}
 use Rattle.paw_base.specs.declared.limits.TheConstants.{EVENT_LIMIT, READ_LIMIT, LINE_LIMIT, OBJECT_LIMIT, FLAG_COUNT}
 use Rattle.paw_base.specs.declared.limits.TheConstants.{POSITION_COUNT}
@@ -357,7 +358,7 @@ keeps_of g s k = record {
 
 -- ---- sizes ----
 
-pub fits_at : (g : GameLists) (bytes : List ℕ) → STATE_LENGTH ≤ length bytes → AreBytes bytes → FitsFields (state_in g (fields_at bytes))
+pub fits_at : (g : GameLists) (bytes : Bytes) → STATE_LENGTH ≤ length bytes → AreBytes bytes → FitsFields (state_in g (fields_at bytes))
 fits_at g bytes n h =
     let s = sized_at bytes n h in
     record {

@@ -5,6 +5,7 @@ use Rattle.std.proofs.Common.{Some, None, length, drop, get_or, refl, sym, ap, �
 use Rattle.std.specs.Prelude.{if◌then◌else◌}
 use Rattle.std.proofs.Math.Seq.{drop-cons}
 use Rattle.std.proofs.lemmas.List.{drop_all}
+use Rattle.paw_base.specs.Bytes.{Bytes}
 use Rattle.paw_game.specs.Game.{GameLists}
 use Rattle.paw_state.specs.declared.fields.TheConstants.{POSITION_LENGTH, FRAME_LENGTH}
 use Rattle.paw_state.specs.declared.fields.FrameField.{FrameField}
@@ -19,17 +20,17 @@ use Rattle.paw_state.specs.inner.Faults.{called_table}
 abbrev pub Looked : (ℕ → Bool) → ℕ → ℕ → List ℕ → Type 0
 Looked p at i bytes = first_not p (at + i) (drop i bytes) ≡ first_not p at bytes
 
-one : (p : ℕ → Bool) (at b : ℕ) (bs : List ℕ) → first_not p at (b ∷ bs) ≡ (if p b then first_not p (suc at) bs else Some at)
+one : (p : ℕ → Bool) (at b : ℕ) (bs : Bytes) → first_not p at (b ∷ bs) ≡ (if p b then first_not p (suc at) bs else Some at)
 unfolding first_not
 one p at b bs = refl
 
-next : (p : ℕ → Bool) (at i : ℕ) (bytes : List ℕ) → i < length bytes → Looked p at i bytes
+next : (p : ℕ → Bool) (at i : ℕ) (bytes : Bytes) → i < length bytes → Looked p at i bytes
     → (if p (get_or bytes i 0) then first_not p (suc (at + i)) (drop (suc i) bytes) else Some (at + i)) ≡ first_not p at bytes
 next p at i bytes low h =
     sym (one p (at + i) (get_or bytes i 0) (drop (suc i) bytes))
     ∙ (ap (first_not p (at + i)) (sym (drop-cons bytes i 0 low)) ∙ h)
 
-pub stops : (p : ℕ → Bool) (at i x : ℕ) (bytes : List ℕ) → i < length bytes → Looked p at i bytes
+pub stops : (p : ℕ → Bool) (at i x : ℕ) (bytes : Bytes) → i < length bytes → Looked p at i bytes
     → Some x ≡ rule (at + i) (p (get_or bytes i 0)) → Some x ≡ first_not p at bytes
 stops p at i x bytes low h e = go (p (get_or bytes i 0)) (next p at i bytes low h) e
   where
@@ -38,7 +39,7 @@ stops p at i x bytes low h e = go (p (get_or bytes i 0)) (next p at i bytes low 
     go true q k = cc
     go false q k = k ∙ q
 
-pub goes_on : (p : ℕ → Bool) (at i : ℕ) (bytes : List ℕ) → i < length bytes → Looked p at i bytes
+pub goes_on : (p : ℕ → Bool) (at i : ℕ) (bytes : Bytes) → i < length bytes → Looked p at i bytes
     → None ≡ rule (at + i) (p (get_or bytes i 0)) → Looked p at (i + 1) bytes
 goes_on p at i bytes low h e = go (p (get_or bytes i 0)) (next p at i bytes low h) e
   where
@@ -51,7 +52,7 @@ none_left : (p : ℕ → Bool) (at : ℕ) → first_not p at [] ≡ None
 unfolding first_not
 none_left p at = refl
 
-pub at_end : (p : ℕ → Bool) (at i : ℕ) (bytes : List ℕ) → length bytes ≤ i → Looked p at i bytes → None ≡ first_not p at bytes
+pub at_end : (p : ℕ → Bool) (at i : ℕ) (bytes : Bytes) → length bytes ≤ i → Looked p at i bytes → None ≡ first_not p at bytes
 at_end p at i bytes low h = sym (none_left p (at + i)) ∙ (ap (first_not p (at + i)) (sym (drop_all i bytes low)) ∙ h)
 
 -- ---- rows ----

@@ -4,6 +4,7 @@ use Rattle.std.proofs.Common.{Option, Some, None, map, take, get_or, nat_lt, ref
 use Rattle.std.specs.Prelude.{All, slice_get, if◌then◌else◌}
 use Rattle.std.proofs.lemmas.List.Elements.{All-cons, All-nil, All-take, All-map}
 use Rattle.std.proofs.lemmas.Bool.{eqb-true}
+use Rattle.paw_base.specs.Bytes.{Bytes}
 use Rattle.paw_base.specs.declared.limits.TheConstants.{FLAG_COUNT, OBJECT_LIMIT}
 use Rattle.paw_base.specs.declared.codes.TheConstants.{PROCESS, DOALL}
 use Rattle.paw_base.specs.declared.parts.Condact.{Condact}
@@ -47,12 +48,12 @@ held_fits n h flags places = go (h.there == 0)
     go true = tt
     go false = (flags, All-take (λ (b : ℕ). b < 256) n h.places places)
 
-pub held_at_fits : (n at : ℕ) (bytes : List ℕ) → AreBytes bytes → HoldsBytes (held_in n (position_shape.value bytes at))
+pub held_at_fits : (n at : ℕ) (bytes : Bytes) → AreBytes bytes → HoldsBytes (held_in n (position_shape.value bytes at))
 held_at_fits n at bytes h =
     held_fits n (position_shape.value bytes at) (range_bytes bytes (at + 1) (at + 1 + FLAG_COUNT) h)
     (range_bytes bytes (at + 1 + FLAG_COUNT) (at + 1 + FLAG_COUNT + OBJECT_LIMIT) h)
 
-pub helds_at_fit : (n m at : ℕ) (bytes : List ℕ) → AreBytes bytes → All HoldsBytes (map (held_in n) (values_at position_shape m bytes at))
+pub helds_at_fit : (n m at : ℕ) (bytes : Bytes) → AreBytes bytes → All HoldsBytes (map (held_in n) (values_at position_shape m bytes at))
 unfolding values_at
 helds_at_fit n zero at bytes h = All-nil HoldsBytes
 helds_at_fit n (suc m) at bytes h =

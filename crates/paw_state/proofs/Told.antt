@@ -2,6 +2,7 @@
 use Rattle.std.proofs.Common.{◌≡◌, ℕ, ◌+◌, ◌*◌, ◌<◌, ◌^◌, List, ◌++◌, length, take, drop, get_or, sym, ap}
 use Rattle.std.proofs.Common.{◌∙◌, arith, length-append, ◌-◌, subst}
 use Rattle.std.proofs.lemmas.List.{get_or_append_left, get_or-append-add, take-append-drop}
+use Rattle.paw_base.specs.Bytes.{Bytes}
 use Rattle.paw_base.specs.declared.layout.TheConstants.{STATE_LENGTH}
 use Rattle.paw_state.proofs.Found.{length-zeros}
 use Rattle.paw_state.proofs.EachField.{state_same}
@@ -43,7 +44,7 @@ piece_told s l h =
     rw e (two_there (before_piece f) s.piece (after_piece f) (front_long (before_piece f) s.piece (after_piece f) (ap length (sym e) ∙ l.all) l.behind) h)
 
 -- As it stands in a buffer.
-pub piece_in : (s : State) (rest into : List ℕ) → into ≡ state_bytes s ++ rest → AreLong s → s.piece < 2 ^ 16
+pub piece_in : (s : State) (rest into : Bytes) → into ≡ state_bytes s ++ rest → AreLong s → s.piece < 2 ^ 16
     → get_or into PIECE 0 + 256 * get_or into (PIECE + 1) 0 ≡ s.piece
 piece_in s rest into e l h =
     let a : get_or into PIECE 0 ≡ get_or (state_bytes s) PIECE 0 = ap (λ x. get_or x PIECE 0) e
@@ -53,14 +54,14 @@ piece_in s rest into e l h =
     rw (a, b) (piece_told s l h)
 
 -- What stands before the zeros of a buffer.
-pub buffer_long : (bytes into : List ℕ) → into ≡ bytes ++ zeros (STATE_ROOM - STATE_LENGTH) → length into ≡ STATE_ROOM →
+pub buffer_long : (bytes into : Bytes) → into ≡ bytes ++ zeros (STATE_ROOM - STATE_LENGTH) → length into ≡ STATE_ROOM →
     length bytes ≡ STATE_LENGTH
 buffer_long bytes into e l =
     let m = length-append bytes (zeros (STATE_ROOM - STATE_LENGTH)) in
     omega (arith, ap length (sym e) ∙ l, m, length-zeros (STATE_ROOM - STATE_LENGTH))
 
 -- As it is read from a buffer.
-pub piece_read : (s : State) (bytes : List ℕ) → take STATE_LENGTH bytes ≡ state_bytes s → AreLong s → s.piece < 2 ^ 16
+pub piece_read : (s : State) (bytes : Bytes) → take STATE_LENGTH bytes ≡ state_bytes s → AreLong s → s.piece < 2 ^ 16
     → get_or bytes PIECE 0 + 256 * get_or bytes (PIECE + 1) 0 ≡ s.piece
 piece_read s bytes e l h =
     let whole : bytes ≡ state_bytes s ++ drop STATE_LENGTH bytes =
@@ -68,13 +69,13 @@ piece_read s bytes e l h =
     piece_in s (drop STATE_LENGTH bytes) bytes whole l h
 
 -- A buffer with a state: its bytes, how many they are, and the length of the piece.
-pub record IsWritten (s : State) (into : List ℕ) : Type 0 where
+pub record IsWritten (s : State) (into : Bytes) : Type 0 where
   pub value : into ≡ state_bytes s ++ zeros (STATE_ROOM - STATE_LENGTH)
   pub long : length (state_bytes s) ≡ STATE_LENGTH
   pub piece : get_or into PIECE 0 + 256 * get_or into (PIECE + 1) 0 ≡ s.piece
 
 -- A buffer to which the fields of a state are written.
-written_state : (s : State) (f : Fields) (into : List ℕ) → FitsFields s → f ≡ fields_of s → into ≡ field_bytes f ++ zeros (STATE_ROOM - STATE_LENGTH)
+written_state : (s : State) (f : Fields) (into : Bytes) → FitsFields s → f ≡ fields_of s → into ≡ field_bytes f ++ zeros (STATE_ROOM - STATE_LENGTH)
     → length into ≡ STATE_ROOM → length (after_piece f) ≡ STATE_LENGTH - KEPT → IsWritten s into
 written_state s f into h same is room later =
     let value : into ≡ state_bytes s ++ zeros (STATE_ROOM - STATE_LENGTH) =
@@ -86,7 +87,7 @@ written_state s f into h same is room later =
     record { value = value; long = long.all; piece = piece_in s (zeros (STATE_ROOM - STATE_LENGTH)) into value long h.piece }
 
 -- The frames of that state are these.
-pub fields_written : (s : State) (k : Frames) (f : Fields) (into : List ℕ) → FitsFields s → s.frames ≡ k → f ≡ fields_of s
+pub fields_written : (s : State) (k : Frames) (f : Fields) (into : Bytes) → FitsFields s → s.frames ≡ k → f ≡ fields_of s
     → into ≡ field_bytes f ++ zeros (STATE_ROOM - STATE_LENGTH) → length into ≡ STATE_ROOM → length (after_piece f) ≡ STATE_LENGTH - KEPT
     → IsWritten (record s { frames = k }) into
 fields_written s k f into h frames same is room later =

@@ -6,6 +6,7 @@ use Rattle.std.proofs.Math.Seq.{take-suc, take-suc-set}
 use Rattle.std.proofs.lemmas.List.{append_assoc, take_all, length-append, length-map, get_or-map, drop-drop}
 use Rattle.std.proofs.lemmas.List.{drop-replicate, length-take}
 use Rattle.std.proofs.lemmas.Slice.{take-put_mid, drop-put_mid}
+use Rattle.paw_base.specs.Bytes.{Bytes}
 use Rattle.paw_process.specs.declared.machine.TheConstants.{MOST_FRAMES}
 use borrow.Rule.Slice.PartMut.{put_mid}
 use Rattle.paw_state.specs.declared.fields.TheConstants.{STATE_ROOM, FRAME_LENGTH}
@@ -42,7 +43,7 @@ one_more bytes field old count room size h =
     ∙ ap (λ (l : List ℕ). l ++ field) h
 
 -- What was written has its count of bytes.
-pub count_of : (bytes old : List ℕ) (count : ℕ) → count ≤ STATE_ROOM → length bytes ≡ STATE_ROOM → take count bytes ≡ old → length old ≡ count
+pub count_of : (bytes old : Bytes) (count : ℕ) → count ≤ STATE_ROOM → length bytes ≡ STATE_ROOM → take count bytes ≡ old → length old ≡ count
 count_of bytes old count low size h = ap length (sym h) ∙ omega (arith, length-take count bytes)
 
 -- ---- three fields, and more ----
@@ -51,7 +52,7 @@ pub three : (w0 w1 w2 w3 x y z : List ℕ) → w1 ≡ w0 ++ x → w2 ≡ w1 ++ y
 three w0 w1 w2 w3 x y z e f g = rw (g, f, e) (simp append_assoc)
 
 -- Bytes in front of 255 zeros.
-pub filled_behind : (bytes new : List ℕ) → new ≡ bytes → new ++ drop (length bytes) (replicate 255 0) ≡ filled_with_zeros 255 bytes
+pub filled_behind : (bytes new : Bytes) → new ≡ bytes → new ++ drop (length bytes) (replicate 255 0) ≡ filled_with_zeros 255 bytes
 filled_behind bytes new h = rw (h, zeros_all 255) (ap (λ (l : List ℕ). bytes ++ l) (drop-zeros (length bytes) 255))
 
 -- ---- frames ----

@@ -1,6 +1,7 @@
 -- The way of a game from its image to its source and back.
-use Rattle.std.proofs.Common.{◌≡◌, ℕ, List, ◌≤◌, length, Result, Ok, Some, refl, sym, ap, ◌∙◌, subst}
+use Rattle.std.proofs.Common.{◌≡◌, ◌≤◌, length, Result, Ok, Some, refl, sym, ap, ◌∙◌, subst}
 use Rattle.std.proofs.lemmas.List.{append_cancel_left}
+use Rattle.paw_base.specs.Bytes.{Bytes, Name}
 use Rattle.paw_base.specs.declared.limits.TheConstants.{IMAGE_LIMIT, SOURCE_LIMIT}
 use Rattle.paw_base.specs.declared.fault.SourceFault.{SourceFault}
 use Rattle.paw_game.specs.Game.{GameLists}
@@ -17,13 +18,13 @@ use Rattle.paw_top.specs.declared.outcome.Outcome.{Outcome}
 use Rattle.paw_top.specs.declared.outcome.Outcome.TheVariants as outcome
 
 -- A source that holds the text of a game spells that game alone.
-same_game : (text bytes : List ℕ) (g h : GameLists) → Some bytes ≡ Some text → game_spelled bytes ≡ Ok h → game_spelled text ≡ Ok g → g ≡ h
+same_game : (text bytes : Bytes) (g h : GameLists) → Some bytes ≡ Some text → game_spelled bytes ≡ Ok h → game_spelled text ≡ Ok g → g ≡ h
 same_game text bytes g h e k m =
     let b : bytes ≡ text = cc in
     let w : ◌≡◌ {A = Result GameLists SourceFault} (Ok g) (Ok h) = sym m ∙ ap game_spelled (sym b) ∙ k in cc
 
 -- What isn't opened isn't done.
-not_done : (name : List ℕ) (old new : Standing) (o : Outcome) → Unopened name old new o → o ≡ outcome.Done → ⊥
+not_done : (name : Name) (old new : Standing) (o : Outcome) → Unopened name old new o → o ≡ outcome.Done → ⊥
 not_done name old new _ (damaged at h e) q = cc
 not_done name old new _ (absent h e) q = cc
 not_done name old new _ (failed e) q = cc

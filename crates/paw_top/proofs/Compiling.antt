@@ -4,6 +4,7 @@ use Rattle.std.proofs.Common.{inl, inr}
 use Rattle.std.proofs.lemmas.Bool.Decides.{nat_tests}
 use Rattle.std.proofs.lemmas.List.{take_all, length-take-le}
 use Rattle.std.specs.Prelude.{nat_lt, Ok, Err}
+use Rattle.paw_base.specs.Bytes.{Bytes}
 use Rattle.paw_base.specs.declared.limits.TheConstants.{SOURCE_LIMIT}
 use Rattle.paw_base.specs.declared.fault.SourceKind.TheVariants as kind
 use Rattle.paw_game.specs.Game.{GameLists}
@@ -23,17 +24,17 @@ use Rattle.paw_play.proofs.ImageFiles.{in_order}
 -- ---- the source ----
 
 -- A source with too many bytes has its fault before its first line.
-pub too_long : (bytes : List ℕ) → SOURCE_LIMIT + 1 ≤ length bytes → game_spelled bytes ≡ Err (record { line = 0; kind = kind.TooBig })
+pub too_long : (bytes : Bytes) → SOURCE_LIMIT + 1 ≤ length bytes → game_spelled bytes ≡ Err (record { line = 0; kind = kind.TooBig })
 unfolding game_spelled
 too_long bytes h = let t : nat_lt SOURCE_LIMIT (length bytes) ≡ true = grind (arith, nat_tests) in rw t refl
 
-first_bytes : (bytes : List ℕ) → (length bytes ≤ SOURCE_LIMIT) ⊎ (SOURCE_LIMIT + 1 ≤ length bytes)
+first_bytes : (bytes : Bytes) → (length bytes ≤ SOURCE_LIMIT) ⊎ (SOURCE_LIMIT + 1 ≤ length bytes)
     → game_spelled (take (SOURCE_LIMIT + 1) bytes) ≡ game_spelled bytes
 first_bytes bytes (inl k) = ap game_spelled (take_all (SOURCE_LIMIT + 1) bytes (omega (arith, k)))
 first_bytes bytes (inr k) = too_long (take (SOURCE_LIMIT + 1) bytes) (omega (arith, length-take-le (SOURCE_LIMIT + 1) bytes k)) ∙ sym (too_long bytes k)
 
 -- What was loaded of a source is read as the whole.
-read_whole : (given bytes : List ℕ) → given ≡ take (SOURCE_LIMIT + 1) bytes → game_spelled bytes ≡ game_spelled given
+read_whole : (given bytes : Bytes) → given ≡ take (SOURCE_LIMIT + 1) bytes → game_spelled bytes ≡ game_spelled given
 read_whole given bytes e = sym (ap game_spelled e ∙ first_bytes bytes (in_order (length bytes) SOURCE_LIMIT))
 
 -- ---- the answers ----

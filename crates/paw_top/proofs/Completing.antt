@@ -4,6 +4,7 @@ use Rattle.std.proofs.Common.{subst, arith}
 use Rattle.std.specs.Prelude.{Result, Ok, Err, IfSome, nat_le, if◌then◌else◌}
 use Rattle.std.proofs.lemmas.Bool.Decides.{nat_tests}
 use Rattle.paw_wrap.specs.declared.columns.TheConstants.{WRAP_LIMIT}
+use Rattle.paw_base.specs.Bytes.{Bytes, Name, RoutineAnswers, Seed}
 use Rattle.paw_base.specs.declared.fault.SourceFault.{SourceFault}
 use Rattle.paw_base.specs.declared.limits.TheConstants.{EVENT_LIMIT}
 use Rattle.paw_game.specs.Game.{GameLists}
@@ -58,7 +59,7 @@ pub hindered : (c : StageCall) → c ≢ call.LoadAbsent → IsUnhindered (outco
 hindered c another free = another free
 
 -- A file that isn't there holds nothing.
-is_missing : (file : Option (List ℕ)) (bytes : List ℕ) → file ≡ None → file ≡ Some bytes → ⊥
+is_missing : (file : Option (List ℕ)) (bytes : Bytes) → file ≡ None → file ≡ Some bytes → ⊥
 is_missing file bytes h k = cc
 
 -- Memory may be lacking for any source.
@@ -83,16 +84,16 @@ completes_compile source target old new _ (compile.unshown g n s e) free = λ by
 completes_compile source target old new _ (compile.memory at e) free = λ bytes is. for_memory (game_spelled bytes) at
 
 -- A file that is an image isn't none.
-is_some : (s : Standing) (name : List ℕ) (g : GameLists) → Holds s name g → HoldsNone s name → ⊥
+is_some : (s : Standing) (name : Name) (g : GameLists) → Holds s name g → HoldsNone s name → ⊥
 is_some s name g h k = k.2 g (subst (λ b. IsImage b g) (same_file _ h.0 k.0 h.1 k.1) h.2)
 
-not_both : (s : Standing) (name : List ℕ) (g : GameLists) (at : ℕ) → Holds s name g → HoldsDamage s name at → ⊥
+not_both : (s : Standing) (name : Name) (g : GameLists) (at : ℕ) → Holds s name g → HoldsDamage s name at → ⊥
 not_both s name g at h k = is_some s name g h (k.0, k.1, k.2)
 
 -- ---- a game that is shown or played ----
 
 -- The file holds a game, with an answer such as it is to be.
-completes_game : (name : List ℕ) (Such : GameLists → Outcome → Type 0) (old : Standing) (g : GameLists) (o : Outcome) → Holds old name g → Such g o →
+completes_game : (name : Name) (Such : GameLists → Outcome → Type 0) (old : Standing) (g : GameLists) (o : Outcome) → Holds old name g → Such g o →
     CompletesImage name Such old o
 completes_game name Such old g o s such = record {
   image = λ h k. subst (λ x. Such x o) (sym (same_game old name h g k s)) such;
@@ -100,7 +101,7 @@ completes_game name Such old g o s such = record {
 }
 
 -- The file gives no game.
-completes_unopened : (name : List ℕ) (Such : GameLists → Outcome → Type 0) (old new : Standing) (o : Outcome) →
+completes_unopened : (name : Name) (Such : GameLists → Outcome → Type 0) (old new : Standing) (o : Outcome) →
     ((g : GameLists) (at : MemoryAt) → Such g (outcome.Memory at)) → Unopened name old new o →
     IsUnhindered o → CompletesImage name Such old o
 completes_unopened name Such old new _ memory (damaged at s e) free =
@@ -113,7 +114,7 @@ completes_unopened name Such old new _ memory (without_memory at e) free =
     record { image = λ h k. memory h at; other = λ k. tt }
 
 -- A game of which a text is shown.
-pub completes_told : {told : GameLists → List ℕ} {at : MemoryAt} (name : List ℕ) (old new : Standing) (o : Outcome) →
+pub completes_told : {told : GameLists → List ℕ} {at : MemoryAt} (name : Name) (old new : Standing) (o : Outcome) →
     decompile.TellsOf told at name old new o → IsUnhindered o → CompletesImage name (λ g. Comes outcome.Done) old o
 completes_told name old new _ (decompile.done g s e) free = completes_game name (λ g. Comes outcome.Done) old g outcome.Done s refl
 completes_told name old new _ (decompile.unopened o u) free =
@@ -122,16 +123,16 @@ completes_told name old new _ (decompile.unshown g s e) free = absurd (hindered 
 completes_told name old new _ (decompile.untold e) free = record { image = λ h k. tt; other = λ k. tt }
 
 -- A text of at most this many bytes is wrapped, and a longer one is too long.
-within : (bytes : List ℕ) → length bytes ≤ WRAP_LIMIT →
+within : (bytes : Bytes) → length bytes ≤ WRAP_LIMIT →
     outcome.Done ≡ (if nat_le (length bytes) WRAP_LIMIT then outcome.Done else outcome.TextTooLong)
 within bytes h = let t : nat_le (length bytes) WRAP_LIMIT ≡ true = grind (arith, nat_tests) in rw t refl
 
-beyond : (bytes : List ℕ) → WRAP_LIMIT < length bytes →
+beyond : (bytes : Bytes) → WRAP_LIMIT < length bytes →
     outcome.TextTooLong ≡ (if nat_le (length bytes) WRAP_LIMIT then outcome.Done else outcome.TextTooLong)
 beyond bytes h = let t : nat_le (length bytes) WRAP_LIMIT ≡ false = grind (arith, nat_tests) in rw t refl
 
 -- A text that is shown in columns.
-pub completes_wrap : (width : ℕ) (name : List ℕ) (old new : Standing) (o : Outcome) → shows.Wraps width name old new o →
+pub completes_wrap : (width : ℕ) (name : Name) (old new : Standing) (o : Outcome) → shows.Wraps width name old new o →
     IsUnhindered o → CompletesWrap name old o
 completes_wrap width name old new _ (shows.done text h e) free = λ bytes is.
     within bytes (subst (λ b. length b ≤ WRAP_LIMIT) (same_file _ text bytes h.0 is) h.1)
@@ -144,7 +145,7 @@ completes_wrap width name old new _ (shows.without_memory at one e) free = λ by
 completes_wrap width name old new _ (shows.unwrapped text h e) free = λ bytes is. tt
 
 -- A file whose game is played, where each end is such as it is to be.
-pub completes_file : {Comes : GameLists → PlayEnd → Type 0} (name : List ℕ) (Such : GameLists → Outcome → Type 0) (old new : Standing)
+pub completes_file : {Comes : GameLists → PlayEnd → Type 0} (name : Name) (Such : GameLists → Outcome → Type 0) (old new : Standing)
     (o : Outcome) → PlaysFile Comes name old new o →
     ((g : GameLists) (end : PlayEnd) → Comes g end → IsUnhindered (outcome_of end) → Such g (outcome_of end)) →
     ((g : GameLists) (at : MemoryAt) → Such g (outcome.Memory at)) →
@@ -167,7 +168,7 @@ is_walked whole most old new (end.Outside call.Ask) w free = absurd (hindered ca
 is_walked whole most old new (end.Outside call.Show) w free = absurd (hindered call.Show (λ q. cc) free)
 is_walked whole most old new _ w free = absurd w
 
-pub completes_walk : (told : Story → ℕ → EndingOf) (answers : List (List ℕ)) (name : List ℕ) (seed : ℕ) (old new : Standing) (o : Outcome) →
+pub completes_walk : (told : Story → ℕ → EndingOf) (answers : RoutineAnswers) (name : Name) (seed : Seed) (old new : Standing) (o : Outcome) →
     WalksAs told answers name seed old new o → IsUnhindered o → CompletesImage name (λ g. IsWalked) old o
 completes_walk told answers name seed old new o w free =
     completes_file name (λ g. IsWalked) old new o w

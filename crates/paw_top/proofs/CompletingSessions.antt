@@ -1,7 +1,7 @@
 -- A session whose calls don't fail.
 use Rattle.std.proofs.Common.{◌≡◌, ◌≢◌, ◌⊎◌, ℕ, ◌<◌, List, [], ◌∷◌, length, take, Some, refl, sym, ap, ◌∙◌, subst}
 use Rattle.std.proofs.Common.{arith, inl, inr}
-use Rattle.paw_base.specs.Bytes.{zeros}
+use Rattle.paw_base.specs.Bytes.{Bytes, Name, RoutineAnswers, Seed, zeros}
 use Rattle.paw_game.specs.Game.{GameLists}
 use Rattle.paw_effects.specs.Story.{Story, story_of}
 use Rattle.paw_state.specs.State.{State}
@@ -83,7 +83,7 @@ starts_play s old new _ (session.unmade c w e stays) free = absurd (hindered c (
 starts_play s old new _ (session.plays o p) free = plays_on _ _ old new o p.shows free
 
 -- A store with bytes is refused for their number.
-occupied_so : (bytes : List ℕ) → 0 < length bytes → CompletesNew bytes (outcome.Occupied (length bytes))
+occupied_so : (bytes : Bytes) → 0 < length bytes → CompletesNew bytes (outcome.Occupied (length bytes))
 occupied_so [] h = absurd (omega (arith, h))
 occupied_so (b ∷ bytes) h = refl
 
@@ -94,11 +94,11 @@ plays_new s old new _ (session.occupied h e) free = occupied_so (store_bytes old
 plays_new s old new _ (session.starts_play o e p) free =
     subst (λ bytes. CompletesNew bytes (outcome_of o)) (sym e) (starts_play s _ new o p free)
 
-new_memory : (bytes : List ℕ) (at : MemoryAt) → CompletesNew bytes (outcome.Memory at)
+new_memory : (bytes : Bytes) (at : MemoryAt) → CompletesNew bytes (outcome.Memory at)
 new_memory [] at = no_memory at
 new_memory (b ∷ bytes) at = tt
 
-pub completes_play : (answers : List (List ℕ)) (name store : List ℕ) (seed : ℕ) (old new : Standing)
+pub completes_play : (answers : RoutineAnswers) (name store : Bytes) (seed : Seed) (old new : Standing)
     (o : Outcome) → PlaysNewIn answers name store seed old new o →
     IsUnhindered o → CompletesImage name (λ g. CompletesNew (store_bytes old store)) old o
 completes_play answers name store seed old new o p free =
@@ -131,7 +131,7 @@ no_others kept own (inl h) none other = none h
 no_others kept own (inr h) none other = other h
 
 -- Bytes that give no session of the story show none.
-not_shown : (own d : Digests) (bytes state piece : List ℕ) (r : JournalRefusal) → BelongsTo own.game own.routines d → Refuses own bytes r →
+not_shown : (own d : Digests) (bytes state piece : Bytes) (r : JournalRefusal) → BelongsTo own.game own.routines d → Refuses own bytes r →
     recover bytes ≡ Shown d state piece → ⊥
 not_shown own d bytes state piece (refusal.Unmade n mark) b h is = let e : Unmade n mark ≡ Shown d state piece = sym h ∙ is in cc
 not_shown own d bytes state piece (refusal.Damaged p at) b h is = let e : Damaged p at ≡ Shown d state piece = sym h ∙ is in cc
@@ -143,7 +143,7 @@ not_shown own d bytes state piece (refusal.WrongRoutines kept found) b h is =
 not_shown own d bytes state piece (refusal.Outside c) b h is = h
 
 -- Bytes are refused in one way.
-one_refusal : (own : Digests) (bytes : List ℕ) (r q : JournalRefusal) → Refuses own bytes r → Refuses own bytes q → r ≡ q
+one_refusal : (own : Digests) (bytes : Bytes) (r q : JournalRefusal) → Refuses own bytes r → Refuses own bytes q → r ≡ q
 one_refusal own bytes (refusal.Unmade n mark) (refusal.Unmade m other) h k = let e : Unmade n mark ≡ Unmade m other = sym h ∙ k in cc
 one_refusal own bytes (refusal.Unmade n mark) (refusal.Damaged p at) h k = let e : Unmade n mark ≡ Damaged p at = sym h ∙ k in cc
 one_refusal own bytes (refusal.Unmade n mark) (refusal.WrongGame kept found) h k = let e : Unmade n mark ≡ Shown k.0 k.1 k.2 = sym h ∙ k.3 in cc
@@ -179,11 +179,11 @@ comes_so r (refusal.WrongGame kept found) e = rw e refl
 comes_so r (refusal.WrongRoutines kept found) e = rw e refl
 comes_so r (refusal.Outside c) e = rw e refl
 
-again_memory : (g : Story) (bytes : List ℕ) (at : MemoryAt) → CompletesAgain g bytes (outcome.Memory at)
+again_memory : (g : Story) (bytes : Bytes) (at : MemoryAt) → CompletesAgain g bytes (outcome.Memory at)
 again_memory g bytes at = record { shown = λ d st piece b h. no_memory at; refused = λ r h. tt; no_state = λ d state piece b is not. (0, tt) }
 
 -- A session of no state of the game shows none.
-is_unfit : (g : GameLists) (d c : Digests) (bytes state piece : List ℕ) → recover bytes ≡ Shown d (take state_length state) piece → ¬ Fit g state →
+is_unfit : (g : GameLists) (d c : Digests) (bytes state piece : Bytes) → recover bytes ≡ Shown d (take state_length state) piece → ¬ Fit g state →
     (st : State) (p : List ℕ) → ShowsState g c bytes st p → ⊥
 unfolding kept_bytes
 is_unfit g d c bytes state piece is not st p h =
@@ -197,7 +197,7 @@ shows_other g d c bytes state p q st is h not =
     not st (subst (λ x. ShowsState g c bytes st x) (same_piece d c _ _ _ _ (recover bytes) h.shown is)
     (subst (λ x. ShowsState g x bytes st p) (same_digests d c _ _ _ _ (recover bytes) h.shown is) h))
 
-resumed : (g : Story) (d : Digests) (name : List ℕ) (old new : Standing) (o : PlayEnd) → IsOfStory g d → Resumed g d name old new o →
+resumed : (g : Story) (d : Digests) (name : Name) (old new : Standing) (o : PlayEnd) → IsOfStory g d → Resumed g d name old new o →
     IsUnhindered (outcome_of o) → CompletesAgain g old.disk.bytes (outcome_of o)
 resumed g d name old new _ mine (session.memory e) free = again_memory g old.disk.bytes memory.Play
 resumed g d name old new _ mine (session.no_state at state piece is not fault e) free = record {
@@ -211,7 +211,7 @@ resumed g d name old new _ mine (session.plays_on o st piece h p) free = record 
   no_state = λ c s q b is k. absurd (shows_other g.game d c old.disk.bytes s piece q st is h k);
 }
 
-plays_again : (g : Story) (name : List ℕ) (old new : Standing) (o : PlayEnd) → PlaysAgain g name old new o → IsUnhindered (outcome_of o) →
+plays_again : (g : Story) (name : Name) (old new : Standing) (o : PlayEnd) → PlaysAgain g name old new o → IsUnhindered (outcome_of o) →
     CompletesAgain g (store_bytes old name) (outcome_of o)
 plays_again g name old new _ (session.unattached u) free = absurd (hindered call.Attach (λ q. cc) free)
 plays_again g name old new _ (session.unread e) free = absurd (hindered call.Read (λ q. cc) free)
@@ -223,7 +223,7 @@ plays_again g name old new _ (session.refused r h e) free = record {
 }
 plays_again g name old new _ (session.resumes_play o d mine p) free = resumed g d name (attached_to old name) new o mine p free
 
-pub completes_resume : (answers : List (List ℕ)) (name store : List ℕ) (old new : Standing) (o : Outcome) → PlaysAgainIn answers name store old new o →
+pub completes_resume : (answers : RoutineAnswers) (name store : Bytes) (old new : Standing) (o : Outcome) → PlaysAgainIn answers name store old new o →
     IsUnhindered o → CompletesImage name (λ g. CompletesAgain (story_of g answers) (store_bytes old store)) old o
 completes_resume answers name store old new o p free =
     completes_file name (λ h. CompletesAgain (story_of h answers) (store_bytes old store)) old new o p

@@ -8,6 +8,7 @@ use Rattle.std.proofs.lemmas.Bool.{and_parts, and_from, or_from, or_parts, le-lt
 use Rattle.std.proofs.lemmas.Bool.{not-true, not_from_false}
 use Rattle.std.proofs.lemmas.List.{append_assoc, append-nil, replicate_more}
 use Rattle.std.proofs.lemmas.List.Folds.{list_any-append}
+use Rattle.paw_base.specs.Bytes.{Lines}
 use Rattle.paw_base.specs.declared.limits.TheConstants.{LOCATION_LIMIT, EXIT_LIMIT}
 use Rattle.paw_game.specs.declared.parts.Word.{Word}
 use Rattle.paw_game.specs.declared.parts.Exit.{Exit}
@@ -165,7 +166,7 @@ con_item_step p d es all n at scene f below =
     }
 
 -- What is read is exits that stand for these.
-pub record ReadsExits (p : ℕ) (d : Spelt) (es : List (List Exit)) (lines : List (List ℕ)) (n : ℕ) (all : List (List Exit)) : Type 0 where
+pub record ReadsExits (p : ℕ) (d : Spelt) (es : List (List Exit)) (lines : Lines) (n : ℕ) (all : List (List Exit)) : Type 0 where
   pub exits : List (List Exit)
   pub reads : Reads p (record d { exits = es }) lines (record d { exits = exits })
   pub filled : Filled exits n all

@@ -9,6 +9,7 @@ use Rattle.std.proofs.lemmas.Bool.{and_parts, and_from, or_cases, or_left, or_ri
 use Rattle.std.proofs.lemmas.Bool.{lt-ltb, not_from_false}
 use Rattle.std.proofs.lemmas.List.{take_all}
 use Rattle.paw_lex.proofs.Slices.{before_first-cons}
+use Rattle.paw_base.specs.Bytes.{Letters}
 use Rattle.paw_base.specs.declared.limits.TheConstants.{WORD_LENGTH}
 use Rattle.paw_base.specs.Condacts.{capitals}
 use Rattle.paw_game.specs.Valid.{is_letter, is_filled, are_letters}
@@ -149,7 +150,7 @@ spelling-letters c cs letters long t =
           ∙ t.filled;
     }
 
-pub spelling : (letters : List ℕ) → are_letters letters ≡ true → Spelling (before_first (λ b. eqb b 32) letters) letters
+pub spelling : (letters : Letters) → are_letters letters ≡ true → Spelling (before_first (λ b. eqb b 32) letters) letters
 spelling [] h = absurd cc
 spelling (c ∷ cs) h =
     let long = and_parts (eqb (length (c ∷ cs)) WORD_LENGTH) _ h in

@@ -1,5 +1,6 @@
 -- A session that is opened: what is loaded before changes nothing.
 use Rattle.std.proofs.Common.{◌≡◌, List, ℕ, sym, ap, subst}
+use Rattle.paw_base.specs.Bytes.{Name, Seed}
 use Rattle.paw_game.specs.Game.{GameLists}
 use Rattle.paw_effects.specs.Story.{Story, story_of}
 use Rattle.paw_stage.specs.Stage.{Standing}
@@ -13,7 +14,7 @@ use Rattle.paw_play.specs.ImageFiles.{Holds}
 use Rattle.paw_play.proofs.ImageFiles.{same_game}
 
 -- The story that is played is the one of the file.
-pub same_story : (old : Standing) (name : List ℕ) (game : GameLists) (s : Story) → Holds old name game → Holds old name s.game → story_of game s.answers ≡ s
+pub same_story : (old : Standing) (name : Name) (game : GameLists) (s : Story) → Holds old name game → Holds old name s.game → story_of game s.answers ≡ s
 same_story old name game s mine holds = ap (λ (h : GameLists). story_of h s.answers) (same_game old name game s.game mine holds)
 
 -- How playing ends at a stage where nothing has changed since.
@@ -35,7 +36,7 @@ goes_from g k s store old mid still same h =
     (subst (λ q. GoesOnFrom g store (store_bytes q store) s) (sym still) h)
 
 -- The moments of a new session at a stage where nothing has changed since.
-pub new_parts : {S : Type 0} (gs : Ghosts S) (before after : S) (g k : Story) (seed : ℕ) (store : List ℕ) (old mid : Standing) → mid ≡ old → k ≡ g →
+pub new_parts : {S : Type 0} (gs : Ghosts S) (before after : S) (g k : Story) (seed : Seed) (store : List ℕ) (old mid : Standing) → mid ≡ old → k ≡ g →
     InTwoParts gs before after (NotYet store mid) (InNewSession (session_begun k seed store) mid) →
     InTwoParts gs before after (NotYet store old) (InNewSession (session_begun g seed store) old)
 new_parts gs before after g k seed store old mid still same p =

@@ -6,6 +6,7 @@ use Rattle.std.proofs.lemmas.Bool.{and_parts, and_from, and_right, not-true, not
 use Rattle.std.proofs.lemmas.Bool.{lt-ltb}
 use Rattle.std.proofs.lemmas.List.{append-nil}
 use Rattle.std.proofs.lemmas.List.Folds.{list_all-append}
+use Rattle.paw_base.specs.Bytes.{Bytes}
 use Rattle.paw_lex.specs.Bytes.{is_printed_byte, is_allowed, is_comment, has_forbidden_byte}
 use Rattle.paw_lex.specs.Tokens.{is_blank, tokens_of}
 use Rattle.paw_lex.specs.inner.Tokens.{ends_token}
@@ -136,7 +137,7 @@ more_step p d t ts h out =
     rw (no_forbidden_byte (is_text_line d l) l (printed-behind (t ∷ ts) h), text, tokens_of-behind t ts h) refl
 
 -- A line of tokens, of which the first begins with a stroke.
-pub slash_step : (p : ℕ) (d : Spelt) (bs : List ℕ) (ts : List (List ℕ)) → list_all is_plain ((47 ∷ bs) ∷ ts) ≡ true
+pub slash_step : (p : ℕ) (d : Spelt) (bs : Bytes) (ts : List (List ℕ)) → list_all is_plain ((47 ∷ bs) ∷ ts) ≡ true
     → after_line p d (tokens_spaced ((47 ∷ bs) ∷ ts)) ≡ slash_line d (47 ∷ bs) (number bs) ts
 unfolding after_line
 slash_step p d bs ts h =

@@ -5,6 +5,7 @@ use Rattle.std.proofs.Common.{arith, length-append}
 use Rattle.std.specs.List.{list_all, flat_map}
 use Rattle.std.proofs.lemmas.Bool.{and_parts, leb-true, le-ltb, lt-ltb, eq-eqb, ne_eqb}
 use Rattle.std.proofs.lemmas.List.{append_assoc, append-nil}
+use Rattle.paw_base.specs.Bytes.{Texts}
 use Rattle.paw_base.specs.declared.limits.TheConstants.{TEXT_LIMIT}
 use Rattle.paw_base.specs.declared.fault.SourceKind.{SourceKind}
 use Rattle.paw_game.specs.Valid.{is_text, is_printed}
@@ -184,7 +185,7 @@ item_step p s b d before n at text is room =
     }
 
 -- The items of texts after those that were read.
-pub items_read : (p : ℕ) (s : Section) (b : Bool) (d : Spelt) (before : List (List ℕ)) (n : ℕ) (texts : List (List ℕ)) →
+pub items_read : (p : ℕ) (s : Section) (b : Bool) (d : Spelt) (before : List (List ℕ)) (n : ℕ) (texts : Texts) →
     d.section ≡ s → is_text_section s ≡ true
     → n ≡ length before → length (before ++ texts) ≤ text_limit s → list_all is_text texts ≡ true →
     Then p s d (with_texts s b before d) (numbered_lines text_lines n texts) (before ++ texts)

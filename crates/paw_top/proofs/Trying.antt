@@ -1,5 +1,6 @@
 -- How a trial ends.
-use Rattle.std.proofs.Common.{◌≡◌, ◌≢◌, ℕ, List, [], ◌∷◌, Some, None, refl, sym, ap, ◌∙◌, subst}
+use Rattle.std.proofs.Common.{◌≡◌, ◌≢◌, ℕ, [], ◌∷◌, Some, None, refl, sym, ap, ◌∙◌, subst}
+use Rattle.paw_base.specs.Bytes.{Text}
 use Rattle.paw_stage.specs.Stage.{Standing}
 use Rattle.paw_stage.specs.AcrossCalls.{IsOneOf}
 use Rattle.paw_stage.specs.declared.StageCall.TheVariants as call
@@ -45,13 +46,13 @@ halt_answers halt.Over = (λ q. cc, tt, refl)
 halt_answers (halt.Spent kind) = (λ q. cc, tt, refl)
 halt_answers (halt.TooDeep table) = (λ q. cc, tt, refl)
 
-pub told : (n : ℕ) (old new : Standing) (o : Outcome) (text : List ℕ) (e : Ending) → trial_reading n ≡ e → IsTextOf n e text → Shows text old new o →
+pub told : (n : ℕ) (old new : Standing) (o : Outcome) (text : Text) (e : Ending) → trial_reading n ≡ e → IsTextOf n e text → Shows text old new o →
     Tries n old new o
 told n old new o text (WaitsAt p path r) is t s = shows o p path r is (subst (λ x. Shows x old new o) t s)
 told n old new o text _ is t s = absurd t
 
 -- Where no call fails the line is shown.
-shown_comes : (text : List ℕ) (old new : Standing) (o : Outcome) → Shows text old new o → IsUnhindered o → Comes outcome.Done o
+shown_comes : (text : Text) (old new : Standing) (o : Outcome) → Shows text old new o → IsUnhindered o → Comes outcome.Done o
 shown_comes text old new outcome.Done s free = refl
 shown_comes text old new (outcome.Outside call.Show) s free = absurd (hindered call.Show (λ q. cc) free)
 shown_comes text old new _ s free = absurd s

@@ -5,6 +5,7 @@ use Rattle.std.specs.Prelude.{codes}
 use Rattle.std.specs.List.{list_all, count_by}
 use Rattle.std.proofs.Math.ListN.{length-map}
 use Rattle.std.proofs.lemmas.Bool.{and_parts, and_from, leb-true, le-ltb, eqb-true, ne_eqb}
+use Rattle.paw_base.specs.Bytes.{Name}
 use Rattle.paw_base.specs.declared.limits.TheConstants.{IMAGE_LIMIT, LOCATION_LIMIT, SOURCE_LIMIT, WORD_LIMIT}
 use Rattle.paw_base.specs.declared.limits.TheConstants.{OBJECT_LIMIT, SYSTEM_LIMIT, MESSAGE_LIMIT, TABLE_LEAST}
 use Rattle.paw_base.specs.declared.limits.TheConstants.{TABLE_LIMIT}
@@ -107,7 +108,7 @@ texts_of_objects ws locations (o ∷ os) h =
 -- ---- sections ----
 
 -- After lines that are read, a section of texts.
-texts_read : (p : ℕ) (s : Section) (name : List ℕ) (d : Spelt) (before texts : List (List ℕ)) → Reads p nothing_yet before d →
+texts_read : (p : ℕ) (s : Section) (name : Name) (d : Spelt) (before texts : List (List ℕ)) → Reads p nothing_yet before d →
     LineReads p d name (section_opened s d) → with_texts s false [] (section_opened s d) ≡ section_opened s d → is_text_section s ≡ true
     → length texts ≤ text_limit s → list_all is_text texts ≡ true → (b : Bool)
     × Reads p nothing_yet (before ++ texts_lines name texts) (with_texts s b texts (section_opened s d))

@@ -3,6 +3,7 @@ use Rattle.std.proofs.Common.{◌≡◌, ℕ, ◌+◌, ◌<◌, ◌≤◌, List,
 use Rattle.std.proofs.Common.{arith, append-nil}
 use Rattle.std.specs.Prelude.{◌-◌, All}
 use Rattle.std.proofs.lemmas.List.{drop_all}
+use Rattle.paw_base.specs.Bytes.{Bytes, Lines}
 use Rattle.paw_base.specs.declared.limits.TheConstants.{EVENT_LIMIT}
 use Rattle.paw_stage.specs.Disk.{IsStable}
 use Rattle.paw_stage.specs.inner.Memory.{Memory, empty, standing_of}
@@ -38,7 +39,7 @@ use Rattle.paw_trial.proofs.Stops.{stops_later, stops_since, waits_since}
 
 -- ---- lines that are added ----
 
-module _ (old new : Memory) (lines : List (List ℕ)) (is : new ≡ record old { lines = old.lines ++ lines }) where
+module _ (old new : Memory) (lines : Lines) (is : new ≡ record old { lines = old.lines ++ lines }) where
   added_lines : old.lines ≡ [] → (standing_of new).lines ≡ lines
   added_lines none = ap (λ (m : Memory). m.lines) is ∙ ap (λ l. l ++ lines) none
 
@@ -70,11 +71,11 @@ stop_halted o halt e = ap stop_of (ends_by_halt o halt e) ∙ stops_by halt
 
 -- Lines are played after others, with more lines after them, by a session of the store whose reading ends as that of
 -- the others and these; what it keeps stands for them.
-module _ (n : ℕ) (es lines rest : List (List ℕ)) (all : (es ++ lines) ++ rest ≡ trial_lines n) (are : All IsLine lines) (s : PlayedSession)
+module _ (n : ℕ) (es lines rest : Lines) (all : (es ++ lines) ++ rest ≡ trial_lines n) (are : All IsLine lines) (s : PlayedSession)
     (named : s.name ≡ trial_store)
     (stops : (stop : TrialEnd) (fs : List (List ℕ)) → TrialStopsAs stop (s.whole fs) → TrialStopsAs stop (reading (trial_story n) n (es ++ fs)))
     (waits : (fs : List (List ℕ)) → Waits (s.whole fs) → Waits (reading (trial_story n) n (es ++ fs)))
-    (stands : (k : ℕ) (bytes : List ℕ) → k ≤ length lines → s.before + k ≤ EVENT_LIMIT → KeptBy s lines k bytes →
+    (stands : (k : ℕ) (bytes : Bytes) → k ≤ length lines → s.before + k ≤ EVENT_LIMIT → KeptBy s lines k bytes →
     Stands (trial_story n) n (es ++ first_lines k lines) bytes) where
   -- A trial that stops after k of them.
   stopped : (stop : TrialEnd) (k : ℕ) → TrialStopsAs stop (s.whole (first_lines k lines)) → TrialStopsAs stop (trial_reading n)

@@ -2,6 +2,7 @@
 use Rattle.std.proofs.Common.{◌≡◌, ℕ, ◌<◌, List, ◌++◌, length, get_or, take, sym, ap, ◌∙◌, arith}
 use Rattle.std.specs.Prelude.{slice_index, codes, decimal}
 use Rattle.std.proofs.lemmas.List.{get_or_append_left, get_or-take}
+use Rattle.paw_base.specs.Bytes.{Bytes, Text}
 use Rattle.paw_base.specs.declared.flags.TheConstants.{LOW_TURNS_FLAG, HIGH_TURNS_FLAG, LOCATION_FLAG, CARRIED_FLAG}
 use Rattle.paw_base.specs.declared.limits.TheConstants.{FLAG_COUNT}
 use Rattle.paw_game.specs.Game.{GameLists}
@@ -29,7 +30,7 @@ flags_first s i low = ap (λ (l : List ℕ). get_or l i 0) (state_same s) ∙ ge
 same_state : (d e : Digests) (s p t q : List ℕ) → Shown d s p ≡ Shown e t q → s ≡ t
 same_state d e s p t q h = cc
 
-module _ (g : GameLists) (n : ℕ) (buffer piece : List ℕ) (r : Recovered) (digests : Digests) (is : r ≡ Shown digests (take state_length buffer) piece) where
+module _ (g : GameLists) (n : ℕ) (buffer piece : Bytes) (r : Recovered) (digests : Digests) (is : r ≡ Shown digests (take state_length buffer) piece) where
   counts : (e : Ending) (own : Digests) → IsSettled g n e → Waits e → IsKept own n e r → IsTallyOf e (tally_in buffer)
   counts (WaitsAt p path s) own settled w kept =
       let same : take state_length buffer ≡ kept_bytes (state_at n p path s) = same_state _ _ _ _ _ _ (sym is ∙ kept.shown) in
@@ -44,7 +45,7 @@ module _ (g : GameLists) (n : ℕ) (buffer piece : List ℕ) (r : Recovered) (di
       cc
   counts _ own settled w kept = absurd w
 
-pub trial_counts : (n : ℕ) (bytes buffer piece : List ℕ) (digests : Digests) → n < 65536 → Waits (trial_reading n) →
+pub trial_counts : (n : ℕ) (bytes buffer piece : Bytes) (digests : Digests) → n < 65536 → Waits (trial_reading n) →
     Stands (trial_story n) n (trial_lines n) bytes →
     recover bytes ≡ Shown digests (take state_length buffer) piece → IsTallyOf (trial_reading n) (tally_in buffer)
 trial_counts n bytes buffer piece digests low waits stands is =
@@ -63,7 +64,7 @@ all_counted : (n locations objects events : ℕ) (t u : Tally) → locations ≡
 all_counted n locations objects events t u l o ev e = cc
 
 -- The line of what a session counts.
-pub told_counts : (n locations objects events : ℕ) (e : Ending) (t : Tally) (text : List ℕ) → IsTallyOf e t → locations ≡ location_count n →
+pub told_counts : (n locations objects events : ℕ) (e : Ending) (t : Tally) (text : Text) → IsTallyOf e t → locations ≡ location_count n →
     objects ≡ object_count n → events ≡ line_count n →
     text ≡ codes "TRIAL " ++ (decimal n ++ (codes ": " ++ (decimal locations ++ (codes " locations, " ++ (decimal objects ++ (codes " objects, "
     ++ (decimal events

@@ -9,6 +9,7 @@ use Rattle.std.proofs.lemmas.List.{take_all, take-append-drop}
 use Rattle.std.proofs.lemmas.List.Elements.{All-tail, All-head, All-take, All-drop}
 use Rattle.std.proofs.lemmas.List.Folds.{list_all_at}
 use Rattle.std.proofs.lemmas.List.FromFn.{get_or-map-range_with_len}
+use Rattle.paw_base.specs.Bytes.{Bytes, Line, Lines}
 use Rattle.paw_base.specs.declared.limits.TheConstants.{LINE_LIMIT}
 use Rattle.paw_play.specs.Walk.{first_lines}
 use Rattle.paw_reading.specs.Bounds.{IsLine, ValidStory}
@@ -21,7 +22,7 @@ use Rattle.paw_trial.specs.inner.Session.{first_half, second_half}
 
 -- ---- they are lines ----
 
-each_byte : (bytes : List ℕ) → list_all (λ b. nat_lt b 256) bytes ≡ true → (k d : ℕ) → k < length bytes → get_or bytes k d < 256
+each_byte : (bytes : Bytes) → list_all (λ b. nat_lt b 256) bytes ≡ true → (k d : ℕ) → k < length bytes → get_or bytes k d < 256
 each_byte bytes h k d low = by_test (nat_lt (get_or bytes k d) 256) refl
   where
     by_test : (b : Bool) → nat_lt (get_or bytes k d) 256 ≡ b → get_or bytes k d < 256
@@ -30,7 +31,7 @@ each_byte bytes h k d low = by_test (nat_lt (get_or bytes k d) 256) refl
         let broken : list_all (λ b. nat_lt b 256) bytes ≡ false = list_all_at (λ b. nat_lt b 256) bytes k d low e in
         absurd cc
 
-is_line : (line : List ℕ) → nat_le (length line) LINE_LIMIT ≡ true → list_all (λ b. nat_lt b 256) line ≡ true
+is_line : (line : Line) → nat_le (length line) LINE_LIMIT ≡ true → list_all (λ b. nat_lt b 256) line ≡ true
     → IsLine line
 is_line line short bytes = record { short = grind (arith, nat_tests); bytes = each_byte line bytes }
 
@@ -89,17 +90,17 @@ plays_all n low = record { valid = trial_story_valid n; fits = omega (arith, low
 -- ---- taking lines ----
 
 -- No line is cut.
-uncut : (lines : List (List ℕ)) → All IsLine lines → map (take LINE_LIMIT) lines ≡ lines
+uncut : (lines : Lines) → All IsLine lines → map (take LINE_LIMIT) lines ≡ lines
 uncut [] are = refl
 uncut (line ∷ lines) are =
     let rest : map (take LINE_LIMIT) lines ≡ lines = uncut lines (All-tail IsLine line lines are) in
     let this : take LINE_LIMIT line ≡ line = take_all LINE_LIMIT line (All-head IsLine line lines are).short in
     cc
 
-pub first_taken : (k : ℕ) (lines : List (List ℕ)) → All IsLine lines → first_lines k lines ≡ take k lines
+pub first_taken : (k : ℕ) (lines : Lines) → All IsLine lines → first_lines k lines ≡ take k lines
 first_taken k lines are = uncut (take k lines) (All-take IsLine k lines are)
 
-pub all_taken : (lines : List (List ℕ)) → All IsLine lines → first_lines (length lines) lines ≡ lines
+pub all_taken : (lines : Lines) → All IsLine lines → first_lines (length lines) lines ≡ lines
 all_taken lines are = first_taken (length lines) lines are ∙ take_all (length lines) lines (omega arith)
 
 -- Those that were taken and those that are left.

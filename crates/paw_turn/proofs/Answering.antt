@@ -2,6 +2,7 @@
 use Rattle.std.proofs.Common.{◌≡◌, ℕ, suc, ◌<◌, ◌≤◌, Bool, true, false, List, [], ◌∷◌, ◌++◌, Some}
 use Rattle.std.proofs.Common.{length, reverse, refl, sym, ap, ◌∙◌, subst, arith, length-append}
 use Rattle.std.proofs.lemmas.List.{length-reverse}
+use Rattle.paw_base.specs.Bytes.{Line, Lines}
 use Rattle.paw_effects.specs.Story.{Story}
 use Rattle.paw_game.specs.Valid.{Valid}
 use Rattle.paw_world.specs.World.{World}
@@ -33,7 +34,7 @@ use Rattle.paw_turn.proofs.Hearing.{main_ignored}
 
 -- ---- ignored lines ----
 
-path_ignores : (g : Story) (p : Prompt) (lv : ℕ) (f : Frame) (path : List Frame) (r : Run) (line : List ℕ) (lines : List (List ℕ))
+path_ignores : (g : Story) (p : Prompt) (lv : ℕ) (f : Frame) (path : List Frame) (r : Run) (line : Line) (lines : Lines)
     → is_ignored r.world line ≡ true
     → on_path g p lv (f ∷ path) (to_come (line ∷ lines) r) ≡ on_path g p lv (f ∷ path) (piece_closed (to_come lines r))
 unfolding prompt_asked
@@ -41,14 +42,14 @@ path_ignores g p lv f [] r line lines ignored = rw ignored refl
 path_ignores g p lv f (h ∷ path) r line lines ignored =
     ap (after_call f (rest_of_table g lv f.table f.entry (suc f.at))) (path_ignores g p (suc lv) h path r line lines ignored)
 
-some_ignores : (g : Story) (p : Prompt) (path : List Frame) (r : Run) (line : List ℕ) (lines : List (List ℕ)) → 0 < length path
+some_ignores : (g : Story) (p : Prompt) (path : List Frame) (r : Run) (line : Line) (lines : Lines) → 0 < length path
     → is_ignored r.world line ≡ true → on_path g p 0 path (to_come (line ∷ lines) r) ≡ on_path g p 0 path (piece_closed (to_come lines r))
 some_ignores g p [] r line lines some ignored = absurd (omega arith)
 some_ignores g p (f ∷ path) r line lines some ignored = path_ignores g p 0 f path r line lines ignored
 
 -- A prompt in tables at which an ignored line comes.
-in_table_ignored : (g : Story) (p : Prompt) (old : PlayState) (line : List ℕ) → 0 < length old.machine.frames → is_ignored old.surroundings.world line ≡ true
-    → (n : ℕ) (past : Past) (lines : List (List ℕ))
+in_table_ignored : (g : Story) (p : Prompt) (old : PlayState) (line : Line) → 0 < length old.machine.frames → is_ignored old.surroundings.world line ≡ true
+    → (n : ℕ) (past : Past) (lines : Lines)
     → table_done g (turn g n) (first_table (reverse old.machine.frames)) (on_path g p 0 (reverse old.machine.frames) (run_now old past (line ∷ lines)))
     ≡ table_done g (turn g n) (first_table (reverse old.machine.frames)) (on_path g p 0 (reverse old.machine.frames) (piece_closed (run_now old past lines)))
 in_table_ignored g p old line some ignored n past lines =
@@ -57,7 +58,7 @@ in_table_ignored g p old line some ignored n past lines =
     (some_ignores g p (reverse old.machine.frames) (run_now old past []) line lines many ignored)
 
 -- An ignored line closes an empty piece, and the game waits on.
-pub ignored_plays : (g : Story) (p : Prompt) (old : PlayState) (line : List ℕ) → StandsAt p old.machine → is_ignored old.surroundings.world line ≡ true
+pub ignored_plays : (g : Story) (p : Prompt) (old : PlayState) (line : Line) → StandsAt p old.machine → is_ignored old.surroundings.world line ≡ true
     → PlaysAs g (from_prompt g p old line) old (next.Stop (stop.Waits p)) old
 ignored_plays g prompt.Main old line stands ignored past has = main_ignored g old line ignored past has
 ignored_plays g prompt.Quit old line stands ignored past has =
@@ -70,13 +71,13 @@ ignored_plays g prompt.Over old line stands ignored past has = absurd stands
 
 -- ---- the answer to QUIT, and a key ----
 
-answered_path : (g : Story) (p : Prompt) (old : PlayState) (line : List ℕ) (w : World) (m : OpenTables) (agrees : Bool)
+answered_path : (g : Story) (p : Prompt) (old : PlayState) (line : Line) (w : World) (m : OpenTables) (agrees : Bool)
     → AwaitsAt p old.machine → Valid g.game → is_ignored old.surroundings.world line ≡ false → is_yes (reply line) ≡ agrees
     → w ≡ with_timeout (is_timeout line) old.surroundings.world
     → (old.machine.waiting ≡ Some prompt.Quit → AnswersQuit agrees old.machine.frames m.frames)
     → (old.machine.waiting ≡ Some prompt.Key → AnswersKey old.machine.frames m.frames)
     → m.turning ≡ old.machine.turning
-    → (past : Past) (lines : List (List ℕ))
+    → (past : Past) (lines : Lines)
     → from_path g p old line past lines ≡ going_in g m.frames (run_now (record (in_world w old) { machine = m }) past lines)
 answered_path g prompt.Main old line w m agrees awaits valid hears same world quit key turning past lines = absurd awaits
 answered_path g prompt.Quit old line w m agrees awaits valid hears same world quit key turning past lines =
@@ -87,7 +88,7 @@ answered_path g prompt.Key old line w m agrees awaits valid hears same world qui
 answered_path g prompt.Over old line w m agrees awaits valid hears same world quit key turning past lines = absurd awaits
 
 -- The machine reads on where it was answered.
-pub answered_runs : (g : Story) (p : Prompt) (old mid : PlayState) (line : List ℕ) (w : World) (m : OpenTables) (agrees : Bool) (turned : Turned)
+pub answered_runs : (g : Story) (p : Prompt) (old mid : PlayState) (line : Line) (w : World) (m : OpenTables) (agrees : Bool) (turned : Turned)
     → AwaitsAt p old.machine → Valid g.game → is_ignored old.surroundings.world line ≡ false → is_yes (reply line) ≡ agrees
     → w ≡ with_timeout (is_timeout line) old.surroundings.world
     → (old.machine.waiting ≡ Some prompt.Quit → AnswersQuit agrees old.machine.frames m.frames)
@@ -109,7 +110,7 @@ answered_runs g p old mid line w m agrees turned awaits valid hears same world q
     )
 
 -- A prompt in tables from which going on is read.
-awaited : (g : Story) (p : Prompt) (old : PlayState) (line : List ℕ) → AwaitsAt p old.machine → (n : ℕ) (past : Past) (lines : List (List ℕ))
+awaited : (g : Story) (p : Prompt) (old : PlayState) (line : Line) → AwaitsAt p old.machine → (n : ℕ) (past : Past) (lines : Lines)
     → from_prompt g p old line n past lines ≡ table_done g (turn g n) (first_table (reverse old.machine.frames)) (from_path g p old line past lines)
 awaited g prompt.Main old line awaits n past lines = absurd awaits
 awaited g prompt.Quit old line awaits n past lines = refl
@@ -117,7 +118,7 @@ awaited g prompt.Again old line awaits n past lines = absurd awaits
 awaited g prompt.Key old line awaits n past lines = refl
 awaited g prompt.Over old line awaits n past lines = absurd awaits
 
-pub answer_plays : (g : Story) (p : Prompt) (t : ℕ) (old mid new : PlayState) (line : List ℕ) (turned : Turned) (nx : Next)
+pub answer_plays : (g : Story) (p : Prompt) (t : ℕ) (old mid new : PlayState) (line : Line) (turned : Turned) (nx : Next)
     → AwaitsAt p old.machine → t ≡ first_table (reverse old.machine.frames)
     → RunsAs g (from_path g p old line) old turned mid → MovesAfter g t turned mid nx new → ReadsNone mid.machine new.machine
     → PlaysAs g (from_prompt g p old line) old nx new
@@ -147,7 +148,7 @@ wait_after : (g : Story) (q p : Prompt) (from path : List Frame) (r s : Run) →
 wait_after g q p [] path r s inner some loop is = absurd (omega arith)
 wait_after g q p (f ∷ from) path r s inner some loop is = path_waits g q p f from path r s inner loop is
 
-pub answered_stops : (g : Story) (p : Prompt) (old mid : PlayState) (line : List ℕ) (turned : Turned) → AwaitsAt p old.machine → HasReadSome old.machine
+pub answered_stops : (g : Story) (p : Prompt) (old mid : PlayState) (line : Line) (turned : Turned) → AwaitsAt p old.machine → HasReadSome old.machine
     → RunsAs g (from_path g p old line) old turned mid → IsStopped turned mid.machine
     → StopsInTable (first_table (reverse old.machine.frames)) turned mid.machine
 answered_stops g prompt.Main old mid line turned awaits budget = absurd awaits

@@ -4,6 +4,7 @@ use Rattle.std.proofs.Common.{reverse, refl, ap, ◌∙◌, subst, arith}
 use Rattle.std.specs.Prelude.{if◌then◌else◌, nat_le}
 use Rattle.std.proofs.lemmas.List.{length-reverse, length-map}
 use Rattle.std.proofs.lemmas.Bool.Decides.{nat_tests}
+use Rattle.paw_base.specs.Bytes.{Line, Lines, Text}
 use Rattle.paw_base.specs.declared.fault.SpentKind.TheVariants as spent
 use Rattle.paw_base.specs.declared.parts.ObjectFacts.{ObjectFacts}
 use Rattle.paw_base.specs.inner.Piece.{Puts}
@@ -56,7 +57,7 @@ final_call f go true false e s d = refl
 final_call f go false fit e s d = refl
 
 -- The answer is the same in all tables.
-path_again : (g : Story) (lv : ℕ) (f : Frame) (path : List Frame) (r : Run) (line : List ℕ) (lines : List (List ℕ)) → is_ignored r.world line ≡ false
+path_again : (g : Story) (lv : ℕ) (f : Frame) (path : List Frame) (r : Run) (line : Line) (lines : Lines) → is_ignored r.world line ≡ false
     → on_path g prompt.Again lv (f ∷ path) (to_come (line ∷ lines) r) ≡ answer_of g line (with_line_heard line (to_come lines r))
 unfolding prompt_asked
 path_again g lv f [] r line lines hears = rw hears (final_again lv (rest_of_loop g (deeper g lv) lv) _ _ _ _ _)
@@ -64,14 +65,14 @@ path_again g lv f (h ∷ path) r line lines hears =
     ap (after_call f (rest_of_table g lv f.table f.entry (suc f.at))) (path_again g (suc lv) h path r line lines hears)
     ∙ final_call f (rest_of_table g lv f.table f.entry (suc f.at)) _ _ _ _ _
 
-some_again : (g : Story) (path : List Frame) (r : Run) (line : List ℕ) (lines : List (List ℕ)) → 0 < length path → is_ignored r.world line ≡ false
+some_again : (g : Story) (path : List Frame) (r : Run) (line : Line) (lines : Lines) → 0 < length path → is_ignored r.world line ≡ false
     → on_path g prompt.Again 0 path (to_come (line ∷ lines) r) ≡ answer_of g line (with_line_heard line (to_come lines r))
 some_again g [] r line lines some hears = absurd (omega arith)
 some_again g (f ∷ path) r line lines some hears = path_again g 0 f path r line lines hears
 
 -- The whole is the answer.
-again_is : (g : Story) (old : PlayState) (line : List ℕ) → 0 < length old.machine.frames → is_ignored old.surroundings.world line ≡ false
-    → (n : ℕ) (past : Past) (lines : List (List ℕ))
+again_is : (g : Story) (old : PlayState) (line : Line) → 0 < length old.machine.frames → is_ignored old.surroundings.world line ≡ false
+    → (n : ℕ) (past : Past) (lines : Lines)
     → from_prompt g prompt.Again old line n past lines
     ≡ table_done g (turn g n) (first_table (reverse old.machine.frames)) (answer_of g line (with_line_heard line (run_now old past lines)))
 again_is g old line some hears n past lines =
@@ -92,7 +93,7 @@ final_spends : (g : Story) (go : TurnPhase → Run → Ending) (t : ℕ) (declin
 final_spends g go t declines fit e s d is fitting = rw (is, fitting) refl
 
 -- At any answer but no the game starts anew.
-pub again_restarts : (g : Story) (old new : PlayState) (line : List ℕ) → 0 < length old.machine.frames → is_ignored old.surroundings.world line ≡ false
+pub again_restarts : (g : Story) (old new : PlayState) (line : Line) → 0 < length old.machine.frames → is_ignored old.surroundings.world line ≡ false
     → is_no (reply line) ≡ false
     → new.surroundings.world ≡ world_restarted (with_timeout (is_timeout line) old.surroundings.world) → new.surroundings.pending.bytes ≡ []
     → new.surroundings.pending.earlier ≡ NO_WORD
@@ -111,7 +112,7 @@ again_restarts g old new line some hears declines world bytes earlier turning no
 )
 
 -- At no the game is over, and the run is what is held.
-again_ends : (g : Story) (old new : PlayState) (line : List ℕ) (w : World) → 0 < length old.machine.frames
+again_ends : (g : Story) (old new : PlayState) (line : Line) (w : World) → 0 < length old.machine.frames
     → is_ignored old.surroundings.world line ≡ false → is_no (reply line) ≡ true
     → w ≡ with_timeout (is_timeout line) old.surroundings.world
     → length old.surroundings.piece + length (say_text g.game w GOODBYE_MESSAGE) ≤ PIECE_LIMIT
@@ -142,14 +143,14 @@ again_ends g old new line w some hears declines world fit piece stays bytes earl
       ),
     )
   where
-    held_is : (past : Past) (lines : List (List ℕ)) (u : World) (text : List ℕ)
+    held_is : (past : Past) (lines : Lines) (u : World) (text : Text)
         (v : World) (b : List ℕ) (e : ℕ) (o : Option OpenLoop) (q : List ℕ)
         → v ≡ u → b ≡ [] → e ≡ old.surroundings.pending.earlier → o ≡ None → q ≡ text
         → piece_closed (run_from u [] old.surroundings.pending.earlier None text past lines) ≡ piece_closed (run_from v b e o q past lines)
     held_is past lines u text v b e o q world bytes earlier turning piece = rw (world, bytes, earlier, turning, piece) refl
 
 -- Where the farewell doesn't fit the piece is spent.
-again_spends : (g : Story) (old new : PlayState) (line : List ℕ) (w : World) → 0 < length old.machine.frames
+again_spends : (g : Story) (old new : PlayState) (line : Line) (w : World) → 0 < length old.machine.frames
     → is_ignored old.surroundings.world line ≡ false → is_no (reply line) ≡ true
     → w ≡ with_timeout (is_timeout line) old.surroundings.world
     → PIECE_LIMIT < length old.surroundings.piece + length (say_text g.game w GOODBYE_MESSAGE)
@@ -176,7 +177,7 @@ again_spends g old new line w some hears declines world full none past has =
     )
 
 -- At no the game is over where the farewell fits, and else the piece is spent.
-pub again_told : (g : Story) (old new : PlayState) (line : List ℕ) (w : World) (told : Bool) → 0 < length old.machine.frames
+pub again_told : (g : Story) (old new : PlayState) (line : Line) (w : World) (told : Bool) → 0 < length old.machine.frames
     → is_ignored old.surroundings.world line ≡ false → is_no (reply line) ≡ true
     → w ≡ with_timeout (is_timeout line) old.surroundings.world
     → Puts old.surroundings.piece new.surroundings.piece told (say_text g.game w GOODBYE_MESSAGE)

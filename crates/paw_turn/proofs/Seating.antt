@@ -5,6 +5,7 @@ use Rattle.std.specs.Prelude.{if◌then◌else◌, nat_lt}
 use Rattle.std.specs.Option.{option_or}
 use Rattle.std.proofs.lemmas.Bool.{eqb-true, ltb-true}
 use Rattle.std.proofs.lemmas.List.{reverse-reverse}
+use Rattle.paw_base.specs.Bytes.{Seed}
 use Rattle.paw_base.specs.declared.limits.TheConstants.{READ_LIMIT, STEP_LIMIT}
 use Rattle.paw_base.specs.inner.Steps.{KeptSteps}
 use Rattle.paw_base.specs.inner.Steps.{no_steps, steps_only_counted}
@@ -205,7 +206,7 @@ counting_seated p k =
         → StandRightly p.game (prompt_at p.last) p.world (only_counting p.machine) p.pending
     same r = record { world = r.world; places = r.places; line = r.line; pending = r.pending; earlier = r.earlier; piece = r.piece; read = r.read }
 
-pub counting_new : {F : Type 0} (p : PlayerView F) (seed : ℕ) → IsNew p seed → IsNew (only_counting_player p) seed
+pub counting_new : {F : Type 0} (p : PlayerView F) (seed : Seed) → IsNew p seed → IsNew (only_counting_player p) seed
 counting_new p seed k = record { world = k.world; pending = k.pending; machine = ap (λ (m : OpenTables). only_counting m) k.machine; piece = k.piece }
 
 -- With its own parts, and a machine that was restored from what is kept of its own, a player fits its game.
@@ -232,7 +233,7 @@ same_fits p g w m q at seated standing game world machine pending prompt_is =
 
 -- ---- a player that starts anew ----
 
-pub begun : {F : Type 0} (p : PlayerView F) (seed most : ℕ) → Valid p.game → p.world ≡ opening_world p.game seed
+pub begun : {F : Type 0} (p : PlayerView F) (seed : Seed) (most : ℕ) → Valid p.game → p.world ≡ opening_world p.game seed
     → p.pending ≡ record { bytes = []; earlier = NO_WORD }
     → p.machine ≡ new_machine most → p.last ≡ step.Waits prompt.Main → IsSeated p
 begun p seed most valid world pending machine last = record {
@@ -249,7 +250,7 @@ begun p seed most valid world pending machine last = record {
   });
 }
 
-pub renewed : {F : Type 0} (p q : PlayerView F) (seed most : ℕ) → IsSeated p → q.game ≡ p.game → q.world ≡ opening_world q.game seed
+pub renewed : {F : Type 0} (p q : PlayerView F) (seed : Seed) (most : ℕ) → IsSeated p → q.game ≡ p.game → q.world ≡ opening_world q.game seed
     → q.pending ≡ record { bytes = []; earlier = NO_WORD } → q.machine ≡ new_machine most
     → q.last ≡ step.Waits prompt.Main → IsSeated q
 renewed p q seed most seated game = begun q seed most (subst Valid (sym game) seated.valid)

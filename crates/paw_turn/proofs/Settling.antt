@@ -1,5 +1,6 @@
 -- From some phases to the whole reading.
 use Rattle.std.proofs.Common.{◌≡◌, ◌≢◌, ℕ, List, [], ◌∷◌, Option, None, reverse, refl, sym, ap, ◌∙◌}
+use Rattle.paw_base.specs.Bytes.{Bytes, Line, Lines, Text, Texts}
 use Rattle.paw_base.proofs.Noted.{kept_none}
 use Rattle.paw_base.specs.declared.words.TheConstants.{NO_WORD}
 use Rattle.paw_effects.specs.Story.{Story}
@@ -31,12 +32,12 @@ use Rattle.paw_turn.specs.inner.Phases.{Plays, from_phase, from_prompt, seat_of,
 
 -- An ending that comes once is the whole's.
 abbrev Once : (ℕ → List (List ℕ) → Ending) → (List (List ℕ) → Ending) → Type 0
-Once whole total = (m : ℕ) (lines : List (List ℕ)) → whole m lines ≢ Unended → whole m lines ≡ total lines
+Once whole total = (m : ℕ) (lines : Lines) → whole m lines ≢ Unended → whole m lines ≡ total lines
 
 -- Where some phases of the whole end it for good, with no piece to show, it ends so.
 halts : {F : Type 0} (whole : ℕ → List (List ℕ) → Ending) (total : List (List ℕ) → Ending) → Once whole total
     → (halt : Halt) (p : PlayerView F) (new : PlayState) (past : Past) → p.piece ≡ []
-    → ((n : ℕ) (lines : List (List ℕ)) → (m : ℕ) × TurnHalts halt (run_now new past lines) (whole m lines))
+    → ((n : ℕ) (lines : Lines) → (m : ℕ) × TurnHalts halt (run_now new past lines) (whole m lines))
     → PlayHalts total halt p past.pieces past.traces
 halts whole total once halt p new past none stops = (
   none,
@@ -49,7 +50,7 @@ halts whole total once halt p new past none stops = (
 -- Where some phases of the whole stop, it stops.
 settles : {F : Type 0} (g : Story) (routines : Routines F) (whole : ℕ → List (List ℕ) → Ending) (total : List (List ℕ) → Ending) → Once whole total
     → (s : TurnStop) (last : Step) (new : PlayState) (past : Past) → HasRead past.read new.machine
-    → ((n : ℕ) (lines : List (List ℕ)) → (m : ℕ) × StopsAs g n s new.machine.frames (run_now new past lines) (whole m lines))
+    → ((n : ℕ) (lines : Lines) → (m : ℕ) × StopsAs g n s new.machine.frames (run_now new past lines) (whole m lines))
     → PlaysTo g total (step_of s) (seat_of g.game routines (state_settled (step_of s) new) last) past.pieces past.traces
 settles g routines whole total once (stop.Waits p) last new past has stops = (
   past.read,
@@ -98,15 +99,15 @@ start_plays g routines old new s last plays fresh =
     ends_once g m AtDescribe (run_now old (before [] []) lines) differs ∙ ap (turns_from g AtDescribe) same)
     s (step_of s) new (having_read t.0 (before [] [])) t.1.0 t.1.1
   where
-    opens : (w : World) (bytes : List ℕ) (earlier : ℕ) (turning : Option OpenLoop) (piece : List ℕ) (lines : List (List ℕ))
+    opens : (w : World) (bytes : Bytes) (earlier : ℕ) (turning : Option OpenLoop) (piece : Text) (lines : Lines)
         → w ≡ opening_world g.game old.surroundings.world.seed → bytes ≡ [] → earlier ≡ NO_WORD
         → turning ≡ None → piece ≡ []
         → run_from w bytes earlier turning piece (before [] []) lines ≡ opening g old.surroundings.world.seed lines
     opens w bytes earlier turning piece lines world b e t p = rw (world, b, e, t, p) refl
 
 -- A line leads from a player's prompt to the next.
-pub take_plays : {F : Type 0} (g : Story) (routines : Routines F) (p : Prompt) (old new : PlayState) (line : List ℕ) (s : TurnStop)
-    → (pieces : List (List ℕ)) (traces : List (List Read))
+pub take_plays : {F : Type 0} (g : Story) (routines : Routines F) (p : Prompt) (old new : PlayState) (line : Line) (s : TurnStop)
+    → (pieces : Texts) (traces : List (List Read))
     → PlaysAs g (from_prompt g p (opened_piece old) line) (opened_piece old) (next.Stop s) new
     → let seat = seat_of g.game routines old (step.Waits p) in
     PlaysTo g (λ lines. going_on_from g p (reverse old.machine.frames) (run_at seat pieces traces (line ∷ lines))) (step_of s)

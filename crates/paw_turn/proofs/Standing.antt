@@ -5,6 +5,7 @@ use Rattle.std.specs.Prelude.{All}
 use Rattle.std.specs.Fn.{Shared}
 use Rattle.std.proofs.Math.ListN.{get_or}
 use Rattle.std.proofs.lemmas.List.{length-reverse}
+use Rattle.paw_base.specs.Bytes.{Bytes, Line, Texts, RoutineAnswers, Seed}
 use Rattle.paw_game.specs.Game.{GameLists}
 use Rattle.paw_game.specs.Valid.{Valid}
 use Rattle.paw_world.specs.World.{World}
@@ -33,11 +34,11 @@ use Rattle.paw_turn.specs.inner.Player.{PlayerView, PlaysTo, StandsClosed, Stand
 use Rattle.paw_turn.specs.inner.Player.{IsStanding, prompt_at, run_at, run_with}
 
 -- Answers that stand for routines make a story of a valid game.
-pub valid_story : {F : Type 0} (calls : Shared F (ℕ × (ℕ × Unit {0})) ℕ) (routines : Routines F) (g : GameLists) (X : List (List ℕ)) → Valid g
+pub valid_story : {F : Type 0} (calls : Shared F (ℕ × (ℕ × Unit {0})) ℕ) (routines : Routines F) (g : GameLists) (X : RoutineAnswers) → Valid g
     → AreAnswersOf calls routines X → ValidStory (story_of g X)
 valid_story calls routines g X v answers = record { game = v; whole = answers.whole; bytes = answers.bytes }
 
-pub bytes_each : (bytes : List ℕ) → ((i : ℕ) → get_or bytes i 0 < 256) → AreBytes bytes
+pub bytes_each : (bytes : Bytes) → ((i : ℕ) → get_or bytes i 0 < 256) → AreBytes bytes
 bytes_each [] h k d low = absurd (omega (arith, low))
 bytes_each (b ∷ bs) h zero d low = h 0
 bytes_each (b ∷ bs) h (suc k) d low = bytes_each bs (λ i. h (suc i)) k d (omega (arith, low))
@@ -68,7 +69,7 @@ stands_alike g at path w m p pieces pieces' traces traces' lines lines' k =
     record { world = k.world; places = k.places; line = k.line; pending = k.pending; earlier = k.earlier; piece = refl; read = refl }
 
 -- At the end no table is open.
-stands_over : (g : GameLists) (w : World) (m : OpenTables) (p : PendingLine) (pieces : List (List ℕ)) (traces : List (List Read)) → IsClosed m
+stands_over : (g : GameLists) (w : World) (m : OpenTables) (p : PendingLine) (pieces : Texts) (traces : List (List Read)) → IsClosed m
     → StandsRightly g prompt.Over [] (run_with w m p pieces traces []) → StandRightly g prompt.Over w m p
 stands_over g w m p pieces traces closed k =
     record {
@@ -81,7 +82,7 @@ stands_over g w m p pieces traces closed k =
       read = refl;
     }
 
-stands_at : {F : Type 0} (g : Story) (whole : List (List ℕ) → Ending) (s : Step) (p : PlayerView F) (pieces : List (List ℕ)) (traces : List (List Read))
+stands_at : {F : Type 0} (g : Story) (whole : List (List ℕ) → Ending) (s : Step) (p : PlayerView F) (pieces : Texts) (traces : List (List Read))
     → StandsClosed s p.machine
     → PlaysTo g whole s p pieces traces → StopsRightly g.game (whole []) → IsStanding s → StandRightly g.game (prompt_at s) p.world p.machine p.pending
 stands_at g whole (step.Waits q) p pieces traces stands plays rightly standing =
@@ -95,17 +96,17 @@ stands_at g whole step.Ended p pieces traces closed plays rightly standing =
 stands_at g whole s p pieces traces closed plays rightly standing = absurd standing
 
 -- A player that was started.
-pub started : {F : Type 0} (g : Story) (seed : ℕ) (s : Step) (p : PlayerView F) → ValidStory g → StandsClosed s p.machine → PlaysTo g (reading g seed) s p [] []
+pub started : {F : Type 0} (g : Story) (seed : Seed) (s : Step) (p : PlayerView F) → ValidStory g → StandsClosed s p.machine → PlaysTo g (reading g seed) s p [] []
     → IsStanding s → StandRightly g.game (prompt_at s) p.world p.machine p.pending
 started g seed s p v stands plays =
     stands_at g (reading g seed) s p [] [] stands plays (readings_stop_rightly g seed [] v (λ k d low. absurd (omega arith)))
 
-one_line : (line : List ℕ) → IsLine line → All IsLine (line ∷ [])
+one_line : (line : Line) → IsLine line → All IsLine (line ∷ [])
 one_line line is zero d low = is
 one_line line is (suc k) d low = absurd (omega arith)
 
 -- A player that took a line where it stood at a prompt.
-pub taken_on : {F : Type 0} (g : Story) (old new : PlayerView F) (line : List ℕ) (q : Prompt) (s : Step) → ValidStory g → old.game ≡ g.game → IsSeated old
+pub taken_on : {F : Type 0} (g : Story) (old new : PlayerView F) (line : Line) (q : Prompt) (s : Step) → ValidStory g → old.game ≡ g.game → IsSeated old
     → old.last ≡ step.Waits q → IsLine line
     → StandsClosed s new.machine → PlaysTo g (λ lines. going_on_from g q (reverse old.machine.frames) (run_at old [] [] (line ∷ lines))) s new [] []
     → IsStanding s → StandRightly g.game (prompt_at s) new.world new.machine new.pending
@@ -131,7 +132,7 @@ seated_so g own routines mid h s game valid settled stopped rightly =
 
 pub start_seated : {F : Type 0} (calls : Shared F (ℕ × (ℕ × Unit {0})) ℕ) (routines : Routines F) (old : PlayerView F) (own : GameLists) (mid h : PlayState)
     (s : Step)
-    (X : List (List ℕ)) → AreAnswersOf calls old.routines X → IsSeated old → own ≡ old.game → h ≡ state_settled s mid → StandsClosed s mid.machine
+    (X : RoutineAnswers) → AreAnswersOf calls old.routines X → IsSeated old → own ≡ old.game → h ≡ state_settled s mid → StandsClosed s mid.machine
     → PlaysTo (story_of old.game X) (reading (story_of old.game X) old.world.seed) s (seat_of own routines h s) [] []
     → IsSeated (seat_of own routines h s)
 start_seated calls routines old own mid h s X answers seated game settled stopped plays =
@@ -141,7 +142,7 @@ start_seated calls routines old own mid h s X answers seated game settled stoppe
 
 pub take_seated : {F : Type 0} (calls : Shared F (ℕ × (ℕ × Unit {0})) ℕ) (routines : Routines F) (old : PlayerView F) (own : GameLists) (mid h : PlayState)
     (s : Step)
-    (X : List (List ℕ)) (q : Prompt) (line : List ℕ) → AreAnswersOf calls old.routines X → IsSeated old → own ≡ old.game → h ≡ state_settled s mid
+    (X : RoutineAnswers) (q : Prompt) (line : Line) → AreAnswersOf calls old.routines X → IsSeated old → own ≡ old.game → h ≡ state_settled s mid
     → StandsClosed s mid.machine → old.last ≡ step.Waits q → IsLine line
     → PlaysTo (story_of old.game X) (λ lines. going_on_from (story_of old.game X) q (reverse old.machine.frames) (run_at old [] [] (line ∷ lines))) s
     (seat_of own routines h s) [] []

@@ -1,4 +1,5 @@
-use Rattle.std.proofs.Common.{◌≡◌, ◌+◌, ◌-◌, ◌*◌, ◌≤◌, ℕ, List, None}
+use Rattle.std.proofs.Common.{◌≡◌, ◌+◌, ◌-◌, ◌*◌, ◌≤◌, None}
+use Rattle.paw_base.specs.Bytes.{RoutineAnswers}
 use Rattle.paw_base.specs.declared.limits.TheConstants.{READ_LIMIT}
 use Rattle.paw_base.specs.declared.limits.TheConstants.{EVENT_LIMIT}
 use Rattle.paw_routines.specs.Routines.{AreAnswersOf, HaveAnswers}
@@ -26,10 +27,10 @@ invariant-loop g l = record {
   draws : l.player.world.draws ≤ READ_LIMIT * (l.counter + 1);
   serves : FailsOnlyBy g.S.Stage play_calls None l.fn.stage l.stage;
   kept : g.S.Stage.Tells l.fn.stage → KeptIn l.session.journal l.room (g.S.Stage.standing l.stage);
-  playing : g.S.Stage.Tells l.fn.stage → (X : List (List ℕ)) → AreAnswersOf g.F.Fn l.fn.player.routines X → (s : PlayedSession) (first : Standing) →
+  playing : g.S.Stage.Tells l.fn.stage → (X : RoutineAnswers) → AreAnswersOf g.F.Fn l.fn.player.routines X → (s : PlayedSession) (first : Standing) →
       IsPlaying (story_of l.fn.player.game X) s first (g.S.Stage.standing l.fn.stage) l.fn.player 0 → l.fn.session.events ≡ s.before →
       IsPlaying (story_of l.player.game X) s first (g.S.Stage.standing l.stage) l.player (l.counter - s.before);
-  passes : g.S.Stage.Tells l.fn.stage → (X : List (List ℕ)) → AreAnswersOf g.F.Fn l.fn.player.routines X → (s : PlayedSession) (first : Standing) →
+  passes : g.S.Stage.Tells l.fn.stage → (X : RoutineAnswers) → AreAnswersOf g.F.Fn l.fn.player.routines X → (s : PlayedSession) (first : Standing) →
       IsPlaying (story_of l.fn.player.game X) s first (g.S.Stage.standing l.fn.stage) l.fn.player 0 → l.fn.session.events ≡ s.before →
       Passes (g.S.Stage.clock l.fn.stage) (g.S.Stage.clock l.stage) (g.S.Stage.since l.fn.stage) (g.S.Stage.since l.stage) (InPlay s first);
 }

@@ -1,15 +1,16 @@
-use Rattle.std.proofs.Common.{◌≡◌, List, ℕ}
+use Rattle.std.proofs.Common.{◌≡◌}
 use Rattle.std.specs.Prelude.{Result, Ok, Err, OnOk, OnErr}
+use Rattle.paw_base.specs.Bytes.{Text}
 use Rattle.paw_stage.specs.declared.Failed.{Failed}
 use Rattle.paw_stage.specs.Stage.{Standing, ShowsTo, InShow, with_shown}
 use Rattle.paw_play.proofs.show.show.Goals as goal
 
 -- What a show that was done leaves, and one that failed.
-done : {A : Type 0} (old new : Standing) (text : List ℕ) (r : Result A Failed) → ShowsTo old new text r → OnOk r (new ≡ with_shown text old)
+done : {A : Type 0} (old new : Standing) (text : Text) (r : Result A Failed) → ShowsTo old new text r → OnOk r (new ≡ with_shown text old)
 done old new text (Ok a) h = h
 done old new text (Err e) h = tt
 
-failed : {A : Type 0} (old new : Standing) (text : List ℕ) (r : Result A Failed) → ShowsTo old new text r → OnErr r (InShow old text new)
+failed : {A : Type 0} (old new : Standing) (text : Text) (r : Result A Failed) → ShowsTo old new text r → OnErr r (InShow old text new)
 failed old new text (Ok a) h = tt
 failed old new text (Err e) h = h
 

@@ -1,4 +1,5 @@
-use Rattle.std.proofs.Common.{◌≡◌, ◌+◌, ◌*◌, ◌≤◌, ℕ, List, None}
+use Rattle.std.proofs.Common.{◌≡◌, ◌+◌, ◌*◌, ◌≤◌, None}
+use Rattle.paw_base.specs.Bytes.{RoutineAnswers}
 use Rattle.paw_base.specs.declared.limits.TheConstants.{READ_LIMIT}
 use Rattle.paw_stage.specs.Stage.{Standing}
 use Rattle.paw_stage.specs.AcrossCalls.{FailsOnlyBy}
@@ -19,7 +20,7 @@ invariant-loop g l = record {
   serves : FailsOnlyBy g.S.Stage walk_calls None l.fn.stage l.stage;
   routines : l.player.routines ≡ l.fn.player.routines;
   answers : HaveAnswers g.F.Fn l.player.routines;
-  walking : g.S.Stage.Tells l.fn.stage → (X : List (List ℕ)) → AreAnswersOf g.F.Fn l.fn.player.routines X → (whole : EndingOf) (first : Standing) →
+  walking : g.S.Stage.Tells l.fn.stage → (X : RoutineAnswers) → AreAnswersOf g.F.Fn l.fn.player.routines X → (whole : EndingOf) (first : Standing) →
       IsWalking g.P.Preface.showing (story_of l.fn.player.game X) whole first (g.S.Stage.standing l.fn.stage) l.fn.player 0 →
       IsWalking g.P.Preface.showing (story_of l.player.game X) whole first (g.S.Stage.standing l.stage) l.player l.counter;
 }

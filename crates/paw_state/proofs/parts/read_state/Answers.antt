@@ -1,6 +1,7 @@
-use Rattle.std.proofs.Common.{◌≡◌, ℕ, ◌≤◌, List, length, refl, sym, ap, ◌∙◌, Some, None}
+use Rattle.std.proofs.Common.{◌≡◌, ◌≤◌, length, refl, sym, ap, ◌∙◌, Some, None}
 use Rattle.std.specs.Prelude.{Result, Ok, Err, IsOk, IsErr, IfErr}
 use Rattle.std.proofs.lemmas.Result.{err_from_is_err_and}
+use Rattle.paw_base.specs.Bytes.{Bytes}
 use Rattle.paw_base.specs.declared.layout.TheConstants.{STATE_LENGTH}
 use Rattle.paw_game.specs.Game.{GameLists}
 use Rattle.paw_state.specs.declared.StateFault.{StateFault}
@@ -20,11 +21,11 @@ not_both : {A E : Type 0} → (r : Result A E) → IsErr r → IsOk r → ⊥
 not_both (Ok x) h k = cc
 not_both (Err e) h k = cc
 
-named : {A : Type 0} → (g : GameLists) (bytes : List ℕ) (r : Result A StateFault) (e : StateFault) → r ≡ Err e → Unfit g bytes e.at
+named : {A : Type 0} → (g : GameLists) (bytes : Bytes) (r : Result A StateFault) (e : StateFault) → r ≡ Err e → Unfit g bytes e.at
     → IfErr r (λ f. Unfit g bytes f.at)
 named g bytes r e is h = rw is h
 
-none_from : (g : GameLists) (f : Fields) (bytes : List ℕ) → STATE_LENGTH ≤ length bytes → AreBytes bytes → None ≡ parts_fault g f →
+none_from : (g : GameLists) (f : Fields) (bytes : Bytes) → STATE_LENGTH ≤ length bytes → AreBytes bytes → None ≡ parts_fault g f →
     f ≡ fields_at bytes
     → unfit g bytes ≡ None
 none_from g f bytes n b h e = unfit_parts g bytes n b ∙ sym (h ∙ ap (parts_fault g) e)

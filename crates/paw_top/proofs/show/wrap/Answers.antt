@@ -1,6 +1,7 @@
 use Rattle.std.proofs.Common.{◌≡◌, ◌+◌, ◌≤◌, ◌<◌, ◌⊎◌, ◌∙◌, ℕ, List, [], ◌∷◌, Some, length, take, refl, sym, ap}
 use Rattle.std.proofs.Common.{subst, arith, inl, inr}
 use Rattle.std.proofs.lemmas.List.{take_all}
+use Rattle.paw_base.specs.Bytes.{Bytes, Name}
 use Rattle.paw_wrap.specs.declared.columns.TheConstants.{WRAP_LIMIT}
 use Rattle.paw_stage.specs.AcrossCalls.{IsOneOf}
 use Rattle.paw_stage.specs.Stage.{Standing}
@@ -18,7 +19,7 @@ use Rattle.paw_play.proofs.ImageFiles.{in_order, short_enough}
 use Rattle.paw_top.proofs.show.wrap.Goals as goal
 
 -- A load that gives nothing says why nothing is wrapped.
-no_file : (width : ℕ) (name : List ℕ) (old new : Standing) (o : Outcome) → LoadsNone name old new o →
+no_file : (width : ℕ) (name : Name) (old new : Standing) (o : Outcome) → LoadsNone name old new o →
     IfMemory o (IsOneOf load_memory) → Wraps width name old new o
 no_file width name old new (outcome.Outside call.LoadAbsent) h m = absent h.0 h.1
 no_file width name old new (outcome.Outside call.Load) h m = unloaded h
@@ -26,21 +27,21 @@ no_file width name old new (outcome.Memory at) h m = without_memory at m h
 no_file width name old new _ h m = absurd h
 
 -- What was loaded and isn't too long is the text of the file.
-holds_text : (name given : List ℕ) (old new : Standing) → LoadsSome name WRAP_LIMIT old new given → length given ≤ WRAP_LIMIT →
+holds_text : (name given : Bytes) (old new : Standing) → LoadsSome name WRAP_LIMIT old new given → length given ≤ WRAP_LIMIT →
     HoldsText old name given
 holds_text name given old new f short =
     let whole : length f.0 ≤ WRAP_LIMIT = short_enough WRAP_LIMIT f.0 (subst (λ b. length b ≤ WRAP_LIMIT) f.2 short) (in_order (length f.0) WRAP_LIMIT) in
     (f.1 ∙ ap Some (sym (f.2 ∙ take_all (WRAP_LIMIT + 1) f.0 (omega (arith, whole)))), short)
 
 -- What was loaded and is too long comes of a file that is.
-is_long : (given bytes : List ℕ) → given ≡ take (WRAP_LIMIT + 1) bytes → WRAP_LIMIT < length given →
+is_long : (given bytes : Bytes) → given ≡ take (WRAP_LIMIT + 1) bytes → WRAP_LIMIT < length given →
     (length bytes ≤ WRAP_LIMIT) ⊎ (WRAP_LIMIT + 1 ≤ length bytes) → WRAP_LIMIT < length bytes
 is_long given bytes e h (inl k) =
     absurd (omega (arith, k, subst (λ b. WRAP_LIMIT < length b) (e ∙ take_all (WRAP_LIMIT + 1) bytes (omega (arith, k))) h))
 is_long given bytes e h (inr k) = omega (arith, k)
 
 -- A text that is shown in columns is wrapped, as far as it was shown.
-shows_so : (width : ℕ) (name text : List ℕ) (old new : Standing) (o : Outcome) → HoldsText old name text →
+shows_so : (width : ℕ) (name text : Bytes) (old new : Standing) (o : Outcome) → HoldsText old name text →
     Shows (first_fit width text).bytes old new o → Wraps width name old new o
 shows_so width name text old new outcome.Done h s = done text h s
 shows_so width name text old new (outcome.Outside call.Show) h s = unshown text h s

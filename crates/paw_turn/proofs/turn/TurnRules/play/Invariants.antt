@@ -1,4 +1,4 @@
-use Rattle.std.proofs.Common.{ℕ, List}
+use Rattle.paw_base.specs.Bytes.{RoutineAnswers}
 use Rattle.paw_routines.specs.Routines.{AreAnswersOf}
 use Rattle.paw_effects.specs.Story.{story_of}
 use Rattle.paw_turn.specs.declared.phase.Next.TheVariants as next
@@ -9,7 +9,7 @@ abbrev pub invariant-loop-phase : goal.invariant-loop-phase
 invariant-loop-phase g l = record {
   playable : IsPlayable (g.T.Tables.game l.self.tables.now) l.state;
   read : HasReadSome l.state.machine;
-  plays : (X : List (List ℕ)) → AreAnswersOf g.F.Fn l.self.routines.now X →
+  plays : (X : RoutineAnswers) → AreAnswersOf g.F.Fn l.self.routines.now X →
       Plays (story_of (g.T.Tables.game l.self.tables.now) X) l.fn.first l.initial.state (next.Go l.phase) l.state;
   stays : StaysInGame (g.T.Tables.game l.self.tables.now) l.initial.state (next.Go l.phase) l.state;
 }
