@@ -1,6 +1,4 @@
-// Where reading stands, and how it ends.
-
-use paw_base::fault::SpentKind;
+// Where reading stands.
 
 /// A point in an open table, counted from 0 in each part, and whether an action was carried out there before it.
 #[derive(Clone, Copy, Drop, PartialEq, Eq, Debug)]
@@ -21,13 +19,4 @@ pub struct OpenLoop {
     pub at: u8,
     pub place: u8,
     pub last: u8,
-}
-
-/// What ends play for good: the game is over; a piece would read or hold too much; or a table was called at the deepest
-/// level.
-#[derive(Clone, Copy, Drop, PartialEq, Eq, Debug)]
-pub enum Halt {
-    Over,
-    Spent(SpentKind),
-    TooDeep { table: u8 },
 }

@@ -2,6 +2,7 @@
 #![tactic(auto)]
 
 pub mod frames;
+pub mod halt;
 pub mod laws;
 #[cfg(test)]
 mod tests;
