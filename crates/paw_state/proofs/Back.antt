@@ -21,7 +21,7 @@ use Rattle.paw_state.specs.State.{zeros, filled_with_zeros, position_field_of, p
 use Rattle.paw_state.specs.inner.State.{loop_or_zeros}
 use Rattle.paw_state.specs.inner.Faults.{rule, first_not, is_zero, places_fault, absent_fault, position_fault, kept_fault}
 use Rattle.paw_state.specs.Fields.{prompt_of}
-use Rattle.paw_state.specs.inner.Parts.{held_in}
+use Rattle.paw_state.specs.inner.Parts.{position_in}
 use Rattle.paw_state.proofs.Positions.{IsHeldOf}
 use Rattle.paw_state.specs.Fields.{IsSizedPosition}
 use Rattle.paw_state.proofs.Shaped.{same_held}
@@ -48,7 +48,7 @@ pub places_back : (g : GameLists) (at : ℕ) (places : ObjectPlaces) → Valid g
 places_back g at places v size h = filled_take (at + length g.objects) (length g.objects) places size (few_objects g v) (zeros_behind g at places h)
 
 -- A position without a fault.
-pub held_back : (g : GameLists) (at : ℕ) (h : PositionField) → Valid g → IsSizedPosition h → position_fault g at h ≡ None → position_field_of (held_in (length g.objects) h) ≡ h
+pub held_back : (g : GameLists) (at : ℕ) (h : PositionField) → Valid g → IsSizedPosition h → position_fault g at h ≡ None → position_field_of (position_in (length g.objects) h) ≡ h
 held_back g at h v z q =
     let p = two (rule at (nat_le h.there 1)) (if h.there == 0 then absent_fault at h else places_fault g (at + POSITION_PLACES) h.places) q in
     go h.there (leb-true h.there 1 (rule_holds at (nat_le h.there 1) p.0)) p.1
@@ -65,12 +65,12 @@ held_back g at h v z q =
     go (suc (suc n)) low k = absurd (omega (arith, low))
 
 pub kept_back : (g : GameLists) (at : ℕ) (kept : List PositionField) → Valid g → All IsSizedPosition kept → kept_fault g at kept ≡ None
-    → map position_field_of (map (held_in (length g.objects)) kept) ≡ kept
+    → map position_field_of (map (position_in (length g.objects)) kept) ≡ kept
 unfolding kept_fault
 kept_back g at [] v z h = refl
 kept_back g at (k ∷ ks) v z h =
     let p = no_first (position_fault g at k) (kept_fault g (at + POSITION_LENGTH) ks) h in
-    let e : position_field_of (held_in (length g.objects) k) ≡ k = held_back g at k v (z 0 k (omega arith)) p.0 in
+    let e : position_field_of (position_in (length g.objects) k) ≡ k = held_back g at k v (z 0 k (omega arith)) p.0 in
     let q = kept_back g (at + POSITION_LENGTH) ks v (λ i d low. z (suc i) d (omega (arith, low))) p.1 in
     cc
 
@@ -87,13 +87,13 @@ line_length n line size low = omega (arith, length-take n line)
 
 -- ---- from a state ----
 
-pub held_again : (g : GameLists) (o : Option Position) → IsHeldOf g o → held_in (length g.objects) (position_field_of o) ≡ o
+pub held_again : (g : GameLists) (o : Option Position) → IsHeldOf g o → position_in (length g.objects) (position_field_of o) ≡ o
 held_again g None h = refl
 held_again g (Some q) h =
     let at : List ℕ → Option Position = λ places. Some (record { flags = q.flags; places = places }) in
     ap at (take_filled (length g.objects) q.places h.each)
 
-pub kept_again : (g : GameLists) (kept : List (Option Position)) → All (IsHeldOf g) kept → map (held_in (length g.objects)) (map position_field_of kept) ≡ kept
+pub kept_again : (g : GameLists) (kept : List (Option Position)) → All (IsHeldOf g) kept → map (position_in (length g.objects)) (map position_field_of kept) ≡ kept
 kept_again g [] h = refl
 kept_again g (k ∷ ks) h =
     let e = held_again g k (h 0 k (omega arith)) in

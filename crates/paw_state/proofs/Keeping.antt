@@ -25,7 +25,7 @@ use Rattle.paw_state.specs.declared.position_field.PositionField.{PositionField}
 use Rattle.paw_effects.specs.inner.Worlds.{ArePlacesOf, StandsIn}
 use Rattle.paw_state.specs.State.{zeros, filled_with_zeros, position_field_of, prompt_code}
 use Rattle.paw_state.specs.inner.Faults.{rule, first_not, is_zero, places_fault, absent_fault, position_fault, kept_fault}
-use Rattle.paw_state.specs.inner.Parts.{held_in}
+use Rattle.paw_state.specs.inner.Parts.{position_in}
 use Rattle.paw_state.proofs.Positions.{IsHeldOf}
 use Rattle.paw_state.specs.Fields.{IsSizedPosition}
 use Rattle.paw_state.proofs.Found.{two, two_none, no_first, none_first, all_so, none_not, none_in_zeros, take_filled}
@@ -60,7 +60,7 @@ machine_sound g code k h = go (count_fits code k.count) refl h
 pub objects_length : (g : GameLists) (places : ObjectPlaces) → Valid g → length places ≡ OBJECT_LIMIT → length (take (length g.objects) places) ≡ length g.objects
 objects_length g places v size = omega (arith, length-take (length g.objects) places, few_objects g v)
 
-pub held_kept : (g : GameLists) (at : ℕ) (h : PositionField) → Valid g → IsSizedPosition h → position_fault g at h ≡ None → IsHeldOf g (held_in (length g.objects) h)
+pub held_kept : (g : GameLists) (at : ℕ) (h : PositionField) → Valid g → IsSizedPosition h → position_fault g at h ≡ None → IsHeldOf g (position_in (length g.objects) h)
 held_kept g at h v z q = go (h.there == 0)
     (two (rule at (nat_le h.there 1)) (if h.there == 0 then absent_fault at h else places_fault g (at + POSITION_PLACES) h.places) q).1
   where
@@ -75,12 +75,12 @@ held_kept g at h v z q = go (h.there == 0)
     }
 
 pub kept_kept : (g : GameLists) (at : ℕ) (kept : List PositionField) → Valid g → All IsSizedPosition kept → kept_fault g at kept ≡ None
-    → All (IsHeldOf g) (map (held_in (length g.objects)) kept)
+    → All (IsHeldOf g) (map (position_in (length g.objects)) kept)
 unfolding kept_fault
 kept_kept g at [] v z h = λ k d low. absurd (omega (arith, low))
 kept_kept g at (k ∷ ks) v z h =
     let p = no_first (position_fault g at k) (kept_fault g (at + POSITION_LENGTH) ks) h in
-    All-cons (IsHeldOf g) (held_in (length g.objects) k) (map (held_in (length g.objects)) ks) (held_kept g at k v (z 0 k (omega arith)) p.0)
+    All-cons (IsHeldOf g) (position_in (length g.objects) k) (map (position_in (length g.objects)) ks) (held_kept g at k v (z 0 k (omega arith)) p.0)
     (kept_kept g (at + POSITION_LENGTH) ks v (λ i d low. z (suc i) d (omega (arith, low))) p.1)
 
 pub line_kept : (code : Option ℕ) (n : ℕ) (line : Line) → (is_some code || (n == 0)) ≡ true → IfNone code (take n line ≡ [])

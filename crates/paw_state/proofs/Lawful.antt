@@ -12,7 +12,7 @@ use Rattle.paw_state.specs.State.{fields_of, state_bytes}
 use Rattle.paw_state.specs.inner.Fields.{field_bytes}
 use Rattle.paw_state.specs.inner.Fields.{fields_at}
 use Rattle.paw_state.specs.inner.Faults.{fields_fault}
-use Rattle.paw_state.specs.inner.State.{FollowsEach}
+use Rattle.paw_state.specs.inner.State.{FollowsEachRule}
 use Rattle.paw_state.specs.inner.Fields.{parts_fault}
 use Rattle.paw_state.specs.inner.State.{state_in}
 use Rattle.paw_state.specs.declared.parts.Restored.{Restored}
@@ -22,7 +22,7 @@ use Rattle.paw_state.specs.inner.Fit.{state_read, IsRead}
 use Rattle.paw_state.specs.inner.Laws.{FieldsStand, OneFault, FitOrUnfit, BytesTellTheState, WrittenIsFit}
 use Rattle.paw_state.proofs.EachField.{fields_join, fields_cut, length-later, length-fields, sized_at, bytes_same}
 use Rattle.paw_state.proofs.EachField.{state_same, lengths_sized}
-use Rattle.paw_state.proofs.Ruled.{AreSound, faults_same, sound_of, each_of, keeps_of, keeps_in, state_back}
+use Rattle.paw_state.proofs.Ruled.{AreSound, faults_same, sound_of, each_of, valid_of, follows_in, state_back}
 use Rattle.paw_state.proofs.Ruled.{fields_back, fits_at, sized_of}
 use Rattle.paw_state.proofs.Told.{AreLong}
 
@@ -41,7 +41,7 @@ is_unfit g bytes at n b h =
     record { fields = fields_at bytes; sized = sized_at bytes n b; are = sym (fields_join bytes n b) ∙ sym (bytes_same (fields_at bytes)); fault = h }
 
 -- The fields that stand in bytes of which the first are a state's.
-fields_there : (g : GameLists) (s : State) (bytes : Bytes) → Valid g → FollowsEach g s → FitsFields s → take STATE_LENGTH bytes ≡ state_bytes s
+fields_there : (g : GameLists) (s : State) (bytes : Bytes) → Valid g → FollowsEachRule g s → FitsFields s → take STATE_LENGTH bytes ≡ state_bytes s
     → fields_at bytes ≡ fields_of s
 fields_there g s bytes v k h e =
     let split : bytes ≡ field_bytes (fields_of s) ++ drop STATE_LENGTH bytes =
@@ -68,7 +68,7 @@ bytes_are g bytes v n b h =
 pub state_kept : (g : GameLists) (bytes : Bytes) → Valid g → STATE_LENGTH ≤ length bytes → AreBytes bytes → unfit g bytes ≡ None
     → IsValidState g (state_in g (fields_at bytes))
 state_kept g bytes v n b h =
-    keeps_of g (state_in g (fields_at bytes)) (keeps_in g (fields_at bytes) v (sized_at bytes n b) (sound_at g bytes n b h))
+    valid_of g (state_in g (fields_at bytes)) (follows_in g (fields_at bytes) v (sized_at bytes n b) (sound_at g bytes n b h))
 
 pub none_is_fit : (g : GameLists) (bytes : Bytes) → Valid g → STATE_LENGTH ≤ length bytes → AreBytes bytes → unfit g bytes ≡ None → Fit g bytes
 none_is_fit g bytes v n b h = record {

@@ -6,7 +6,7 @@ use Rattle.paw_game.specs.Game.{GameLists}
 use Rattle.paw_world.specs.World.{Position, IsSavedFor}
 use Rattle.paw_effects.specs.inner.Worlds.{ArePlacesOf, StandsIn}
 use Rattle.paw_state.specs.State.{State}
-use Rattle.paw_state.specs.inner.State.{FollowsEach}
+use Rattle.paw_state.specs.inner.State.{FollowsEachRule}
 
 -- 256 flags, and each object at a place.
 pub record IsPositionOf (g : GameLists) (q : Position) : Type 0 where
@@ -24,10 +24,10 @@ held_from : (g : GameLists) (n : ℕ) (o : Option Position) → n ≡ length g.o
 held_from g n None same alike placed = tt
 held_from g n (Some q) same alike placed = record { flags = alike.flags; each = alike.places ∙ same; places = placed }
 
-pub saved_held : (g : GameLists) (s : State) → FollowsEach g s → IsHeldOf g s.world.saved
+pub saved_held : (g : GameLists) (s : State) → FollowsEachRule g s → IsHeldOf g s.world.saved
 saved_held g s k = held_from g (length s.world.places) s.world.saved k.world.places k.sound.saved k.places.1.0
 
-pub kept_held : (g : GameLists) (s : State) → FollowsEach g s → All (IsHeldOf g) s.world.kept
+pub kept_held : (g : GameLists) (s : State) → FollowsEachRule g s → All (IsHeldOf g) s.world.kept
 kept_held g s k = λ i d low. held_from g (length s.world.places) _ k.world.places (k.sound.kept.each i d low) (k.places.1.1 i d low)
 
 -- ---- to these rules ----

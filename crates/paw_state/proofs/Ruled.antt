@@ -54,9 +54,9 @@ use Rattle.paw_state.specs.inner.Faults.{first, first_not, is_zero, places_fault
 use Rattle.paw_state.specs.inner.Faults.{frame_fields_fault, fields_fault}
 use Rattle.paw_state.specs.inner.Fields.{parts_fault}
 use Rattle.paw_state.specs.inner.Fields.{fields_at}
-use Rattle.paw_state.specs.inner.Parts.{held_in, world_in, frames_in, frame_in}
+use Rattle.paw_state.specs.inner.Parts.{position_in, world_in, frames_in, frame_in}
 use Rattle.paw_state.specs.inner.State.{state_in}
-use Rattle.paw_state.specs.inner.State.{FollowsEach}
+use Rattle.paw_state.specs.inner.State.{FollowsEachRule}
 use Rattle.paw_world.specs.World.{Position, IsSavedFor, IsWorld}
 use Rattle.std.proofs.Common.{reverse}
 use Rattle.paw_reading.specs.declared.frames.OpenLoop.{OpenLoop}
@@ -227,7 +227,7 @@ same_state a b world frames pending at events piece =
     (record { world = a.world; frames = a.frames; pending = a.pending; prompt = a.prompt; events = a.events; piece = a.piece })
     (record { world = b.world; frames = b.frames; pending = b.pending; prompt = b.prompt; events = b.events; piece = b.piece }) = cc in e
 
-pub fields_back : (g : GameLists) (s : State) → FollowsEach g s → state_in g (fields_of s) ≡ s
+pub fields_back : (g : GameLists) (s : State) → FollowsEachRule g s → state_in g (fields_of s) ≡ s
 fields_back g s k =
     same_state (state_in g (fields_of s)) s
     (same_world (world_in g (fields_of s)) s.world (sym k.world.facts) (sym k.world.locations) refl
@@ -250,27 +250,27 @@ sound_in g f v z s =
     let each : length g.objects ≡ length (take (length g.objects) f.places) = sym (objects_length g f.places v z.places) in
     let alike : (o : Option Position) → IsHeldOf g o → IsSavedFor (length (take (length g.objects) f.places)) o =
     λ o h. subst (λ (n : ℕ). IsSavedFor n o) each (held_size_for g o h) in
-    let kept = map (held_in (length g.objects)) f.kept in
+    let kept = map (position_in (length g.objects)) f.kept in
     record {
       objects = omega (arith, each, few_objects g v);
       facts = length-map g.objects (λ (o : ObjectRow). o.facts) ∙ each;
       flags = z.flags;
-      saved = alike (held_in (length g.objects) f.saved) (held_kept g SAVED f.saved v z.saved s.saved);
+      saved = alike (position_in (length g.objects) f.saved) (held_kept g SAVED f.saved v z.saved s.saved);
       kept = record {
-        four = length-map f.kept (held_in (length g.objects)) ∙ z.four;
+        four = length-map f.kept (position_in (length g.objects)) ∙ z.four;
         each = λ i d low. alike (get_or kept i d) (kept_kept g KEPT f.kept v z.kept s.kept i d low);
       };
     }
 
-pub keeps_in : (g : GameLists) (f : Fields) → Valid g → AreSized f → AreSound g f → FollowsEach g (state_in g f)
-keeps_in g f v z s = record {
+pub follows_in : (g : GameLists) (f : Fields) → Valid g → AreSized f → AreSound g f → FollowsEachRule g (state_in g f)
+follows_in g f v z s = record {
   world = record { facts = refl; locations = refl; flags = z.flags; places = objects_length g f.places v z.places };
   sound = sound_in g f v z s;
   places = (
     all_so (is_place (length g.locations)) PLACES (take (length g.objects) f.places) (objects_stand g PLACES f.places s.places),
     (
-      held_placed g (held_in (length g.objects) f.saved) (held_kept g SAVED f.saved v z.saved s.saved),
-      λ i d low. held_placed g (get_or (map (held_in (length g.objects)) f.kept) i d) (kept_kept g KEPT f.kept v z.kept s.kept i d low),
+      held_placed g (position_in (length g.objects) f.saved) (held_kept g SAVED f.saved v z.saved s.saved),
+      λ i d low. held_placed g (get_or (map (position_in (length g.objects)) f.kept) i d) (kept_kept g KEPT f.kept v z.kept s.kept i d low),
     ),
   );
   events = leb-true f.events EVENT_LIMIT s.events;
@@ -281,7 +281,7 @@ keeps_in g f v z s = record {
   pending = line_kept (waiting_code (prompt_of f.prompt)) f.pending f.line s.pending;
 }
 
-pub sound_fields : (g : GameLists) (s : State) → FollowsEach g s → AreSound g (fields_of s)
+pub sound_fields : (g : GameLists) (s : State) → FollowsEachRule g s → AreSound g (fields_of s)
 sound_fields g s k =
     let m = machine_sound g (waiting_code s.prompt) s.frames k.frames in
     let again = sym (prompt_again s.prompt) in
@@ -317,7 +317,7 @@ lengths_of g s of world rows line = record {
       (λ i d low. saved_sized (length s.world.places) (get_or s.world.kept i d) world.objects (world.kept.each i d low));
 }
 
-pub each_of : (g : GameLists) (s : State) → IsValidState g s → FollowsEach g s
+pub each_of : (g : GameLists) (s : State) → IsValidState g s → FollowsEachRule g s
 each_of g s k =
     let f = fields_of s in
     let none : parts_fault g f ≡ None = sym (faults_same g f (lengths_of g s k.world k.sound k.rows k.line)) ∙ k.fields in
@@ -347,8 +347,8 @@ each_of g s k =
 
 -- ---- to fields ----
 
-pub keeps_of : (g : GameLists) (s : State) → FollowsEach g s → IsValidState g s
-keeps_of g s k = record {
+pub valid_of : (g : GameLists) (s : State) → FollowsEachRule g s → IsValidState g s
+valid_of g s k = record {
   world = k.world;
   sound = k.sound;
   rows = k.rows;
@@ -374,7 +374,7 @@ fits_at g bytes n h =
       piece = s.piece;
     }
 
-pub sized_of : (g : GameLists) (s : State) → Valid g → FollowsEach g s → FitsFields s → AreSized (fields_of s)
+pub sized_of : (g : GameLists) (s : State) → Valid g → FollowsEachRule g s → FitsFields s → AreSized (fields_of s)
 sized_of g s v k h =
     let m = machine_sound g (waiting_code s.prompt) s.frames k.frames in
     record {

@@ -33,7 +33,7 @@ use Rattle.paw_state.specs.State.{position_field_of, frame_field_of}
 use Rattle.paw_state.specs.inner.State.{loop_or_zeros}
 use Rattle.paw_state.specs.inner.Shapes.{values_at}
 use Rattle.paw_state.specs.inner.Fields.{position_shape}
-use Rattle.paw_state.specs.inner.Parts.{held_in}
+use Rattle.paw_state.specs.inner.Parts.{position_in}
 use Rattle.paw_state.proofs.Pieces.{range_bytes}
 use Rattle.paw_state.proofs.Positions.{IsHeldOf}
 use Rattle.paw_state.specs.Fields.{IsSizedPosition}
@@ -41,23 +41,23 @@ use Rattle.paw_state.proofs.Found.{length-zeros, length-filled}
 
 -- ---- the state that is read ----
 
-held_fits : (n : ℕ) (h : PositionField) → AreBytes h.flags → AreBytes h.places → HoldsBytes (held_in n h)
+held_fits : (n : ℕ) (h : PositionField) → AreBytes h.flags → AreBytes h.places → HoldsBytes (position_in n h)
 held_fits n h flags places = go (h.there == 0)
   where
     go : (b : Bool) → HoldsBytes (if b then None else Some (record { flags = h.flags; places = take n h.places }))
     go true = tt
     go false = (flags, All-take (λ (b : ℕ). b < 256) n h.places places)
 
-pub held_at_fits : (n at : ℕ) (bytes : Bytes) → AreBytes bytes → HoldsBytes (held_in n (position_shape.value bytes at))
+pub held_at_fits : (n at : ℕ) (bytes : Bytes) → AreBytes bytes → HoldsBytes (position_in n (position_shape.value bytes at))
 held_at_fits n at bytes h =
     held_fits n (position_shape.value bytes at) (range_bytes bytes (at + 1) (at + 1 + FLAG_COUNT) h)
     (range_bytes bytes (at + 1 + FLAG_COUNT) (at + 1 + FLAG_COUNT + OBJECT_LIMIT) h)
 
-pub helds_at_fit : (n m at : ℕ) (bytes : Bytes) → AreBytes bytes → All HoldsBytes (map (held_in n) (values_at position_shape m bytes at))
+pub helds_at_fit : (n m at : ℕ) (bytes : Bytes) → AreBytes bytes → All HoldsBytes (map (position_in n) (values_at position_shape m bytes at))
 unfolding values_at
 helds_at_fit n zero at bytes h = All-nil HoldsBytes
 helds_at_fit n (suc m) at bytes h =
-    All-cons HoldsBytes (held_in n (position_shape.value bytes at)) (map (held_in n) (values_at position_shape m bytes (at + POSITION_LENGTH))) (held_at_fits n at bytes h)
+    All-cons HoldsBytes (position_in n (position_shape.value bytes at)) (map (position_in n) (values_at position_shape m bytes (at + POSITION_LENGTH))) (held_at_fits n at bytes h)
     (helds_at_fit n m (at + POSITION_LENGTH) bytes h)
 
 -- ---- the fields of a state ----

@@ -76,24 +76,28 @@ fn check_places<T: Tables>(tables: &T, at: usize, places: &[u8; 255]) -> Result<
 }
 
 // Checks the flags and the places of a position that isn't there.
-fn check_absent(at: usize, held: &PositionField) -> Result<(), StateFault>
+fn check_absent(at: usize, position: &PositionField) -> Result<(), StateFault>
     requires near { at + POSITION_LENGTH ≤ STATE_ROOM }
-    ensures value { fault_of result ≡ absent_fault at held.now }
+    ensures value { fault_of result ≡ absent_fault at position.now }
 {
-    all_zero(at + POSITION_FLAGS, &held.flags)?;
-    all_zero(at + POSITION_PLACES, &held.places)
+    all_zero(at + POSITION_FLAGS, &position.flags)?;
+    all_zero(at + POSITION_PLACES, &position.places)
 }
 
 // Checks a position that may be there.
-fn check_held<T: Tables>(tables: &T, at: usize, held: &PositionField) -> Result<(), StateFault>
+fn check_position<T: Tables>(
+    tables: &T,
+    at: usize,
+    position: &PositionField,
+) -> Result<(), StateFault>
     requires near { at + POSITION_LENGTH ≤ STATE_ROOM }
-    ensures value { fault_of result ≡ position_fault (T.game tables.now) at held.now }
+    ensures value { fault_of result ≡ position_fault (T.game tables.now) at position.now }
 {
-    rule(at, held.there <= 1)?;
-    if held.there == 0 {
-        check_absent(at, held)
+    rule(at, position.there <= 1)?;
+    if position.there == 0 {
+        check_absent(at, position)
     } else {
-        check_places(tables, at + POSITION_PLACES, &held.places)
+        check_places(tables, at + POSITION_PLACES, &position.places)
     }
 }
 
@@ -102,10 +106,10 @@ fn check_kept<T: Tables>(tables: &T, at: usize, kept: &[PositionField]) -> Resul
     requires near { at + POSITION_LENGTH * length kept.now ≤ STATE_ROOM }
     ensures value { fault_of result ≡ kept_fault (T.game tables.now) at kept.now }
 {
-    let Some((held, rest)) = kept.split_first() else {
+    let Some((position, rest)) = kept.split_first() else {
         return Ok(());
     };
-    check_held(tables, at, held)?;
+    check_position(tables, at, position)?;
     check_kept(tables, at + POSITION_LENGTH, rest)
 }
 
@@ -323,7 +327,7 @@ pub(crate) fn check<T: Tables>(tables: &T, fields: &Fields) -> Result<(), StateF
     ensures valid { Valid (T.game tables.now) }
 {
     check_places(tables, PLACES, &fields.places)?;
-    check_held(tables, SAVED, &fields.saved)?;
+    check_position(tables, SAVED, &fields.saved)?;
     check_numbers(tables, fields)?;
     check_prompt(tables, fields)?;
     check_frames(tables, fields)?;

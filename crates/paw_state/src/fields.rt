@@ -361,8 +361,8 @@ impl Fields {
         requires room { length writer.old + (STATE_LENGTH - KEPT) ≤ STATE_ROOM }
         ensures writes { WritesField (after_piece self.now) (STATE_LENGTH - KEPT) writer.old writer.new }
     {
-        for held in &self.kept {
-            held.put(writer);
+        for position in &self.kept {
+            position.put(writer);
         }
     }
 }

@@ -14,7 +14,7 @@ ghost use Rattle.paw_state.specs.State.{zeros, filled_with_zeros, position_field
 ghost use Rattle.paw_state.specs.State.{fields_of, state_bytes};
 ghost use Rattle.paw_state.specs.Fit.{Fit, Unfit};
 ghost use Rattle.paw_state.specs.inner.Fields.{parts_fault};
-ghost use Rattle.paw_state.specs.inner.Parts.{SetsSaved, held_in, world_in, frame_in, frames_in};
+ghost use Rattle.paw_state.specs.inner.Parts.{SetsSaved, position_in, world_in, frame_in, frames_in};
 ghost use Rattle.paw_state.specs.inner.State.{state_in, state_of, state_with, loop_or_zeros};
 ghost use Rattle.paw_state.specs.inner.Fit.{state_read, IsRead};
 
@@ -62,38 +62,38 @@ pub fn read_state<T: Tables>(tables: &T, bytes: &[u8; STATE_ROOM]) -> Result<Res
 }
 
 // Makes this the saved position, if it is there.
-fn put_saved(world: &mut World, held: &PositionField)
+fn put_saved(world: &mut World, position: &PositionField)
     requires few { length world.old.places ≤ 255 }
-    ensures none { held.now.there ≡ 0 → world.new ≡ world.old }
-    ensures saved { held.now.there ≢ 0 → SetsSaved held.now world.old world.new }
+    ensures none { position.now.there ≡ 0 → world.new ≡ world.old }
+    ensures saved { position.now.there ≢ 0 → SetsSaved position.now world.old world.new }
 {
-    if held.there == 0 {
+    if position.there == 0 {
         return;
     }
     let objects = world.objects() as usize;
-    world.set_position(&held.flags, &held.places[..objects]);
+    world.set_position(&position.flags, &position.places[..objects]);
     world.ramsave();
 }
 
 // Makes this the kept position of this number, which had none.
-fn put_kept(world: &mut World, n: u8, held: &PositionField)
+fn put_kept(world: &mut World, n: u8, position: &PositionField)
     requires few { n < POSITION_COUNT }
     requires none { kept_position world.old n ≡ None }
     ensures value { world.new ≡ record world.old {
-      kept = slice_set world.old.kept n (held_in (length world.old.places) held.now);
+      kept = slice_set world.old.kept n (position_in (length world.old.places) position.now);
     } }
 {
-    if held.there == 0 {
+    if position.there == 0 {
         return;
     }
     let objects = world.objects() as usize;
-    world.set_kept(n, &held.flags, &held.places[..objects]);
+    world.set_kept(n, &position.flags, &position.places[..objects]);
 }
 
 // Makes these the kept positions, none of which was kept before.
 fn put_all_kept(world: &mut World, kept: &[PositionField; POSITION_COUNT])
     requires none { world.old.kept ≡ replicate POSITION_COUNT None }
-    ensures value { world.new ≡ record world.old { kept = map (held_in (length world.old.places)) kept.now } }
+    ensures value { world.new ≡ record world.old { kept = map (position_in (length world.old.places)) kept.now } }
 {
     for n in 0..POSITION_COUNT {
         put_kept(world, n as u8, &kept[n]);

@@ -47,12 +47,12 @@ loop_shape = made_of loop_with
     (last_field (λ l. l.last) one_byte))))))
 
 -- The position of these parts.
-abbrev pub held_with : ℕ → Bytes → Bytes → PositionField
-held_with there flags places = record { there = there; flags = flags; places = places }
+abbrev pub position_with : ℕ → Bytes → Bytes → PositionField
+position_with there flags places = record { there = there; flags = flags; places = places }
 
 -- A position that may be there: whether it is, its flags, and its places.
 abbrev pub position_shape : Shape PositionField
-position_shape = made_of held_with
+position_shape = made_of position_with
     (field (λ h. h.there) one_byte
     (field (λ h. h.flags) (array FLAG_COUNT)
     (last_field (λ h. h.places) (array OBJECT_LIMIT))))

@@ -11,8 +11,8 @@ use Rattle.paw_state.specs.declared.fields.Fields.{Fields}
 use Rattle.paw_state.specs.declared.position_field.PositionField.{PositionField}
 
 -- The position, if it is there: its flags, and the places of this number of objects.
-abbrev pub held_in : ℕ → PositionField → Option Position
-held_in objects h = if h.there == 0 then None else Some (record { flags = h.flags; places = take objects h.places })
+abbrev pub position_in : ℕ → PositionField → Option Position
+position_in objects h = if h.there == 0 then None else Some (record { flags = h.flags; places = take objects h.places })
 
 -- The world of the game with these flags, places, positions and draws.
 abbrev pub world_in : GameLists → Fields → World
@@ -21,8 +21,8 @@ world_in g f = record {
   locations = length g.locations;
   flags = f.flags;
   places = take (length g.objects) f.places;
-  saved = held_in (length g.objects) f.saved;
-  kept = map (held_in (length g.objects)) f.kept;
+  saved = position_in (length g.objects) f.saved;
+  kept = map (position_in (length g.objects)) f.kept;
   seed = f.seed;
   draws = f.draws;
 }

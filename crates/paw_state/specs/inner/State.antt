@@ -64,7 +64,7 @@ loop_or_zeros o = unwrap_or o (record { level = 0; table = 0; entry = 0; at = 0;
 -- in the kept ones; at most 1,000,000,000 lines were taken; the words drawn are at most 200,000 for each line, and
 -- 200,000 for the piece before the first; the open tables and the open loop are such as a game waits in at the prompt,
 -- with room for eleven frames; at most 255 bytes are pending, and none where no table is open.
-pub record FollowsEach (g : GameLists) (s : State) : Type 0 where
+pub record FollowsEachRule (g : GameLists) (s : State) : Type 0 where
   pub world : IsOf g s.world
   pub sound : IsWorld s.world
   pub places : ArePlacesOf g s.world.places × (StandsIn g s.world.saved × All (StandsIn g) s.world.kept)

@@ -7,14 +7,14 @@ returns-in_default g t c = record {
   value = kept_none (g.T.Tables.game c.args.tables.now) c.args.at c.args.kept.now (search rules);
 }
 
-pub returns-in_err-check_held : goal.returns-in_err-check_held
-returns-in_err-check_held g t c =
-    let h = kept_stops (g.T.Tables.game c.args.tables.now) c.args.at _ c.args.kept.now c.in-Some.held.now c.in-Some.rest.now
-    c.in-Some.ensures.cases.0 c.in_err-check_held.ensures.value in
+pub returns-in_err-check_position : goal.returns-in_err-check_position
+returns-in_err-check_position g t c =
+    let h = kept_stops (g.T.Tables.game c.args.tables.now) c.args.at _ c.args.kept.now c.in-Some.position.now c.in-Some.rest.now
+    c.in-Some.ensures.cases.0 c.in_err-check_position.ensures.value in
     record { value = rw (← h) (search rules) }
 
 pub returns : goal.returns
 returns g t c =
-    let h = kept_passes (g.T.Tables.game c.args.tables.now) c.args.at c.args.kept.now c.in-Some.held.now c.in-Some.rest.now
-    c.in-Some.ensures.cases.0 c.in_ok-check_held.ensures.value in
+    let h = kept_passes (g.T.Tables.game c.args.tables.now) c.args.at c.args.kept.now c.in-Some.position.now c.in-Some.rest.now
+    c.in-Some.ensures.cases.0 c.in_ok-check_position.ensures.value in
     record { value = rw c.check_kept.ensures.value h }
