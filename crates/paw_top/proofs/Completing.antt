@@ -35,7 +35,7 @@ use Rattle.paw_top.specs.declared.outcome.Outcome.{Outcome}
 use Rattle.paw_top.specs.declared.outcome.Outcome.TheVariants as outcome
 use Rattle.paw_top.specs.declared.outcome.MemoryAt.{MemoryAt}
 use Rattle.paw_top.specs.declared.outcome.MemoryAt.TheVariants as memory
-use Rattle.paw_reading.specs.declared.frames.Halt.TheVariants as halt
+use Rattle.paw_reading.specs.declared.halt.Halt.TheVariants as halt
 
 -- Where no count of failures rose, but maybe that of loads that found no file, only such a load may have failed.
 only_absent : (failed : Option StageCall) (first last : StageCall → ℕ) → CountsFailure failed first last → NoFailure first last →
@@ -168,8 +168,8 @@ is_walked whole most old new (end.Outside call.Ask) w free = absurd (hindered ca
 is_walked whole most old new (end.Outside call.Show) w free = absurd (hindered call.Show (λ q. cc) free)
 is_walked whole most old new _ w free = absurd w
 
-pub completes_walk : (told : Story → ℕ → EndingOf) (answers : RoutineAnswers) (name : Name) (seed : Seed) (old new : Standing) (o : Outcome) →
-    WalksAs told answers name seed old new o → IsUnhindered o → CompletesImage name (λ g. IsWalked) old o
-completes_walk told answers name seed old new o w free =
+pub completes_walk : (read : Story → ℕ → EndingOf) (answers : RoutineAnswers) (name : Name) (seed : Seed) (old new : Standing) (o : Outcome) →
+    WalksAs read answers name seed old new o → IsUnhindered o → CompletesImage name (λ g. IsWalked) old o
+completes_walk read answers name seed old new o w free =
     completes_file name (λ g. IsWalked) old new o w
-    (λ g end p free. is_walked (told (story_of g answers) seed) EVENT_LIMIT old new end p free) (λ g at. no_memory at) free
+    (λ g end p free. is_walked (read (story_of g answers) seed) EVENT_LIMIT old new end p free) (λ g at. no_memory at) free

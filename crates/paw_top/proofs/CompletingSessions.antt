@@ -15,8 +15,8 @@ use Rattle.paw_journal.specs.Journal.{writing_calls}
 use Rattle.paw_journal.specs.declared.refusal.JournalRefusal.{JournalRefusal}
 use Rattle.paw_journal.specs.declared.refusal.JournalRefusal.TheVariants as refusal
 use Rattle.paw_play.specs.Session.{IsOfStory, kept_bytes, story_digests}
-use Rattle.paw_reading.specs.declared.frames.Halt.{Halt}
-use Rattle.paw_reading.specs.declared.frames.Halt.TheVariants as halt
+use Rattle.paw_reading.specs.declared.halt.Halt.{Halt}
+use Rattle.paw_reading.specs.declared.halt.Halt.TheVariants as halt
 use Rattle.paw_play.proofs.Halts.{ends_by_halt}
 use Rattle.paw_play.specs.inner.OnTheWay.{end_of_halt}
 use Rattle.paw_play.specs.Walk.{end_halt, EndingOf}

@@ -22,7 +22,7 @@ use Rattle.paw_top.specs.Sessions.{PlaysNewIn, ResumesIn, TwoParts, NewAtEachMom
 use Rattle.paw_top.specs.Tries.{Tries}
 use Rattle.paw_top.specs.declared.outcome.Outcome.{Outcome}
 use Rattle.paw_top.specs.declared.outcome.MemoryAt.{MemoryAt}
-use Rattle.paw_top.specs.declared.outcome.MemoryAt.TheVariants as place
+use Rattle.paw_top.specs.declared.outcome.MemoryAt.TheVariants as memory_at
 
 -- What a call may ask for: to compile a source to an image; to show the source of an image; to walk through the game of
 -- an image, with a seed; to play it, with a new session in a store; to go on with the session in a store; to trace a
@@ -115,7 +115,7 @@ abbrev pub with_session : (RoutineAnswers → Standing → Standing → Outcome 
     → (TwoParts → RoutineAnswers → Standing → Type 0) → CommandMeaning
 with_session comes moments = record {
   calls = load_calls ++ session_calls;
-  memory = place.Play ∷ load_memory;
+  memory = memory_at.Play ∷ load_memory;
   comes = comes;
   moments = moments;
 }
@@ -123,21 +123,21 @@ with_session comes moments = record {
 -- What each command means.
 abbrev pub meaning : Command → CommandMeaning
 meaning (Compile source image) =
-    storeless (call.Save ∷ call.Show ∷ load_calls) (place.Source ∷ load_memory) (λ answers. Compiles source image)
-meaning (Decompile image) = storeless (call.Show ∷ load_calls) (place.Print ∷ load_memory) (λ answers. Decompiles image)
+    storeless (call.Save ∷ call.Show ∷ load_calls) (memory_at.Source ∷ load_memory) (λ answers. Compiles source image)
+meaning (Decompile image) = storeless (call.Show ∷ load_calls) (memory_at.Print ∷ load_memory) (λ answers. Decompiles image)
 meaning (Walk image seed) =
-    storeless (load_calls ++ walk_calls) (place.Play ∷ load_memory) (λ answers. WalksAs reading answers image seed)
+    storeless (load_calls ++ walk_calls) (memory_at.Play ∷ load_memory) (λ answers. WalksAs reading answers image seed)
 meaning (Play image store seed) =
     with_session (λ answers. PlaysNewIn answers image store seed)
     (λ Come answers. NewAtEachMoment Come answers image store seed)
 meaning (Resume image store) =
     with_session (λ answers. ResumesIn answers image store) (λ Come answers. AgainAtEachMoment Come answers image store)
 meaning (Trace image seed) =
-    storeless (load_calls ++ walk_calls) (place.Play ∷ load_memory)
+    storeless (load_calls ++ walk_calls) (memory_at.Play ∷ load_memory)
     (λ answers. WalksAs reading_traced answers image seed)
-meaning (Trial n) = storeless (call.Show ∷ []) (place.Trial ∷ []) (λ answers. Tries n)
-meaning (Check image) = storeless (call.Show ∷ load_calls) (place.Check ∷ load_memory) (λ answers. Checks image)
-meaning (Wrap width text) = storeless (call.Show ∷ load_calls) (place.Wrap ∷ load_memory) (λ answers. Wraps width text)
+meaning (Trial n) = storeless (call.Show ∷ []) (memory_at.Trial ∷ []) (λ answers. Tries n)
+meaning (Check image) = storeless (call.Show ∷ load_calls) (memory_at.Check ∷ load_memory) (λ answers. Checks image)
+meaning (Wrap width text) = storeless (call.Show ∷ load_calls) (memory_at.Wrap ∷ load_memory) (λ answers. Wraps width text)
 
 -- ---- from words to a command ----
 

@@ -4,7 +4,7 @@ use Rattle.paw_stage.specs.Stage.{Standing}
 use Rattle.paw_effects.specs.declared.act.Prompt.{Prompt}
 use Rattle.paw_reading.specs.declared.frames.Frame.{Frame}
 use Rattle.paw_reading.specs.Run.{Run}
-use Rattle.paw_reading.specs.declared.frames.Halt.{Halt}
+use Rattle.paw_reading.specs.declared.halt.Halt.{Halt}
 use Rattle.paw_reading.specs.Turn.{WaitsAt, Halted}
 use Rattle.paw_trial.specs.Trial.{trial_reading, trial_text}
 use Rattle.paw_top.specs.Ends.{outcome_of_halt}

@@ -11,8 +11,8 @@ use Rattle.paw_top.specs.declared.outcome.Outcome.{Outcome}
 
 -- A walk through the game that this file holds, by this reading, with these answers of routines; or why there is none.
 abbrev pub WalksAs : (Story → Seed → EndingOf) → RoutineAnswers → Name → Seed → Standing → Standing → Outcome → Type 0
-WalksAs told answers name seed old new o =
-    PlaysFile (λ g end. Walks (told (story_of g answers) seed) EVENT_LIMIT old new end) name old new o
+WalksAs read answers name seed old new o =
+    PlaysFile (λ g end. Walks (read (story_of g answers) seed) EVENT_LIMIT old new end) name old new o
 
 -- The reading of a story as a trace shows it: the steps of each piece come before it.
 abbrev pub reading_traced : Story → Seed → EndingOf

@@ -10,7 +10,7 @@ use crate::commands::USAGE;
 use paw_base::fault::{NoRoom, SourceFault, SourceKind, SpentKind};
 use paw_journal::{JournalRefusal, SessionPart};
 use paw_play::{PlayEnd, halt_of};
-use paw_reading::frames::Halt;
+use paw_reading::halt::Halt;
 use paw_stage::StageCall;
 use std::alloc::Global;
 

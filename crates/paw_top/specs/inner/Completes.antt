@@ -10,7 +10,7 @@ use Rattle.paw_state.specs.State.{State}
 use Rattle.paw_journal.specs.Session.{Digests, Shown, recover}
 use Rattle.paw_journal.specs.declared.refusal.SessionPart.TheVariants as part
 use Rattle.paw_journal.specs.declared.refusal.JournalRefusal.{JournalRefusal}
-use Rattle.paw_reading.specs.declared.frames.Halt.{Halt}
+use Rattle.paw_reading.specs.declared.halt.Halt.{Halt}
 use Rattle.paw_reading.specs.Turn.{Ending, WaitsAt, Halted, Unended, reading}
 use Rattle.paw_trial.specs.Trial.{trial_reading}
 use Rattle.paw_wrap.specs.declared.columns.TheConstants.{WRAP_LIMIT}
