@@ -19,7 +19,7 @@ use Rattle.paw_effects.specs.Story.{Story}
 use Rattle.paw_reading.specs.Bounds.{IsLine, ValidStory}
 use Rattle.paw_reading.specs.Run.{Run, piece_closed, fits, text_printed, with_world, line_dropped, is_timeout, is_ignored, with_line_heard}
 use Rattle.paw_reading.specs.Run.{taken_phrase}
-use Rattle.paw_reading.specs.declared.frames.Halt.TheVariants as halt
+use Rattle.paw_reading.specs.declared.halt.Halt.TheVariants as halt
 use Rattle.paw_reading.specs.Reading.{Redescribes, Restarts, Halts, Out, Left, Waits, Stopped, coming_phrase}
 use Rattle.paw_reading.specs.Reading.{table_read}
 use Rattle.paw_reading.specs.Turn.{TurnPhase, AtDescribe, AtTimeFrame, AtPhrase, AtResponse, Ending, WaitsAt, Halted}

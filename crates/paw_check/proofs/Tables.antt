@@ -43,7 +43,7 @@ use Rattle.paw_reading.specs.declared.frames.Frame.{Frame}
 use Rattle.paw_reading.specs.declared.frames.OpenLoop.{OpenLoop}
 use Rattle.paw_reading.specs.Run.{Run, Step, piece_closed, text_printed, with_world, without_loop, anew, with_timeout, is_timeout}
 use Rattle.paw_reading.specs.Run.{is_ignored, with_line_heard, reply, is_yes, is_no, taken_phrase}
-use Rattle.paw_reading.specs.declared.frames.Halt.TheVariants as halt
+use Rattle.paw_reading.specs.declared.halt.Halt.TheVariants as halt
 use Rattle.paw_reading.specs.Reading.{Redescribes, Restarts, Halts, Stop, Out, Left, Waits, Stopped}
 use Rattle.paw_reading.specs.Reading.{step_noted, after_call, at_level, next_object_or, is_taken, object_taken, over_objects}
 use Rattle.paw_reading.specs.Reading.{loop_of, over, prompt_answered, prompt_asked, waits}

@@ -23,7 +23,7 @@ use Rattle.paw_effects.proofs.Worlds.{byte_at}
 use Rattle.paw_reading.specs.Bounds.{ValidStory}
 use Rattle.paw_reading.specs.declared.frames.OpenLoop.{OpenLoop}
 use Rattle.paw_reading.specs.Run.{Run}
-use Rattle.paw_reading.specs.declared.frames.Halt.TheVariants as halt
+use Rattle.paw_reading.specs.declared.halt.Halt.TheVariants as halt
 use Rattle.paw_reading.specs.Reading.{Redescribes, Restarts, Halts, Out, Left, Waits, Stopped, at_level}
 use Rattle.paw_reading.specs.Reading.{read_at_level, table_called, table_read}
 use Rattle.paw_reading.proofs.Keeps.{called_keeps}

@@ -6,7 +6,7 @@ use Rattle.std.specs.Prelude.{codes, if◌then◌else◌}
 use Rattle.paw_base.specs.Bytes.{Bytes, Lines, Text, Seed}
 use Rattle.paw_base.specs.declared.limits.TheConstants.{EVENT_LIMIT}
 use Rattle.paw_effects.specs.Story.{Story}
-use Rattle.paw_reading.specs.declared.frames.Halt.TheVariants as halt
+use Rattle.paw_reading.specs.declared.halt.Halt.TheVariants as halt
 use Rattle.paw_reading.specs.Turn.{Ending, WaitsAt, Halted, Unended, reading}
 use Rattle.paw_stage.specs.Stage.{Standing}
 use Rattle.paw_journal.specs.Session.{IsUnmade, recover}

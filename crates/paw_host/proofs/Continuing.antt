@@ -7,7 +7,7 @@ use Rattle.paw_base.specs.Bytes.{Lines, Text, Seed}
 use Rattle.paw_base.specs.declared.limits.TheConstants.{EVENT_LIMIT}
 use Rattle.paw_effects.specs.Story.{Story}
 use Rattle.paw_reading.specs.Bounds.{IsLine, ValidStory}
-use Rattle.paw_reading.specs.declared.frames.Halt.TheVariants as halt
+use Rattle.paw_reading.specs.declared.halt.Halt.TheVariants as halt
 use Rattle.paw_reading.specs.Turn.{Ending, WaitsAt, Halted, Unended, reading}
 use Rattle.paw_play.specs.Stands.{IsPlayedWith}
 use Rattle.paw_host.specs.Names.{Request, is_name}

@@ -10,8 +10,8 @@ use Rattle.paw_effects.specs.Story.{Story}
 use Rattle.paw_effects.specs.declared.act.Prompt.{Prompt}
 use Rattle.paw_reading.specs.declared.frames.Frame.{Frame}
 use Rattle.paw_reading.specs.Run.{Run}
-use Rattle.paw_reading.specs.declared.frames.Halt.{Halt}
-use Rattle.paw_reading.specs.declared.frames.Halt.TheVariants as halt
+use Rattle.paw_reading.specs.declared.halt.Halt.{Halt}
+use Rattle.paw_reading.specs.declared.halt.Halt.TheVariants as halt
 use Rattle.paw_reading.specs.Turn.{Ending, WaitsAt, Halted, Unended, reading, going_on_from}
 use Rattle.paw_reading.proofs.Counts.{pieces_of_lines}
 use Rattle.paw_turn.specs.inner.Player.{PlayerView, run_at, PlaysTo, IsSeated, StandsAt, StandsClosed}

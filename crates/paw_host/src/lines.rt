@@ -72,7 +72,7 @@ impl<'a, T: Tables, F: Fn(u8, u8) -> u8> Seats<'a, T, F> {
         ensures routines { IfOk result (λ s. s.player.routines ≡ routines.now) }
     {
         Ok(Seats {
-            player: Player::new_counting(alloc, tables, routines, seed)?,
+            player: Player::new_only_counting(alloc, tables, routines, seed)?,
             room: Room::new(alloc)?,
             store: StoreName::new(alloc)?,
             reply: Reply::new(alloc)?,

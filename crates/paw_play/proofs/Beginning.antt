@@ -30,7 +30,7 @@ use Rattle.paw_play.specs.inner.Calls.{unless_ended}
 use Rattle.paw_play.specs.inner.ShowSteps.{Plain}
 use Rattle.paw_turn.specs.inner.Player.{IsStanding}
 use Rattle.paw_turn.proofs.Halting.{halted_stands}
-use Rattle.paw_reading.specs.declared.frames.Halt.TheVariants as halt
+use Rattle.paw_reading.specs.declared.halt.Halt.TheVariants as halt
 use Rattle.paw_play.specs.inner.OnTheWay.{IsWalking, ShowsStep, end_if_no_piece, seat_state, seat_base, IsRestingStore}
 use Rattle.paw_play.specs.inner.OnTheWay.{BegunAs, Begins, begun_with}
 use Rattle.paw_play.proofs.Kept.{KeepsLines, step_kept}

@@ -10,7 +10,7 @@ use Rattle.paw_effects.specs.declared.act.Prompt.{Prompt}
 use Rattle.paw_effects.specs.declared.act.Prompt.TheVariants as prompt
 use Rattle.paw_reading.specs.declared.frames.Frame.{Frame}
 use Rattle.paw_reading.specs.Run.{Run, Step}
-use Rattle.paw_reading.specs.declared.frames.Halt.TheVariants as halt
+use Rattle.paw_reading.specs.declared.halt.Halt.TheVariants as halt
 use Rattle.paw_reading.specs.Turn.{Ending, WaitsAt, Halted, Unended, reading, going_on_from, pieces_of, text_of}
 use Rattle.paw_reading.specs.inner.GoingOn.{with_lines}
 use Rattle.paw_reading.specs.inner.Longer.{ending_with_past, with_past, without_past}

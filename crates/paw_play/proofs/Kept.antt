@@ -5,7 +5,7 @@ use Rattle.paw_base.specs.Bytes.{Text, Texts}
 use Rattle.paw_effects.specs.declared.act.Prompt.{Prompt}
 use Rattle.paw_effects.specs.declared.act.Prompt.TheVariants as prompt
 use Rattle.paw_reading.specs.Run.{Step as Read}
-use Rattle.paw_reading.specs.declared.frames.Halt.TheVariants as halt
+use Rattle.paw_reading.specs.declared.halt.Halt.TheVariants as halt
 use Rattle.paw_reading.specs.Turn.{Ending, WaitsAt, Halted}
 use Rattle.paw_turn.specs.inner.Player.{PlayerView, run_at, PlaysTo, StandsClosed}
 use Rattle.paw_turn.specs.declared.Step.{Step}

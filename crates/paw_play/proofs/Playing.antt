@@ -34,7 +34,7 @@ use Rattle.paw_play.specs.inner.Calls.{unless_ended}
 use Rattle.paw_play.specs.inner.ShowSteps.{Plain}
 use Rattle.paw_turn.specs.inner.Player.{IsStanding, step_halt}
 use Rattle.paw_turn.proofs.Halting.{halted_stands}
-use Rattle.paw_reading.specs.declared.frames.Halt.TheVariants as halt
+use Rattle.paw_reading.specs.declared.halt.Halt.TheVariants as halt
 use Rattle.paw_play.specs.inner.OnTheWay.{IsWalking, WalksTo, ShowsStep, end_if_no_piece, seat_state, seat_base, IsPlaying}
 use Rattle.paw_play.specs.inner.OnTheWay.{PlaysLineTo}
 use Rattle.paw_play.specs.Written.{bytes_before, store_bytes_after}

@@ -13,7 +13,7 @@ use Rattle.paw_stage.specs.Stage.{Standing, InShow, with_shown}
 use Rattle.paw_effects.specs.declared.act.Prompt.{Prompt}
 use Rattle.paw_reading.specs.declared.frames.Frame.{Frame}
 use Rattle.paw_reading.specs.Run.{Run, Step as Read}
-use Rattle.paw_reading.specs.declared.frames.Halt.{Halt}
+use Rattle.paw_reading.specs.declared.halt.Halt.{Halt}
 use Rattle.paw_reading.specs.Turn.{WaitsAt, Halted}
 use Rattle.paw_turn.specs.inner.Player.{PlayerView, run_at}
 use Rattle.paw_turn.specs.declared.Step.{Step}

@@ -11,7 +11,7 @@ use Rattle.paw_game.specs.Valid.{Valid}
 use Rattle.paw_stage.specs.Stage.{Standing}
 use Rattle.paw_effects.specs.declared.act.Prompt.TheVariants as prompt
 use Rattle.paw_reading.specs.Run.{Step}
-use Rattle.paw_reading.specs.declared.frames.Halt.TheVariants as halt
+use Rattle.paw_reading.specs.declared.halt.Halt.TheVariants as halt
 use Rattle.paw_reading.specs.Turn.{Ending, WaitsAt, Halted, Unended, reading, pieces_of}
 use Rattle.paw_reading.specs.inner.Longer.{ending_with_past}
 use Rattle.paw_reading.specs.inner.Pieces.{Counted}

@@ -8,8 +8,8 @@ use Rattle.paw_stage.specs.declared.StageCall.TheVariants as call
 use Rattle.paw_effects.specs.declared.act.Prompt.{Prompt}
 use Rattle.paw_reading.specs.declared.frames.Frame.{Frame}
 use Rattle.paw_reading.specs.Run.{Run}
-use Rattle.paw_reading.specs.declared.frames.Halt.{Halt}
-use Rattle.paw_reading.specs.declared.frames.Halt.TheVariants as halt
+use Rattle.paw_reading.specs.declared.halt.Halt.{Halt}
+use Rattle.paw_reading.specs.declared.halt.Halt.TheVariants as halt
 use Rattle.paw_reading.specs.Turn.{Ending, WaitsAt, Halted, text_of}
 use Rattle.paw_play.specs.declared.PlayEnd.{PlayEnd}
 use Rattle.paw_play.specs.declared.PlayEnd.TheVariants as end

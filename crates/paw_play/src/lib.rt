@@ -17,7 +17,7 @@ pub mod walk;
 
 use paw_base::fault::SpentKind;
 use paw_journal::JournalRefusal;
-use paw_reading::frames::Halt;
+use paw_reading::halt::Halt;
 use paw_stage::StageCall;
 
 /// How playing ends. Occupied: a new session was asked for, and its store has bytes already. Refused: the store gives

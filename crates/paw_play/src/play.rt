@@ -132,7 +132,7 @@ fn play_in<S: Stage, T: Tables, F: Fn(u8, u8) -> u8>(
     let Ok(mut room) = Room::new(alloc) else {
         return PlayEnd::Memory;
     };
-    let Ok(mut player) = Player::new_counting(alloc, tables, routines, seed) else {
+    let Ok(mut player) = Player::new_only_counting(alloc, tables, routines, seed) else {
         return PlayEnd::Memory;
     };
     match make_session(stage, &mut player, &mut room, at, game, &routines.measure()) {

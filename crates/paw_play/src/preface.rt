@@ -65,7 +65,7 @@ impl Preface for Nothing {
         routines: &'a Routines<F>,
         seed: u64,
     ) -> Result<Player<'a, T, F>, NoRoom> {
-        Player::new_counting(alloc, tables, routines, seed)
+        Player::new_only_counting(alloc, tables, routines, seed)
     }
 
     fn text(&mut self, _steps: &Steps) -> &[u8] {

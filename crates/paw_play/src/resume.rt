@@ -30,7 +30,7 @@ use paw_base::fault::NoRoom;
 use paw_effects::act::Prompt;
 use paw_game::tables::Tables;
 use paw_journal::{Journal, JournalRefusal, Room, attach};
-use paw_reading::frames::Halt;
+use paw_reading::halt::Halt;
 use paw_routines::routines::Routines;
 use paw_stage::{Stage, StageCall};
 use paw_state::{Restored, read_state};

@@ -20,7 +20,7 @@ use crate::show::show;
 use crate::{PlayEnd, end_of};
 use paw_base::limits::{EVENT_LIMIT, LINE_LIMIT};
 use paw_game::tables::Tables;
-use paw_reading::frames::Halt;
+use paw_reading::halt::Halt;
 use paw_routines::routines::Routines;
 use paw_stage::{Asked, Failed, Stage, StageCall};
 use paw_turn::{Player, Step, halt_of};

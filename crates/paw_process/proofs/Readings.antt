@@ -28,7 +28,7 @@ use Rattle.paw_effects.specs.Texts.{put_text}
 use Rattle.paw_reading.specs.declared.frames.Frame.{Frame}
 use Rattle.paw_reading.specs.declared.frames.OpenLoop.{OpenLoop}
 use Rattle.paw_reading.specs.Run.{Run, Step, piece_closed, with_world}
-use Rattle.paw_reading.specs.declared.frames.Halt.TheVariants as halt
+use Rattle.paw_reading.specs.declared.halt.Halt.TheVariants as halt
 use Rattle.paw_reading.specs.Reading.{Out, halts, step_at, step_noted, printing, waits}
 use Rattle.paw_reading.specs.Reading.{acts, carried_out, after_action, loop_of, deeper}
 use Rattle.paw_reading.specs.inner.Parts.{tests_condition, parses}

@@ -15,7 +15,7 @@ use Rattle.paw_effects.specs.declared.act.Effect.TheVariants as effect
 use Rattle.paw_reading.specs.declared.frames.Frame.{Frame}
 use Rattle.paw_reading.specs.declared.frames.OpenLoop.{OpenLoop}
 use Rattle.paw_reading.specs.Run.{Run, piece_closed, without_loop}
-use Rattle.paw_reading.specs.declared.frames.Halt.TheVariants as halt
+use Rattle.paw_reading.specs.declared.halt.Halt.TheVariants as halt
 use Rattle.paw_reading.specs.Reading.{Redescribes, Halts, Out, Left, Stopped, halts, at_level, next_object_or}
 use Rattle.paw_reading.specs.Reading.{object_taken, over_objects, loop_of, waits, from_condact, rest_of_loop, deeper}
 use Rattle.paw_reading.specs.Reading.{rest_of_table, reads_one}

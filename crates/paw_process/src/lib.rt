@@ -16,7 +16,7 @@ pub use kept::{
 };
 pub use machine::{MOST_FRAMES, Machine};
 use paw_effects::act::Prompt;
-use paw_reading::frames::Halt;
+use paw_reading::halt::Halt;
 pub use phrase::take_phrase;
 pub use surroundings::Surroundings;
 

@@ -26,12 +26,12 @@ pub fn take_phrase<T: Tables>(tables: &T, world: &mut World, pending: &mut Pendi
     if pending.bytes().is_empty() {
         return Found::Empty;
     }
-    take_words(tables, world, pending)
+    take_phrase_of_line(tables, world, pending)
 }
 
-// Takes the next phrase of some bytes. It isn't inlined, because what calls it has much else to do.
+// Takes the next phrase of a line with bytes left. It isn't inlined, so that a call takes little where none are left.
 #[inline(never)]
-fn take_words<T: Tables>(tables: &T, world: &mut World, pending: &mut Pending) -> Found
+fn take_phrase_of_line<T: Tables>(tables: &T, world: &mut World, pending: &mut Pending) -> Found
     ensures value { Speaks (T.game tables.now) result world.old world.new pending.old pending.new }
     ensures draws { world.new.draws ≡ world.old.draws }
     ensures game { IsOf (T.game tables.now) world.old → IsOf (T.game tables.now) world.new }

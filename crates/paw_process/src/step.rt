@@ -50,7 +50,8 @@ use paw_effects::text::put;
 use paw_game::cursor::CondactCursor;
 use paw_game::tables::Tables;
 use paw_phrase::Pending;
-use paw_reading::frames::{Frame, Halt, OpenLoop};
+use paw_reading::frames::{Frame, OpenLoop};
+use paw_reading::halt::Halt;
 use paw_routines::routines::Routines;
 use paw_world::world::World;
 
@@ -113,7 +114,7 @@ impl Machine {
     // Begins to read a table one level deeper, from its start.
     fn call(&mut self, table: u8) -> Option<Turned>
         requires reading { IsReading self.old }
-        requires place { AtCondacts self.old.frames }
+        requires at { AtCondacts self.old.frames }
         ensures meaning { (g : Story) (r : Run) →
             Continues g
             (along g self.old.frames
@@ -254,7 +255,7 @@ impl<T: Tables, F: Fn(u8, u8) -> u8> StoryReader<'_, T, F> {
     // Takes the next phrase: after a sentence reading goes on at the next entry, otherwise at the next condact.
     fn parse(&self, machine: &mut Machine, surroundings: &mut Surroundings, f: Frame)
         requires ready { IsReady (T.game self.now.tables.now) machine.old surroundings.old.world }
-        requires place { IsAtCondact f }
+        requires at { IsAtCondact f }
         ensures meaning { (X : RoutineAnswers) (r : Run) → let g = story_of (T.game self.now.tables.now) X in
             loop_resolved g (below machine.old.frames)
             (parses g f (next_of g (below machine.old.frames) f) (past_of g (below machine.old.frames) f)
@@ -282,7 +283,7 @@ impl<T: Tables, F: Fn(u8, u8) -> u8> StoryReader<'_, T, F> {
         effect: Effect,
     ) -> Option<Turned>
         requires ready { IsReady (T.game self.now.tables.now) machine.old surroundings.old.world }
-        requires place { IsAtCondact f }
+        requires at { IsAtCondact f }
         requires elsewhere { effect ≡ effects.Go → ⊥ }
         ensures meaning { (X : RoutineAnswers) (r : Run) → let g = story_of (T.game self.now.tables.now) X in
             Continues g
@@ -325,7 +326,7 @@ impl<T: Tables, F: Fn(u8, u8) -> u8> StoryReader<'_, T, F> {
         effect: Effect,
     ) -> AfterCondact
         requires ready { IsReady (T.game self.now.tables.now) machine.old surroundings.old.world }
-        requires place { IsAtCondact f }
+        requires at { IsAtCondact f }
         ensures meaning { (X : RoutineAnswers) (r : Run) → let g = story_of (T.game self.now.tables.now) X in
             Continues g
             (acted_at g (below machine.old.frames) f effect (run_held (having surroundings.old machine.old) r))
@@ -376,7 +377,7 @@ impl<T: Tables, F: Fn(u8, u8) -> u8> StoryReader<'_, T, F> {
     // Asks QUIT's question, and waits for the answer.
     fn ask(&self, machine: &mut Machine, surroundings: &mut Surroundings) -> Option<Turned>
         requires ready { IsReady (T.game self.now.tables.now) machine.old surroundings.old.world }
-        requires place { AtCondacts machine.old.frames }
+        requires at { AtCondacts machine.old.frames }
         ensures meaning { (X : RoutineAnswers) (f : Frame) (r : Run) →
             machine.old.frames ≡ f ∷ below machine.old.frames →
             let g = story_of (T.game self.now.tables.now) X in
@@ -448,7 +449,7 @@ impl<T: Tables, F: Fn(u8, u8) -> u8> StoryReader<'_, T, F> {
     ) -> AfterCondact
         requires may { MayReadNext F.Fn self.now.routines.now
             (T.game self.now.tables.now) machine.old surroundings.old.world }
-        requires place { IsAtCondact f }
+        requires at { IsAtCondact f }
         requires found { condact_at (T.game self.now.tables.now) f.table f.entry f.at ≡ Some c }
         requires condact { is_right (T.game self.now.tables.now) c ≡ true }
         ensures meaning { InStories F.Fn self.now.routines.now (T.game self.now.tables.now) (λ g.
@@ -515,7 +516,7 @@ impl<T: Tables, F: Fn(u8, u8) -> u8> StoryReader<'_, T, F> {
     // The cursor at which reading goes on from a frame: inside an entry that of its condact, and at the start of an
     // entry that of the first condact of the next entry that matches. None exactly where none matches.
     fn enter(&self, world: &World, f: Frame) -> Option<CondactCursor>
-        requires place { 0 < f.at → f.entry < ENTRY_LIMIT }
+        requires entry { 0 < f.at → f.entry < ENTRY_LIMIT }
         ensures stands { IfSome result (λ c. T.stands self.now.tables.now c) }
         ensures some { IfSome result (λ c. Enters (T.game self.now.tables.now) world.now f (frame_of c f.acted)) }
         ensures none { IfNone result (EntersNone (T.game self.now.tables.now) world.now f) }
@@ -539,7 +540,7 @@ impl<T: Tables, F: Fn(u8, u8) -> u8> StoryReader<'_, T, F> {
     ) -> Option<Turned>
         requires may { MayReadNext F.Fn self.now.routines.now
             (T.game self.now.tables.now) machine.old surroundings.old.world }
-        requires place { 0 < f.old.at → f.old.entry < ENTRY_LIMIT }
+        requires entry { 0 < f.old.at → f.old.entry < ENTRY_LIMIT }
         ensures meaning { InStories F.Fn self.now.routines.now (T.game self.now.tables.now) (λ g.
             ReadsTable g (going_in g (f.old ∷ below machine.old.frames)) (having surroundings.old machine.old)
             result (having surroundings.new (held_at result f.new machine.new))) }

@@ -24,7 +24,7 @@ use Rattle.paw_reading.specs.declared.frames.OpenLoop.{OpenLoop}
 use Rattle.paw_reading.specs.Run.{Run, piece_closed, fits, text_printed, with_world, without_loop, line_dropped, anew, is_timeout}
 use Rattle.paw_reading.specs.Run.{is_ignored, with_line_heard}
 use Rattle.paw_reading.specs.Run.{reply, is_yes, is_no, taken_phrase}
-use Rattle.paw_reading.specs.declared.frames.Halt.TheVariants as halt
+use Rattle.paw_reading.specs.declared.halt.Halt.TheVariants as halt
 use Rattle.paw_reading.specs.Reading.{Redescribes, Restarts, Halts, Out, Left, Waits, Stopped, halts, step_noted, after_call}
 use Rattle.paw_reading.specs.Reading.{at_level, next_object_or, is_taken, object_taken, over_objects, loop_of, over, prompt_answered}
 use Rattle.paw_reading.specs.Reading.{prompt_asked, waits, after_test}

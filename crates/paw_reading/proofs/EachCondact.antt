@@ -10,7 +10,7 @@ use Rattle.paw_game.specs.Tables.{table_at, entry_at, condacts_of}
 use Rattle.paw_effects.specs.Story.{Story}
 use Rattle.paw_reading.specs.declared.frames.Frame.{Frame}
 use Rattle.paw_reading.specs.Run.{Run}
-use Rattle.paw_reading.specs.declared.frames.Halt.TheVariants as halt
+use Rattle.paw_reading.specs.declared.halt.Halt.TheVariants as halt
 use Rattle.paw_reading.specs.Reading.{Out, Left, halts, reads_one, condacts, is_for_now, entries, from_condact}
 
 -- What holds in both cases, the first with its test.

@@ -26,7 +26,7 @@ use Rattle.paw_reading.specs.declared.frames.OpenLoop.{OpenLoop}
 use Rattle.paw_reading.specs.Run.{Run, Step, piece_closed, fits, text_printed, with_world, without_loop, line_dropped, anew}
 use Rattle.paw_reading.specs.Run.{is_ignored, with_line_heard, reply}
 use Rattle.paw_reading.specs.Run.{is_yes, is_no, taken_phrase}
-use Rattle.paw_reading.specs.declared.frames.Halt.TheVariants as halt
+use Rattle.paw_reading.specs.declared.halt.Halt.TheVariants as halt
 use Rattle.paw_reading.specs.Reading.{Restarts, Out, Left, Waits, Stopped, halts, step_noted, printing, after_call, at_level}
 use Rattle.paw_reading.specs.Reading.{next_object_or, is_taken, object_taken, over_objects, loop_of, over, prompt_answered, prompt_asked}
 use Rattle.paw_reading.specs.Reading.{waits, after_test}

@@ -19,7 +19,7 @@ use Rattle.paw_world.specs.World.{flag}
 use Rattle.paw_reading.specs.declared.frames.Frame.{Frame}
 use Rattle.paw_reading.specs.declared.frames.OpenLoop.{OpenLoop}
 use Rattle.paw_reading.specs.Run.{Run}
-use Rattle.paw_reading.specs.declared.frames.Halt.TheVariants as halt
+use Rattle.paw_reading.specs.declared.halt.Halt.TheVariants as halt
 use Rattle.paw_reading.specs.Reading.{Out, Left, Waits, Stopped, halts, within, after_call, at_level, next_object_or}
 use Rattle.paw_reading.specs.Reading.{reads_one, condacts, is_for_now, entries, rest_of_entry, from_condact}
 use Rattle.paw_reading.specs.Reading.{rest_of_loop}

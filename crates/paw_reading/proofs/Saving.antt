@@ -30,7 +30,7 @@ use Rattle.paw_reading.specs.declared.frames.Frame.{Frame}
 use Rattle.paw_reading.specs.declared.frames.OpenLoop.{OpenLoop}
 use Rattle.paw_reading.specs.Run.{Run, piece_closed, fits, text_printed, with_world, line_dropped, anew, is_timeout, is_ignored}
 use Rattle.paw_reading.specs.Run.{with_line_heard, reply, is_yes, is_no, taken_phrase}
-use Rattle.paw_reading.specs.declared.frames.Halt.TheVariants as halt
+use Rattle.paw_reading.specs.declared.halt.Halt.TheVariants as halt
 use Rattle.paw_reading.specs.Reading.{Restarts, Redescribes, Halts, Out, Left, Waits, Stopped, halts, step_noted, after_call}
 use Rattle.paw_reading.specs.Reading.{at_level}
 use Rattle.paw_reading.specs.Reading.{next_object_or, is_taken, object_named, object_taken, over_objects, loop_of, over, prompt_answered}

@@ -47,7 +47,7 @@ use Rattle.paw_reading.specs.declared.frames.OpenLoop.{OpenLoop}
 use Rattle.paw_reading.specs.Run.{Run, piece_closed, fits, text_printed, with_world, without_loop, line_dropped, anew, is_timeout}
 use Rattle.paw_reading.specs.Run.{is_ignored, with_line_heard}
 use Rattle.paw_reading.specs.Run.{with_timeout, reply, is_yes, is_no, with_sentence, taken_phrase}
-use Rattle.paw_reading.specs.declared.frames.Halt.TheVariants as halt
+use Rattle.paw_reading.specs.declared.halt.Halt.TheVariants as halt
 use Rattle.paw_reading.specs.Reading.{Redescribes, Restarts, Halts, Out, Left, Waits, Stopped, halts, step_noted, printing}
 use Rattle.paw_reading.specs.Reading.{after_call, at_level, next_object_or, is_taken, object_named, object_taken, over_objects}
 use Rattle.paw_reading.specs.Reading.{loop_of, over, prompt_answered, prompt_asked, waits}

@@ -27,8 +27,8 @@ use Rattle.paw_effects.specs.Texts.{put_text, say_text, location_text}
 use Rattle.paw_reading.specs.declared.frames.Frame.{Frame}
 use Rattle.paw_reading.specs.Run.{Run, piece_closed, fits, text_printed, with_world, line_dropped, is_timeout}
 use Rattle.paw_reading.specs.Run.{is_ignored, with_line_heard, with_timeout, taken_phrase}
-use Rattle.paw_reading.specs.declared.frames.Halt.{Halt}
-use Rattle.paw_reading.specs.declared.frames.Halt.TheVariants as halt
+use Rattle.paw_reading.specs.declared.halt.Halt.{Halt}
+use Rattle.paw_reading.specs.declared.halt.Halt.TheVariants as halt
 use Rattle.paw_reading.specs.Reading.{Halts}
 use Rattle.paw_reading.specs.Reading.{Out, Left, Waits, Stopped, coming_phrase, table_read}
 use Rattle.paw_reading.specs.GoingOn.{on_path}

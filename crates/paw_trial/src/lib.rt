@@ -10,7 +10,7 @@ mod setup;
 mod trial;
 
 use paw_base::fault::SpentKind;
-use paw_reading::frames::Halt;
+use paw_reading::halt::Halt;
 pub use trial::trial_line;
 
 /// Why a trial shows no line. Ended: the game is over. Spent: a piece would read or hold too much. TooDeep: a table was

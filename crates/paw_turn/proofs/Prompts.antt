@@ -6,7 +6,7 @@ use Rattle.paw_phrase.specs.Sentence.{IsNoPhrase}
 use Rattle.paw_effects.specs.Story.{Story}
 use Rattle.paw_reading.specs.Run.{line_dropped, piece_closed}
 use Rattle.paw_reading.specs.Turn.{at_main, prompt_text, after_phrase, turn}
-use Rattle.paw_reading.specs.declared.frames.Halt.TheVariants as halt
+use Rattle.paw_reading.specs.declared.halt.Halt.TheVariants as halt
 use Rattle.paw_turn.specs.declared.turn.PlayState.{PlayState}
 use Rattle.paw_turn.specs.inner.Phases.{run_now, Moves, halting}
 use Rattle.paw_turn.proofs.Says.{unsaid}

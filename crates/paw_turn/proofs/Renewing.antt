@@ -21,7 +21,7 @@ use Rattle.paw_reading.specs.declared.frames.Frame.{Frame}
 use Rattle.paw_reading.specs.declared.frames.OpenLoop.{OpenLoop}
 use Rattle.paw_reading.specs.Run.{Run, piece_closed, fits, text_printed, without_loop, line_dropped, anew, is_timeout, is_ignored}
 use Rattle.paw_reading.specs.Run.{with_line_heard, with_timeout, reply, is_no}
-use Rattle.paw_reading.specs.declared.frames.Halt.TheVariants as halt
+use Rattle.paw_reading.specs.declared.halt.Halt.TheVariants as halt
 use Rattle.paw_reading.specs.Reading.{Restarts, Out, Stopped, halts, after_call, next_object_or, prompt_asked, rest_of_loop}
 use Rattle.paw_reading.specs.Reading.{deeper, rest_of_table}
 use Rattle.paw_reading.specs.GoingOn.{on_path}

@@ -11,8 +11,8 @@ use Rattle.paw_effects.specs.declared.act.Prompt.{Prompt}
 use Rattle.paw_effects.specs.inner.Opening.{opening_world}
 use Rattle.paw_reading.specs.declared.frames.OpenLoop.{OpenLoop}
 use Rattle.paw_reading.specs.Run.{Run, Step as Read, piece_closed}
-use Rattle.paw_reading.specs.declared.frames.Halt.{Halt}
-use Rattle.paw_reading.specs.declared.frames.Halt.TheVariants as halt
+use Rattle.paw_reading.specs.declared.halt.Halt.{Halt}
+use Rattle.paw_reading.specs.declared.halt.Halt.TheVariants as halt
 use Rattle.paw_reading.specs.Turn.{Ending, Unended, AtDescribe, turns_from, phases_left, opening, reading}
 use Rattle.paw_reading.specs.Turn.{going_on_from}
 use Rattle.paw_reading.proofs.Ends.{ends_once, going_on_ends, goes_on_once}

@@ -15,7 +15,7 @@ mod turn;
 pub use parts::Parts;
 use paw_base::fault::SpentKind;
 use paw_effects::act::Prompt;
-use paw_reading::frames::Halt;
+use paw_reading::halt::Halt;
 use phase::TurnStop;
 pub use player::Player;
 

@@ -24,7 +24,7 @@ use paw_effects::act::Prompt;
 use paw_effects::text::say;
 use paw_game::tables::Tables;
 use paw_process::Turned;
-use paw_reading::frames::Halt;
+use paw_reading::halt::Halt;
 use paw_world::world::World;
 
 // Whether a line is ~, which stands for a timeout.

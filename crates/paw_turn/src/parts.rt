@@ -8,7 +8,7 @@ use crate::phase::TurnStop;
 use paw_effects::act::Prompt;
 use paw_phrase::Pending;
 use paw_process::Machine;
-use paw_reading::frames::Halt;
+use paw_reading::halt::Halt;
 use paw_world::world::World;
 
 /// What a player consists of between two lines, as it lends it: with these parts a player can go on, now or later.

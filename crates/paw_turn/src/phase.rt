@@ -1,7 +1,7 @@
 // The four phases of a turn.
 
 use paw_effects::act::Prompt;
-use paw_reading::frames::Halt;
+use paw_reading::halt::Halt;
 
 /// Where a turn is: before the description of the location, before the time frame, before the next phrase, or before
 /// the response to a sentence.

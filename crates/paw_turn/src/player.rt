@@ -39,7 +39,7 @@ mod tests;
 #[derive(Drop)]
 pub struct Player<'a, T: Tables, F: Fn(u8, u8) -> u8> {
     rules: TurnRules<'a, T, F>,
-    turn: PlayState,
+    state: PlayState,
     last: TurnStop,
 }
 
@@ -51,10 +51,10 @@ impl<'a, T: Tables, F: Fn(u8, u8) -> u8> Model for Player<'a, T, F> {
     ghost view = { λ p. record {
       game = T.game p.rules.tables.now;
       routines = p.rules.routines.now;
-      world = p.turn.surroundings.world;
-      pending = p.turn.surroundings.pending;
-      machine = p.turn.machine;
-      piece = p.turn.surroundings.piece;
+      world = p.state.surroundings.world;
+      pending = p.state.surroundings.pending;
+      machine = p.state.machine;
+      piece = p.state.surroundings.piece;
       last = step_of p.last;
     } };
 }
@@ -81,7 +81,7 @@ impl<'a, T: Tables, F: Fn(u8, u8) -> u8> Player<'a, T, F> {
         let piece = Piece::new(alloc)?;
         Ok(Player {
             rules: TurnRules { tables, routines },
-            turn: PlayState::new(tables, seed, piece),
+            state: PlayState::new(tables, seed, piece),
             last: TurnStop::Waits(Prompt::Main),
         })
     }
@@ -90,7 +90,7 @@ impl<'a, T: Tables, F: Fn(u8, u8) -> u8> Player<'a, T, F> {
     ///
     /// # Errors
     /// NoRoom where there is no memory for a piece.
-    pub fn new_counting(
+    pub fn new_only_counting(
         alloc: Global,
         tables: &'a T,
         routines: &'a Routines<F>,
@@ -115,7 +115,7 @@ impl<'a, T: Tables, F: Fn(u8, u8) -> u8> Player<'a, T, F> {
         ensures seated { IsSeated self.old → IsSeated self.new }
         ensures new { (seed : Seed) → IsNew self.old seed → IsNew self.new seed }
     {
-        self.turn.machine.count_steps_only();
+        self.state.machine.count_steps_only();
     }
 
     /// A player of a game that calls these routines, which stands at a prompt with these parts, lent or restored
@@ -142,7 +142,7 @@ impl<'a, T: Tables, F: Fn(u8, u8) -> u8> Player<'a, T, F> {
         let piece = Piece::new(alloc)?;
         Ok(Player {
             rules: TurnRules { tables, routines },
-            turn: PlayState {
+            state: PlayState {
                 surroundings: Surroundings {
                     world,
                     pending,
@@ -165,7 +165,7 @@ impl<'a, T: Tables, F: Fn(u8, u8) -> u8> Player<'a, T, F> {
         ensures last { self.new.last ≡ step.Waits prompt.Main }
         ensures seated { IsSeated self.new }
     {
-        self.turn.renew(self.rules.tables, seed);
+        self.state.renew(self.rules.tables, seed);
         self.last = TurnStop::Waits(Prompt::Main);
     }
 
@@ -176,7 +176,7 @@ impl<'a, T: Tables, F: Fn(u8, u8) -> u8> Player<'a, T, F> {
         ensures value { self.new ≡ seat_at self.old.game self.old.routines world machine pending prompt }
         ensures seated { IsSeated self.new }
     {
-        self.turn.seat(world, machine, pending);
+        self.state.seat(world, machine, pending);
         self.last = stop_at(prompt);
     }
 
@@ -195,8 +195,8 @@ impl<'a, T: Tables, F: Fn(u8, u8) -> u8> Player<'a, T, F> {
         ensures draws { self.new.world.draws ≤ self.old.world.draws + READ_LIMIT }
         ensures most { self.new.machine.steps.most ≡ self.old.machine.steps.most }
     {
-        let stop = self.rules.play(&mut self.turn, Phase::Describe);
-        self.turn.settle(stop);
+        let stop = self.rules.play(&mut self.state, Phase::Describe);
+        self.state.settle(stop);
         self.last = stop;
         step_of(stop)
     }
@@ -224,12 +224,12 @@ impl<'a, T: Tables, F: Fn(u8, u8) -> u8> Player<'a, T, F> {
         ensures most { self.new.machine.steps.most ≡ self.old.machine.steps.most }
     {
         let TurnStop::Waits(prompt) = self.last else {
-            self.turn.clear_piece();
+            self.state.clear_piece();
             return step_of(self.last);
         };
-        self.turn.open_piece();
-        let stop = self.rules.take(&mut self.turn, prompt, line);
-        self.turn.settle(stop);
+        self.state.open_piece();
+        let stop = self.rules.take(&mut self.state, prompt, line);
+        self.state.settle(stop);
         self.last = stop;
         step_of(stop)
     }
@@ -240,7 +240,7 @@ impl<'a, T: Tables, F: Fn(u8, u8) -> u8> Player<'a, T, F> {
         ensures value { result.now ≡ self.now.piece }
         ensures short { length result.now ≤ PIECE_LIMIT }
     {
-        self.turn.piece()
+        self.state.piece()
     }
 
     /// The steps of the last piece: how many condacts were read for it, and the first 1,000, or none where the player
@@ -248,7 +248,7 @@ impl<'a, T: Tables, F: Fn(u8, u8) -> u8> Player<'a, T, F> {
     pub fn steps(&self) -> &Steps
         ensures value { result.now ≡ self.now.machine.steps }
     {
-        self.turn.machine.steps()
+        self.state.machine.steps()
     }
 
     /// Lends the world, the machine, what is pending, and the prompt at which the player stands: Over once the game is
@@ -268,9 +268,9 @@ impl<'a, T: Tables, F: Fn(u8, u8) -> u8> Player<'a, T, F> {
             frames_fault self.now.game (prompt_at self.now.last) (machine_kept self.now.machine) ≡ None }
     {
         Parts {
-            world: &self.turn.surroundings.world,
-            machine: &self.turn.machine,
-            pending: &self.turn.surroundings.pending,
+            world: &self.state.surroundings.world,
+            machine: &self.state.machine,
+            pending: &self.state.surroundings.pending,
             prompt: prompt_at(self.last),
         }
     }

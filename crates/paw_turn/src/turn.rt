@@ -43,7 +43,7 @@ use paw_effects::text::{place_text, put, say};
 use paw_game::tables::Tables;
 use paw_phrase::{Found, Pending};
 use paw_process::{Machine, Surroundings, Turned, take_phrase};
-use paw_reading::frames::Halt;
+use paw_reading::halt::Halt;
 use paw_routines::routines::Routines;
 use paw_world::world::World;
 

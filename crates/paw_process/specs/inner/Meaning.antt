@@ -10,7 +10,7 @@ use Rattle.paw_effects.specs.Story.{Story, story_of}
 use Rattle.paw_effects.specs.declared.act.Prompt.TheVariants as prompt
 use Rattle.paw_reading.specs.declared.frames.Frame.{Frame}
 use Rattle.paw_reading.specs.Run.{Run, Step, piece_closed, is_ignored, with_line_heard, reply, is_yes}
-use Rattle.paw_reading.specs.declared.frames.Halt.{Halt}
+use Rattle.paw_reading.specs.declared.halt.Halt.{Halt}
 use Rattle.paw_reading.specs.Reading.{Redescribes, Out, Left, Stopped, closes_piece, halts, rest_of_table}
 use Rattle.paw_reading.specs.GoingOn.{on_path}
 use Rattle.paw_reading.specs.inner.GoingOn.{along}

@@ -18,8 +18,8 @@ use Rattle.paw_effects.specs.Story.{Story}
 use Rattle.paw_reading.specs.declared.frames.Frame.{Frame}
 use Rattle.paw_reading.specs.declared.frames.OpenLoop.{OpenLoop}
 use Rattle.paw_reading.specs.Run.{Run, Step as Read, piece_closed, is_ignored}
-use Rattle.paw_reading.specs.declared.frames.Halt.{Halt}
-use Rattle.paw_reading.specs.declared.frames.Halt.TheVariants as halt
+use Rattle.paw_reading.specs.declared.halt.Halt.{Halt}
+use Rattle.paw_reading.specs.declared.halt.Halt.TheVariants as halt
 use Rattle.paw_reading.specs.Reading.{Out, closes_piece, table_read}
 use Rattle.paw_reading.specs.GoingOn.{on_path}
 use Rattle.paw_reading.specs.Turn.{Ending, Halted, AtDescribe, AtTimeFrame, AtPhrase, AtResponse}

@@ -17,8 +17,8 @@ use Rattle.paw_effects.specs.inner.Opening.{opening_world}
 use Rattle.paw_effects.specs.Story.{Story}
 use Rattle.paw_reading.specs.Run.{Run, Step as Read}
 use Rattle.paw_reading.specs.Reading.{closes_piece}
-use Rattle.paw_reading.specs.declared.frames.Halt.{Halt}
-use Rattle.paw_reading.specs.declared.frames.Halt.TheVariants as halt
+use Rattle.paw_reading.specs.declared.halt.Halt.{Halt}
+use Rattle.paw_reading.specs.declared.halt.Halt.TheVariants as halt
 use Rattle.paw_reading.specs.Turn.{Ending, Halted, first_table, going_on_from}
 use Rattle.paw_reading.specs.inner.Waits.{IsLoopOf, StandsRightly}
 use Rattle.paw_process.specs.inner.OpenTables.{OpenTables}

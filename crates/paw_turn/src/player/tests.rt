@@ -220,8 +220,8 @@ fn taken_apart<F: Fn(u8, u8) -> u8>(player: Player<'_, Game, F>) -> Result<Apart
     let prompt = player.parts().prompt;
     let frames = player.parts().machine.frames();
     let machine = Machine::restore(player.rules.tables, &frames, prompt)?;
-    let Player { turn, .. } = player;
-    let PlayState { surroundings, .. } = turn;
+    let Player { state, .. } = player;
+    let PlayState { surroundings, .. } = state;
     let Surroundings { world, pending, .. } = surroundings;
     let pending = Pending::of(pending.bytes(), pending.earlier());
     Ok(Apart {

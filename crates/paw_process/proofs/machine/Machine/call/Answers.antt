@@ -1,5 +1,5 @@
 use Rattle.std.proofs.Common.{arith, refl}
-use Rattle.paw_reading.specs.declared.frames.Halt.TheVariants as halt
+use Rattle.paw_reading.specs.declared.halt.Halt.TheVariants as halt
 use Rattle.paw_process.proofs.Stops.{stops_halted, call_deep, call_goes}
 use Rattle.paw_process.specs.inner.Moves.{with_open_loop}
 use Rattle.paw_process.proofs.machine.Machine.call.Goals as goal

@@ -11,7 +11,7 @@ returns-then-f-gt0-clause-some g c =
     let lists = g.T.Tables.game c.args.self.now.tables.now in
     subst (λ (e : Frame). Enters lists c.args.world.now c.args.f e) (sym c.cursor_of.ensures.at)
     (record {
-      entry = c.requires.place c.if-f-gt0.true;
+      entry = c.requires.entry c.if-f-gt0.true;
       low = omega arith;
       goes = λ X fs r is. going_inside (story_of lists X) fs c.args.f r c.if-f-gt0.true;
     })

@@ -2,7 +2,7 @@ use Rattle.std.proofs.Common.{refl, ◌∙◌, ◌∷◌, length}
 use Rattle.paw_base.specs.declared.fault.SpentKind.TheVariants as spent
 use Rattle.paw_effects.specs.Story.{story_of}
 use Rattle.paw_effects.specs.declared.act.Effect.TheVariants as effect
-use Rattle.paw_reading.specs.declared.frames.Halt.TheVariants as halt
+use Rattle.paw_reading.specs.declared.halt.Halt.TheVariants as halt
 use Rattle.paw_process.proofs.Readings.{acted_as, call_at, loop_at, ask_at}
 use Rattle.paw_process.proofs.Steps.{acted_redescribes, acted_spent}
 use Rattle.paw_process.proofs.Stops.{goes_from, stops_halted}

@@ -12,8 +12,8 @@ use Rattle.paw_process.specs.inner.Work.{counts}
 use Rattle.paw_process.specs.declared.after_condact.AfterCondact.TheVariants as after_condact
 use Rattle.paw_process.proofs.step.StoryReader.read_at_cursor.Goals as goal
 
-pub read-requires-clause-place : goal.read-requires-clause-place
-read-requires-clause-place g c =
+pub read-requires-clause-at : goal.read-requires-clause-at
+read-requires-clause-at g c =
     let old = c.args.cursor.now in
     rw c.frame_at-f.ensures.value
     (record {

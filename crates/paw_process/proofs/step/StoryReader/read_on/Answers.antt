@@ -19,11 +19,11 @@ pub entries-init : goal.entries-init
 entries-init g c = record {
   table = table_starts g.F.Fn c.args.self.now.routines.now (g.T.Tables.game c.args.self.now.tables.now) c.args.f.now
       (having c.args.surroundings.now c.args.machine.now) c.requires.may;
-  place = c.requires.place;
+  entry = c.requires.entry;
 }
 
 pub enter-requires : goal.enter-requires
-enter-requires g c = record { place = c.entries.invariant.place }
+enter-requires g c = record { entry = c.entries.invariant.entry }
 
 pub leave_level-turned-requires : goal.leave_level-turned-requires
 leave_level-turned-requires g c = record { ready = c.entries.invariant.table.may.ready }
@@ -148,7 +148,7 @@ entries-preserved g c =
       table = reading_goes_on g.F.Fn routines game c.args.f.now first c.entries.f mid going_at next new c.entries.invariant.table
           (table_goes_on g.F.Fn routines game c.entries.f mid (frame_of loop.cursor loop.acted) now next new loop.invariant.inside
           c.in-NextEntry.ensures.meaning c.in-NextEntry.ensures.after (c.in-NextEntry.ensures.progress refl));
-      place = λ h. omega arith;
+      entry = λ h. omega arith;
     })
 
 pub take_top-requires-in-Moved : goal.take_top-requires-in-Moved

@@ -10,7 +10,7 @@ abbrev pub invariant-entries : goal.invariant-entries
 invariant-entries g l = record {
   table : IsInTable g.F.Fn l.self.routines.now (g.T.Tables.game l.self.tables.now) l.initial.f
       (having l.initial.surroundings l.initial.machine) going_at l.f (having l.surroundings l.machine);
-  place : 0 < l.f.at → l.f.entry < ENTRY_LIMIT;
+  entry : 0 < l.f.at → l.f.entry < ENTRY_LIMIT;
 }
 
 abbrev pub decreases-entries : goal.decreases-entries

@@ -9,10 +9,10 @@ returns-clause-value g c =
     ap (λ (m : OpenTables). record {
       game = g.T.Tables.game c.self.inside.rules.tables.now;
       routines = c.self.inside.rules.routines.now;
-      world = c.self.inside.turn.surroundings.world;
-      pending = c.self.inside.turn.surroundings.pending;
+      world = c.self.inside.state.surroundings.world;
+      pending = c.self.inside.state.surroundings.pending;
       machine = m;
-      piece = c.self.inside.turn.surroundings.piece;
+      piece = c.self.inside.state.surroundings.piece;
       last = step_of c.self.inside.last;
     }) c.count_steps_only.ensures.value
     ∙ ap (λ (p : PlayerView g.row.F.Denot). only_counting_player p) c.self.view_is

@@ -20,7 +20,7 @@ returns g c =
     let pending : c.of-pending.result ≡ player.pending = c.of-pending.ensures.value ∙
     (ap (λ (b : List ℕ). Line b c.earlier.result) bytes ∙ ap (Line player.pending.bytes) earlier) in
     record {
-      fits = same_fits player player.game c.player.inside.turn.surroundings.world c.in_ok-machine.machine c.of-pending.result c.parts-prompt.result.prompt
+      fits = same_fits player player.game c.player.inside.state.surroundings.world c.in_ok-machine.machine c.of-pending.result c.parts-prompt.result.prompt
           c.requires.seated c.requires.standing
           refl (ap (λ (p : PlayerView g.row.F.Denot). p.world) c.player.view_is) machine pending c.parts-prompt.ensures.prompt;
     }
