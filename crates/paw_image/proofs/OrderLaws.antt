@@ -86,11 +86,6 @@ pub ranks_long : (bytes : Bytes) (n : ℕ) (ps : List ℕ) → length (ranks_at 
 ranks_long bytes n [] = refl
 ranks_long bytes n (p ∷ ps) = ap suc (ranks_long bytes (suc n) ps)
 
-pub start_at : (ranks : List ℕ) (starts : List ℕ) → AreStarts ranks starts → (verb start : ℕ) → verb ≤ 256
-    → start ≡ get_or starts verb start → IsStart ranks verb start
-start_at ranks starts a verb start le e =
-    subst (IsStart ranks verb) (get_or_default starts verb 0 start (omega (arith, a.long)) ∙ sym e) (a.each verb le)
-
 -- The ranks of a verb end where those of the next one begin.
 pub starts_rise : (ranks : List ℕ) (verb start end : ℕ) → IsStart ranks verb start → IsStart ranks (verb + 1) end → start ≤ end
 starts_rise ranks verb start end s e =
@@ -105,13 +100,12 @@ pub record RunsAt (ranks : List ℕ) (verb start end : ℕ) : Type 0 where
   pub ends : IsStart ranks (verb + 1) end
   pub rise : start ≤ end
 
-pub runs_at : (ranks starts : List ℕ) (verb start end : ℕ) → AreStarts ranks starts → verb < 256
-    → start ≡ get_or starts verb start → end ≡ get_or starts (verb + 1) end
-    → RunsAt ranks verb start end
-runs_at ranks starts verb start end are low s e =
-    let begins = start_at ranks starts are verb start (omega arith) s in
-    let ends = start_at ranks starts are (verb + 1) end (omega arith) e in
-    record { starts = begins; ends = ends; rise = starts_rise ranks verb start end begins ends }
+pub runs_at : (ranks starts : List ℕ) (verb : ℕ) → AreStarts ranks starts → verb < 256
+    → RunsAt ranks verb (get_or starts verb 0) (get_or starts (verb + 1) 0)
+runs_at ranks starts verb are low =
+    let begins = are.each verb (omega arith) in
+    let ends = are.each (verb + 1) (omega arith) in
+    record { starts = begins; ends = ends; rise = starts_rise ranks verb (get_or starts verb 0) (get_or starts (verb + 1) 0) begins ends }
 
 module _ (ranks : List ℕ) (up : IsNonDecreasing ranks) (verb start end : ℕ) (s : IsStart ranks verb start) (e : IsStart ranks (verb + 1) end) where
   run : List ℕ

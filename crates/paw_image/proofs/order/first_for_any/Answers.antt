@@ -11,6 +11,6 @@ returns c =
     (c.requires.sorted.next_any c.args.from) in
     record {
       least = rw c.lower.ensures.value
-          (least_of_any ranks c.run_of.result.now NO_WORD c.args.noun c.args.from c.run_of.ensures.run _ _ any
+          (least_of_any ranks c.run_of-run.result.now NO_WORD c.args.noun c.args.from (rw c.deref.ensures.value at c.run_of-run.ensures.run) _ _ any
           c.first_with-same.ensures.least);
     }

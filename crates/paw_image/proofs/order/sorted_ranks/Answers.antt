@@ -9,7 +9,7 @@ returns c =
     let ranks = c.sort.new.self.items in
     record {
       same = subst (λ (rs : List ℕ). IsPermutation rs ranks) c.in_ok-ranks.ensures.value c.sort.ensures.permutation;
-      rises = IsNonDecreasingBy-from_sort (λ r. r) ranks c.sort.ensures.sorted;
+      rises = IsNonDecreasingBy-from_sort (λ r. r) ranks c.in_ok-sort.ensures.sorted;
       few = omega (
         arith,
         c.sort.ensures.len,
