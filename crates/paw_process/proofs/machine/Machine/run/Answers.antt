@@ -29,8 +29,8 @@ read_on-requires-clause-may g c = record {
   draws = omega (arith, c.loop-turned.invariant.running.after.draws, c.requires.draws);
 }
 
-pub read_on-requires-clause-place : goal.read_on-requires-clause-place
-read_on-requires-clause-place g c = c.loop-turned.invariant.running.reading.tables.top
+pub read_on-requires-clause-entry : goal.read_on-requires-clause-entry
+read_on-requires-clause-entry g c = c.loop-turned.invariant.running.reading.tables.top
 
 pub loop-turned-smaller : goal.loop-turned-smaller
 loop-turned-smaller g c =
