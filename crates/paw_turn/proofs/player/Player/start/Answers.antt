@@ -22,7 +22,7 @@ returns-clause-meaning g c X answers =
     (seat_of own routines h (step_of s)) [] [] in
     rw c.step_of.ensures.value (subst (Told c.args.self.now) (sym c.settle.ensures.value)
     (subst (λ (q : PlayerView g.row.F.Denot). IsNew q q.world.seed → Told q (state_settled (step_of s) c.play-stop.new.state)) c.self.view_is
-    (start_plays (story_of own X) routines c.self.inside.turn c.play-stop.new.state s (step_of c.self.inside.last) (c.play-stop.ensures.meaning X own_rows))
+    (start_plays (story_of own X) routines c.self.inside.state c.play-stop.new.state s (step_of c.self.inside.last) (c.play-stop.ensures.meaning X own_rows))
     c.requires.new))
 
 pub returns-clause-seated : goal.returns-clause-seated
@@ -42,7 +42,7 @@ play-stop-requires g c =
     record {
       may = record {
         answers = subst (λ (q : PlayerView g.row.F.Denot). HaveAnswers g.F.Fn q.routines) (sym c.self.view_is) c.requires.answers;
-        read = new_read own routines c.self.inside.turn (step_of c.self.inside.last) fresh;
-        ready = new_ready own routines c.self.inside.turn (step_of c.self.inside.last) valid fresh;
+        read = new_read own routines c.self.inside.state (step_of c.self.inside.last) fresh;
+        ready = new_ready own routines c.self.inside.state (step_of c.self.inside.last) valid fresh;
       };
     }
