@@ -28,7 +28,7 @@ use Rattle.paw_reading.proofs.Counts.{pieces_of_lines}
 use Rattle.paw_reading.proofs.Rightly.{readings_stop_rightly, readings_are_bounded}
 use Rattle.paw_state.specs.State.{last_piece, state_at}
 use Rattle.paw_state.specs.State.{HoldsBytes}
-use Rattle.paw_state.proofs.Ruled.{keeps_of}
+use Rattle.paw_state.proofs.Ruled.{valid_of}
 use Rattle.paw_play.specs.Stands.{IsPlayedWith}
 use Rattle.paw_process.proofs.Fitting.{places_fit, eleven_frames}
 use Rattle.paw_play.proofs.Going.{Settles, IsSettled}
@@ -85,7 +85,7 @@ module _ (g : GameLists) (v : Valid g) (seed : Seed) (n : ℕ) (fits : seed < 2 
   settles : (p : Prompt) (path : List Frame) (r : Run) → StandsRightly g p path r → IsBounded seed 0 r → length r.pieces + length r.events ≡ suc n →
       Settles g n p path r
   settles p path r k bound count = record {
-    valid = keeps_of g (state_at n p path r) (record {
+    valid = valid_of g (state_at n p path r) (record {
       world = k.world.of;
       sound = world_sound g v r.world k.world;
       places = (k.world.places, (saved_stands g r.world.saved k.world.saved, λ i d low. saved_stands g _ (k.world.kept i d low)));
