@@ -119,8 +119,7 @@ fn matches(entry: &Entry, verb: u8, noun: u8) -> bool
 pub fn is_for(word: u8, flag: u8) -> bool
     ensures value { result ≡ is_for word flag }
 {
-    // NO_WORD is asked for first, because most entries that are read have it.
-    word == NO_WORD || word == ANY_WORD || word == flag
+    word == ANY_WORD || word == NO_WORD || word == flag
 }
 
 pub(crate) fn word_at(parts: &GameParts, letters: &[u8; WORD_LENGTH]) -> Option<(u8, u8)>

@@ -5,7 +5,7 @@ ghost use Rattle.paw_base.specs.declared.limits.TheConstants.{ENTRY_LIMIT};
 ghost use Rattle.std.specs.Option.{option_copied, option_map, unwrap_or};
 ghost use Rattle.paw_game.specs.Game.{GameLists};
 ghost use Rattle.paw_game.specs.Image.{entry_image};
-ghost use Rattle.paw_game.specs.Tables.{entry_at, head_at};
+ghost use Rattle.paw_game.specs.Tables.{entry_at, head_at, is_for};
 ghost use Rattle.paw_game.specs.inner.Tables.{match_at};
 ghost use Rattle.paw_image.specs.Damage.{bad};
 ghost use Rattle.paw_image.specs.Images.{IsImage};
@@ -24,6 +24,7 @@ use crate::refusal::ImageRefusal;
 use crate::word_index::WordIndex;
 use paw_base::limits::{IMAGE_LIMIT, WORD_LENGTH};
 use paw_base::parts::{Condact, Counts, ObjectFacts};
+use paw_base::words::NO_WORD;
 use paw_game::cursor::CondactCursor;
 use paw_game::lookup::is_for;
 use paw_game::parts::GamePart;
@@ -65,6 +66,14 @@ fn index_of(tables: &[TableIndex], table: u8) -> Option<&TableIndex>
     ensures value { option_copied result ≡ slice_get tables.now table }
 {
     tables.get(table as usize)
+}
+
+// Whether an entry's word matches this one. Whether it is no word is asked first, because most entries that are read
+// match any word in this way.
+fn matches(word: u8, flag: u8) -> bool
+    ensures value { result ≡ is_for word flag }
+{
+    word == NO_WORD || is_for(word, flag)
 }
 
 // Where an entry begins.
@@ -266,7 +275,7 @@ impl<'a> Tables for View<'a> {
     fn match_cursor(&self, table: u8, from: u16, verb: u8, noun: u8) -> Option<CondactCursor> {
         // Most often the entry at hand matches, and no search is needed; where it isn't there, none comes after it.
         let ((own_verb, own_noun), own) = self.start_of(table, from)?;
-        if is_for(own_verb, verb) && is_for(own_noun, noun) {
+        if matches(own_verb, verb) && matches(own_noun, noun) {
             return Some(own);
         }
         let entry = self.search(table, from, verb, noun)?;

@@ -11,11 +11,11 @@ returns-in_err-own_verb-clause-value c =
     rw c.from_residual.ensures
     (sym (no_match_behind g c.args.table c.args.from c.args.verb c.args.noun (sym c.in_err-own_verb.ensures.head)))
 
-pub returns-then-is_for-2-clause-value : goal.returns-then-is_for-2-clause-value
-returns-then-is_for-2-clause-value c =
+pub returns-then-matches-2-clause-value : goal.returns-then-matches-2-clause-value
+returns-then-matches-2-clause-value c =
     let g = game_read c.args.self.now in
     let own = c.in_ok-own_verb in
-    let both = and_true _ _ (sym c.is_for.ensures.value ∙ c.if-is_for.true) (sym c.is_for-then-is_for.ensures.value ∙ c.if-is_for-2.true) in
+    let both = and_true _ _ (sym c.matches.ensures.value ∙ c.if-matches.true) (sym c.matches-then-matches.ensures.value ∙ c.if-matches-2.true) in
     rw own.ensures.entry
     (sym (match_here g c.args.table c.args.from c.args.verb c.args.noun own.own_verb own.own_noun (sym own.ensures.head) both))
 
