@@ -126,7 +126,12 @@ fn next_any_of(alloc: Global, ranks: &[u32]) -> Result<Vec<u16>, AllocError>
     ensures next { IfOk result (λ v. IsNextAny ranks.now v.items) }
 {
     let least = rank_of(NO_WORD, NO_WORD, 0);
-    let mut next = Vec::with_capacity(alloc, ranks.len())?;
+    // Of the entries that match any noun too, the last rank has the greatest, so the list needs no more room than this.
+    let room = match ranks.last() {
+        Some(last) => (*last % 65536) as usize + 1,
+        None => 0,
+    };
+    let mut next = Vec::with_capacity(alloc, room)?;
     for rank in ranks {
         if *rank >= least {
             let entry = (*rank % 65536) as u16;
