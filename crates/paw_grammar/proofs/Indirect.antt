@@ -30,7 +30,7 @@ named_plain name code h =
 
 -- A condact that is read part by part.
 pub condact_made : (bounds : Bounds) (ws : List Word) (name : Name) (ts : Tokens) (plain : ℕ) (indirect : Bool)
-    (a b : ℕ × List (List ℕ)) → code_named name ≡ Some plain → is_indirect_before plain ts ≡ indirect
+    (a b : ℕ × Tokens) → code_named name ≡ Some plain → is_indirect_before plain ts ≡ indirect
     → first_parameter bounds ws indirect (first_kind plain) ts ≡ Ok a → parameter bounds ws (second_kind plain) a.1 ≡ Ok b
     → condact bounds ws name ts ≡ Ok (record { code = code_of indirect plain; a = a.0; b = b.0 }, b.1)
 unfolding condact

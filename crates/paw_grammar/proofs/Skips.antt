@@ -47,7 +47,7 @@ takes_table : (tables : ℕ) (ts rest : Tokens) (x : ℕ) → table tables ts �
 takes_table tables ts rest x e =
     let b = bound (number_below tables ts) (λ n. Ok (min n.0 255, n.1)) (x, rest) e in
     let same = (pair_parts (min b.value.0 255) x b.value.1 rest b.goes_on).1 in
-    takes_number (λ n. nat_lt n tables) fault.Number number ts rest b.value.0 (b.is ∙ ap (λ (us : List (List ℕ)). Ok (b.value.0, us)) same)
+    takes_number (λ n. nat_lt n tables) fault.Number number ts rest b.value.0 (b.is ∙ ap (λ (us : Tokens). Ok (b.value.0, us)) same)
 
 takes : (bounds : Bounds) (ws : List Word) (k : ParamKind) (ts rest : Tokens) (x : ℕ)
     → parameter bounds ws k ts ≡ Ok (x, rest) → Takes (param_count k) ts rest
@@ -83,18 +83,18 @@ pub record Left (bounds : Bounds) (ws : List Word) (n : ℕ) (ts rest : Tokens) 
   pub same : condacts_in bounds ws n ts ≡ condacts_in bounds ws 0 rest
   pub shorter : length rest ≤ length ts
 
-skips_two : (bounds : Bounds) (ws : List Word) (m n : ℕ) (ts us rest : List (List ℕ)) → Takes m ts us → Takes n us rest → Left bounds ws (m + n) ts rest
+skips_two : (bounds : Bounds) (ws : List Word) (m n : ℕ) (ts us rest : Tokens) → Takes m ts us → Takes n us rest → Left bounds ws (m + n) ts rest
 unfolding condacts_in
 skips_two bounds ws m n ts us rest (none a b) (none c d) = record { same = rw (a, c, b, d) refl; shorter = rw (b, d) (omega arith) }
 skips_two bounds ws m n ts us rest (none a b) (one u c d) = record { same = rw (a, c, b, d) refl; shorter = rw (b, d) (omega arith) }
 skips_two bounds ws m n ts us rest (one t a b) (none c d) = record { same = rw (a, c, b, d) refl; shorter = rw (b, d) (omega arith) }
 skips_two bounds ws m n ts us rest (one t a b) (one u c d) = record { same = rw (a, c, b, d) refl; shorter = rw (b, d) (omega arith) }
 
-abbrev with_second : Bounds → List Word → Bool → ℕ → ℕ × List (List ℕ) → Reads Condact
+abbrev with_second : Bounds → List Word → Bool → ℕ → ℕ × Tokens → Reads Condact
 with_second bounds ws indirect code a =
     parameter bounds ws (second_kind code) a.1 >>= λ b. Ok (record { code = code_of indirect code; a = a.0; b = b.0 }, b.1)
 
-abbrev with_first : Bounds → List Word → List (List ℕ) → ℕ → Reads Condact
+abbrev with_first : Bounds → List Word → Tokens → ℕ → Reads Condact
 with_first bounds ws ts code =
     first_parameter bounds ws (is_indirect_before code ts) (first_kind code) ts >>= with_second bounds ws (is_indirect_before code ts) code
 
@@ -120,7 +120,7 @@ skips bounds ws name ts rest c e =
     let two = skips_two bounds ws (param_count (first_kind code)) (param_count (second_kind code))
     ts a.value.1 b.value.1 first second in
     subst (λ (d : Condact). Left bounds ws (params_of d.code) ts rest) parts.0
-    (subst (λ (us : List (List ℕ)). Left bounds ws (params_of code) ts us) parts.1 two)
+    (subst (λ (us : Tokens). Left bounds ws (params_of code) ts us) parts.1 two)
 
 -- ---- the loop over the condacts
 
@@ -148,7 +148,7 @@ pub fails_here : (bounds : Bounds) (ws : List Word) (cs : List Condact) (name : 
     → with_more_condacts cs (condacts_in bounds ws 0 old) ≡ whole → Fails e (condact bounds ws name ts) → Fails e whole
 fails_here bounds ws cs name ts old whole unread.Memory next invariant fails = tt
 fails_here bounds ws cs name ts old whole (unread.Fault k) next invariant fails =
-    sym invariant ∙ ap (λ (x : List (List ℕ)). with_more_condacts cs (condacts_in bounds ws 0 x)) next ∙ one_fault bounds ws cs name ts k fails
+    sym invariant ∙ ap (λ (x : Tokens). with_more_condacts cs (condacts_in bounds ws 0 x)) next ∙ one_fault bounds ws cs name ts k fails
 
 pub goes_on : (bounds : Bounds) (ws : List Word) (cs more : List Condact) (name : Name)
     (ts old rest : Tokens) (c : Condact) (whole : Result (List Condact) SourceKind) → old ≡ name ∷ ts
@@ -157,11 +157,11 @@ pub goes_on : (bounds : Bounds) (ws : List Word) (cs more : List Condact) (name 
 goes_on bounds ws cs more name ts old rest c whole next invariant is pushed =
     ap (λ (x : List Condact). with_more_condacts x (condacts_in bounds ws 0 rest)) pushed
     ∙ sym (one_more bounds ws cs name ts rest c is)
-    ∙ ap (λ (x : List (List ℕ)). with_more_condacts cs (condacts_in bounds ws 0 x)) (sym next) ∙ invariant
+    ∙ ap (λ (x : Tokens). with_more_condacts cs (condacts_in bounds ws 0 x)) (sym next) ∙ invariant
 
-pub at_end : (bounds : Bounds) (ws : List Word) (cs : List Condact) (old : List (List ℕ))
+pub at_end : (bounds : Bounds) (ws : List Word) (cs : List Condact) (old : Tokens)
     (whole : Result (List Condact) SourceKind) → old ≡ [] → with_more_condacts cs (condacts_in bounds ws 0 old) ≡ whole
     → whole ≡ Ok cs
 unfolding condacts_in
 at_end bounds ws cs old whole empty invariant =
-    sym invariant ∙ ap (λ (x : List (List ℕ)). with_more_condacts cs (condacts_in bounds ws 0 x)) empty ∙ ap Ok (append-nil cs)
+    sym invariant ∙ ap (λ (x : Tokens). with_more_condacts cs (condacts_in bounds ws 0 x)) empty ∙ ap Ok (append-nil cs)

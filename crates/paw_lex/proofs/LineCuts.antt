@@ -8,14 +8,14 @@ use Rattle.std.proofs.lemmas.List.{take-take, take_all, drop_all, get_or-take, l
 use Rattle.std.proofs.lemmas.Slice.{between_is}
 use Rattle.std.proofs.lemmas.List.Sums.{fails_before_first, passes_at_first, prefix_len-le-length}
 use Rattle.std.proofs.lemmas.List.Splits.{slice_split_none, slice_split_first, length-slice_split}
-use Rattle.paw_base.specs.Bytes.{Bytes, Line}
+use Rattle.paw_base.specs.Bytes.{Bytes, Line, Lines}
 use Rattle.paw_lex.specs.Lines.{lines_of}
 use Rattle.paw_lex.specs.inner.Lines.{IsLineEnd}
 use Rattle.paw_lex.proofs.Slices.{take-slice_range, drop-slice_range, slice_range-slice_range, before_first-drop}
 use Rattle.paw_lex.proofs.Slices.{slice_range-one, slice_range-two}
 
 -- A part with parts after it is a line that ended.
-pub lines_of_parts-cons : (part : List ℕ) (parts : List (List ℕ)) → 0 < length parts
+pub lines_of_parts-cons : (part : Line) (parts : Lines) → 0 < length parts
     → lines_of_parts (part ∷ parts) ≡ strip_carriage_return part ∷ lines_of_parts parts
 lines_of_parts-cons part [] h = absurd (omega arith)
 lines_of_parts-cons part (next ∷ more) h = refl
@@ -74,7 +74,7 @@ next_line s end at line whole e h l cut =
     lines_of-drop s end at e (omega arith)
     ∙ cut
     ∙ ap (λ (bytes : Bytes). bytes ∷ lines (drop whole (slice_range s at end))) (take-slice_range s at end line (omega arith))
-    ∙ ap (λ (rest : List (List ℕ)). slice_range s at (at + line) ∷ rest) behind
+    ∙ ap (λ (rest : Lines). slice_range s at (at + line) ∷ rest) behind
 
 pub next_line_end : (s : List ℕ) (end at line whole : ℕ) → end ≡ position_or_len (λ b. eqb b 26) s → at + whole ≤ end → line ≤ whole
     → IsLineEnd (slice_range (slice_range s at end) line whole) ⊎ ((line ≡ whole) × (whole ≡ length (slice_range s at end)))

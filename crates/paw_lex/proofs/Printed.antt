@@ -8,7 +8,7 @@ use Rattle.std.proofs.lemmas.Bool.{leb-true, ltb-true, ne_eqb, and_parts, cases_
 use Rattle.std.proofs.lemmas.List.{append-nil, append_assoc, take_at, drop_at, get_or_past}
 use Rattle.std.proofs.lemmas.List.Splits.{slice_split_at, length-slice_split}
 use Rattle.std.proofs.lemmas.List.Sums.{AllPass-from_list_all}
-use Rattle.paw_base.specs.Bytes.{Bytes, Line, Tokens}
+use Rattle.paw_base.specs.Bytes.{Bytes, Line, Tokens, Lines}
 use Rattle.paw_lex.specs.Bytes.{is_printed_byte}
 use Rattle.paw_lex.specs.Lines.{lines_of}
 use Rattle.paw_lex.specs.Tokens.{tokens_of}
@@ -55,17 +55,17 @@ lines_of-line line rest e =
     ∙ ap (λ (bytes : Bytes). bytes ∷ lines text) (no_return line e)
 
 -- Each line with its LF.
-abbrev pub printed_lines : List (List ℕ) → List ℕ
+abbrev pub printed_lines : Lines → Bytes
 printed_lines = flat_map (λ line. line ++ 10 ∷ [])
 
-pub lines_of-printed_lines : (ls : List (List ℕ)) → list_all (list_all is_printed_byte) ls ≡ true → lines_of (printed_lines ls) ≡ ls
+pub lines_of-printed_lines : (ls : Lines) → list_all (list_all is_printed_byte) ls ≡ true → lines_of (printed_lines ls) ≡ ls
 unfolding lines_of
 lines_of-printed_lines [] e = refl
 lines_of-printed_lines (line ∷ ls) e =
     let both = and_parts _ _ e in
     ap lines_of (append_assoc line (10 ∷ []) (printed_lines ls))
     ∙ lines_of-line line (printed_lines ls) both.0
-    ∙ ap (λ (rest : List (List ℕ)). line ∷ rest) (lines_of-printed_lines ls both.1)
+    ∙ ap (λ (rest : Lines). line ∷ rest) (lines_of-printed_lines ls both.1)
 
 -- A token has a byte, and none that ends it.
 abbrev pub is_token : List ℕ → Bool
@@ -96,4 +96,4 @@ tokens_of-join (t ∷ []) e =
 tokens_of-join (t ∷ u ∷ ts) e =
     let both = and_parts _ _ e in
     tokens_of-token t (32 ∷ join_with_byte 32 (u ∷ ts)) both.0 refl
-    ∙ ap (λ (rest : List (List ℕ)). t ∷ rest) (tokens_of-blank 32 (join_with_byte 32 (u ∷ ts)) refl ∙ tokens_of-join (u ∷ ts) both.1)
+    ∙ ap (λ (rest : Tokens). t ∷ rest) (tokens_of-blank 32 (join_with_byte 32 (u ∷ ts)) refl ∙ tokens_of-join (u ∷ ts) both.1)

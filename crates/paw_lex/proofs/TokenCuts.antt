@@ -11,10 +11,10 @@ use Rattle.paw_lex.specs.Tokens.{is_blank, tokens_of}
 use Rattle.paw_lex.specs.inner.Tokens.{ends_token}
 use Rattle.paw_lex.proofs.Slices.{before_first-cons, drop-slice_range, slice_range-slice_range, take-slice_range}
 
-abbrev pieces : List ℕ → List (List ℕ)
+abbrev pieces : Bytes → Tokens
 pieces s = slice_split is_blank (before_first (λ b. eqb b 59) s)
 
-abbrev full : List (List ℕ) → List (List ℕ)
+abbrev full : Tokens → Tokens
 full = filter (λ piece. ltb 0 (length piece))
 
 pieces-semicolon : (b : ℕ) (bs : Bytes) → eqb b 59 ≡ true → pieces (b ∷ bs) ≡ [] ∷ []
@@ -81,7 +81,7 @@ no_token (b ∷ bs) h g =
 
 -- The first piece has n bytes, and the pieces after it stand from there on.
 record Begins (s : List ℕ) (n : ℕ) : Type 0 where
-  behind : List (List ℕ)
+  behind : Tokens
   first : pieces s ≡ take n s ∷ behind
   rest : full behind ≡ tokens_of (drop n s)
 

@@ -31,19 +31,19 @@ along g e [] d = draft_outcome e d []
 along g e (m ∷ ms) d = after_part (with_part (phrase_part_of g m.token) d) (draft_outcome e d m.after) (along g e ms)
 
 -- A token is a word of the game.
-abbrev has_known : GameLists → List (List ℕ) → Bool
+abbrev has_known : GameLists → List Letters → Bool
 has_known g tokens = list_any (λ token. is_some (word_at g token)) tokens
 
 -- What a part says of the tokens that begin with it.
-abbrev Means : GameLists → Option (List ℕ) → Part → Type 0
+abbrev Means : GameLists → Option Letters → Part → Type 0
 Means g t part.Break = is_parting g t ≡ true
 Means g t part.Unknown =
-    (is_parting g t ≡ false) × ((ts : List (List ℕ)) (s : Sentence) → with_tokens g (option_to_list t ++ ts) s ≡ with_tokens g ts s)
-    × ((ts : List (List ℕ)) → has_known g (option_to_list t ++ ts) ≡ has_known g ts)
+    (is_parting g t ≡ false) × ((ts : List Letters) (s : Sentence) → with_tokens g (option_to_list t ++ ts) s ≡ with_tokens g ts s)
+    × ((ts : List Letters) → has_known g (option_to_list t ++ ts) ≡ has_known g ts)
 Means g t (part.Word value class) =
     (is_parting g t ≡ false)
-    × ((ts : List (List ℕ)) (s : Sentence) → with_tokens g (option_to_list t ++ ts) s ≡ with_tokens g ts (with_word value class s))
-    × ((ts : List (List ℕ)) → has_known g (option_to_list t ++ ts) ≡ true)
+    × ((ts : List Letters) (s : Sentence) → with_tokens g (option_to_list t ++ ts) s ≡ with_tokens g ts (with_word value class s))
+    × ((ts : List Letters) → has_known g (option_to_list t ++ ts) ≡ true)
 
 known_means : (g : GameLists) (letters : Letters) (word : ℕ × ℕ) → word_at g letters ≡ Some word → (b : Bool) → eqb word.1 CONJUNCTION_CLASS ≡ b
     → Means g (Some letters) (cond b part.Break (part.Word word.0 word.1))
@@ -62,7 +62,7 @@ abbrev draft : Found → Sentence → PhraseDraft
 draft f s = record { found = f; words = s }
 
 -- What the tokens of a phrase are, where s is filled before them.
-abbrev parsed_tokens : GameLists → ℕ → Sentence → List (List ℕ) → List ℕ → Parsed
+abbrev parsed_tokens : GameLists → ℕ → Sentence → List Letters → Bytes → Parsed
 parsed_tokens g e s ts rest = cond (has_known g ts) (IsSentence (sentence_finished e (with_tokens g ts s)) rest) (IsUnknown rest)
 
 -- A part after a known word.
@@ -85,7 +85,7 @@ unfolding along
 with_known_word g e [] s = refl
 with_known_word g e (m ∷ ms) s = part_of_sentence g e m ms (with_known_word g e ms) s (phrase_part_of g m.token) (means g m.token)
 
-parsed_tokens_are : (g : GameLists) (e : ℕ) (s x : Sentence) (ts : List (List ℕ)) (rest : List ℕ) (b : Bool) → has_known g ts ≡ b
+parsed_tokens_are : (g : GameLists) (e : ℕ) (s x : Sentence) (ts : List Letters) (rest : Bytes) (b : Bool) → has_known g ts ≡ b
     → with_tokens g ts s ≡ x → parsed_tokens g e s ts rest ≡ cond b (IsSentence (sentence_finished e x) rest) (IsUnknown rest)
 parsed_tokens_are g e s x ts rest b known words =
     ap (λ c. cond c (IsSentence (sentence_finished e (with_tokens g ts s)) rest) (IsUnknown rest)) known

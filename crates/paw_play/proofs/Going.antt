@@ -2,7 +2,7 @@
 use Rattle.std.proofs.Common.{◌≡◌, ℕ, zero, suc, ◌+◌, ◌<◌, ◌≤◌, List, [], ◌∷◌, ◌++◌, refl, sym, ap, ◌∙◌, length, drop}
 use Rattle.std.proofs.Common.{append-nil, arith}
 use Rattle.std.specs.List.{concat}
-use Rattle.paw_base.specs.Bytes.{Bytes, Lines, Text, Seed}
+use Rattle.paw_base.specs.Bytes.{Bytes, Lines, Text, Seed, Texts}
 use Rattle.paw_game.specs.Game.{GameLists}
 use Rattle.paw_game.specs.Valid.{Valid}
 use Rattle.paw_effects.specs.Story.{Story}
@@ -44,7 +44,7 @@ IsSettled g n _ = Unit {0}
 
 -- ---- a reading from one of its pieces on ----
 
-from_last : (n : ℕ) (ps qs : List (List ℕ)) → length ps ≡ suc n → drop n (ps ++ qs) ≡ last_piece ps ∷ qs
+from_last : (n : ℕ) (ps qs : Texts) → length ps ≡ suc n → drop n (ps ++ qs) ≡ last_piece ps ∷ qs
 from_last n [] qs all = absurd (omega arith)
 from_last zero (p ∷ []) qs all = refl
 from_last (suc n) (p ∷ []) qs all = absurd (omega arith)
@@ -57,13 +57,13 @@ behind zero (t ∷ ts) us all = absurd (omega arith)
 behind (suc n) [] us all = absurd (omega arith)
 behind (suc n) (t ∷ ts) us all = behind n ts us (omega arith)
 
-last_dropped : (n : ℕ) (ps : List (List ℕ)) → n < length ps → last_piece (drop n ps) ≡ last_piece ps
+last_dropped : (n : ℕ) (ps : Texts) → n < length ps → last_piece (drop n ps) ≡ last_piece ps
 last_dropped n [] low = absurd (omega arith)
 last_dropped zero (p ∷ ps) low = refl
 last_dropped (suc n) (p ∷ []) low = absurd (omega arith)
 last_dropped (suc n) (p ∷ q ∷ ps) low = last_dropped n (q ∷ ps) (omega arith)
 
-module _ (n : ℕ) (ps : List (List ℕ)) (ts : List (List Step)) (all : length ps ≡ suc n) (each : length ts ≡ suc n) where
+module _ (n : ℕ) (ps : Texts) (ts : List (List Step)) (all : length ps ≡ suc n) (each : length ts ≡ suc n) where
   run_since : (r : Run) → since_piece n (with_past ps ts r) ≡ with_past (last_piece ps ∷ []) [] r
   run_since r =
       ap (λ q. record r { pieces = q; traces = drop (suc n) (ts ++ r.traces) }) (from_last n ps r.pieces all)
@@ -104,7 +104,7 @@ whole_kept digests n m lines _ r counted few k = absurd k.played
 -- ---- going on from a state of a reading ----
 
 -- The run with these lines to come, and this piece closed.
-abbrev taken_up : Run → List ℕ → List (List ℕ) → Run
+abbrev taken_up : Run → Text → Lines → Run
 taken_up r piece fs = record r { current = []; read = []; pieces = piece ∷ []; traces = []; events = fs }
 
 goes_from : (g : Story) (n : ℕ) (p : Prompt) (path : List Frame) (r : Run) (piece : Text) (fs : Lines) →
@@ -115,7 +115,7 @@ taken_past : (r : Run) (piece : Text) (fs : Lines) → r.current ≡ [] → r.re
     taken_up r piece fs ≡ with_past (piece ∷ []) [] (with_lines fs (without_past r))
 taken_past r piece fs current read events = rw (current, read, events) refl
 
-all_pieces : (n : ℕ) (ps : List (List ℕ)) (es : Lines) → length ps + length es ≡ suc n → es ≡ [] → length ps ≡ suc n
+all_pieces : (n : ℕ) (ps : Texts) (es : Lines) → length ps + length es ≡ suc n → es ≡ [] → length ps ≡ suc n
 all_pieces n ps es count none = let c : length ps + length es ≡ suc n = count in omega (arith, rw none at c)
 
 -- What was read in the closed pieces.
@@ -184,6 +184,6 @@ module _ (g : Story) (seed : Seed) (es fs : Lines) where
       let e : Ending = reading g seed es in
       let goes = ended_goes e refl settled (pieces_of_lines g seed es) stands.digests digests
       (recover bytes) stands.keeps st piece v shows.valid shows.fits shows.shown in
-      let ps : List (List ℕ) = pieces_of e in
+      let ps : Texts = pieces_of e in
       let ts : List (List Step) = traces_of e in
       (goes.0, goes.1.4 ∙ sym (ap (ending_since (length es)) goes.1.3 ∙ since_past (length es) ps ts goes.1.0 goes.1.1 goes.1.2))

@@ -1,7 +1,7 @@
 -- What a session keeps of a player.
 use Rattle.std.proofs.Common.{◌≡◌, ℕ, ◌+◌, List, [], ◌∷◌, ◌++◌, refl, sym, ap, ◌∙◌, length}
 use Rattle.std.specs.Prelude.{reverse}
-use Rattle.paw_base.specs.Bytes.{Text, Texts}
+use Rattle.paw_base.specs.Bytes.{Text, Texts, Lines}
 use Rattle.paw_effects.specs.declared.act.Prompt.{Prompt}
 use Rattle.paw_effects.specs.declared.act.Prompt.TheVariants as prompt
 use Rattle.paw_reading.specs.Run.{Step as Read}
@@ -26,7 +26,7 @@ use Rattle.paw_play.proofs.Walking.{on_waits}
 use Rattle.paw_effects.specs.Story.{Story}
 
 -- The session keeps the reading of the first n of these lines.
-abbrev pub KeepsLines : PlayedSession → List (List ℕ) → ℕ → Recovered → Type 0
+abbrev pub KeepsLines : PlayedSession → Lines → ℕ → Recovered → Type 0
 KeepsLines s lines n r = IsKept s.digests (s.before + n) (s.whole (first_lines n lines)) r
 
 pub last_more : (pieces : Texts) (piece : Text) → last_piece (pieces ++ piece ∷ []) ≡ piece

@@ -98,7 +98,7 @@ at_prompt g s first now seat n w seated = record {
 }
 
 -- Inside an ask that takes a line.
-line_asked : {F : Type 0} (g : Story) (s : PlayedSession) (first now : Standing) (seat : PlayerView F) (n : ℕ) (left : List (List ℕ)) →
+line_asked : {F : Type 0} (g : Story) (s : PlayedSession) (first now : Standing) (seat : PlayerView F) (n : ℕ) (left : Lines) →
     IsPlaying g s first now seat n → IsSeated seat → suc n ≤ length first.lines → s.before + suc n ≤ EVENT_LIMIT →
     InPlay s first (record now { lines = left; asked = now.asked + 1 })
 line_asked g s first now seat n left w seated there few = record {

@@ -43,7 +43,7 @@ use Rattle.paw_effects.specs.Story.{Story}
 use Rattle.paw_routines.specs.declared.routines.Routines.{Routines}
 
 -- The run of a state whose last piece was this.
-abbrev pub run_from : World → OpenTables → PendingLine → List ℕ → List (List ℕ) → Run
+abbrev pub run_from : World → OpenTables → PendingLine → Text → Lines → Run
 run_from w m p piece lines = run_with w m p (piece ∷ []) [] lines
 
 pub goes_on_from : (g : Story) (w : World) (m : OpenTables) (p : PendingLine) (at : Prompt) (events n : ℕ) (piece : Text) (lines : Lines) →

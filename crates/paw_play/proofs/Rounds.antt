@@ -153,7 +153,7 @@ module _ (g : Story) (seed : Seed) (r : Round) (begins : BeginsOver [] r) (made 
 -- ---- a later round ----
 
 -- n lines are kept of a round, and the bytes that it left stand for those before and these.
-abbrev StandsBehind : Story → ℕ → List (List ℕ) → Standing → RoundStop → List ℕ → Type 0
+abbrev StandsBehind : Story → ℕ → Lines → Standing → RoundStop → Bytes → Type 0
 StandsBehind g seed es old stop left = (n : ℕ) × AreKept old stop n × Stands g seed (es ++ first_lines n old.lines) left
 
 module _ (g : Story) (seed : Seed) (es : Lines) (bytes : Bytes) (r : Round) (begins : BeginsOver bytes r) (stands : Stands g seed es bytes) where
@@ -205,12 +205,12 @@ first_are_lines n lines are = All-map IsLine (take LINE_LIMIT) (take n lines)
 -- Rounds over bytes that stand.
 later_rounds : (g : Story) (seed : Seed) (es : Lines) (bytes : Bytes) (rounds : List Round) →
     IsPlayedWith g seed es → Stands g seed es bytes → AreRounds g seed bytes rounds →
-    (kept : List (List ℕ)) × AreKeptOf rounds kept × Stands g seed (es ++ kept) (left_after bytes rounds)
+    (kept : Lines) × AreKeptOf rounds kept × Stands g seed (es ++ kept) (left_after bytes rounds)
 later_rounds g seed es bytes [] played stands rounds = ([], refl, subst (λ fs. Stands g seed fs bytes) (sym (append-nil es)) stands)
 later_rounds g seed es bytes (r ∷ more) played stands rounds =
     let is = rounds.0 in
     let kept = later_stops g seed es bytes r is.0 stands r.stop (is.1 es played stands) in
-    let fs : List (List ℕ) = first_lines kept.0 r.old.lines in
+    let fs : Lines = first_lines kept.0 r.old.lines in
     let longer : IsPlayedWith g seed (es ++ fs) = record {
       valid = played.valid;
       fits = played.fits;
@@ -222,7 +222,7 @@ later_rounds g seed es bytes (r ∷ more) played stands rounds =
 pub rounds_stand : RoundsStand
 rounds_stand g seed first rounds valid fits is made more =
     let kept = first_stops g seed first is.0 made first.stop is.1 in
-    let fs : List (List ℕ) = first_lines kept.0 first.old.lines in
+    let fs : Lines = first_lines kept.0 first.old.lines in
     let stands : Stands g seed fs first.left = begun_stands g seed first.old.lines first.name kept.0 first.left kept.2 (omega (arith, kept.3)) kept.4 in
     let played : IsPlayedWith g seed fs = record { valid = valid; fits = fits; lines = first_are_lines kept.0 first.old.lines is.0.lines } in
     let rest = later_rounds g seed fs first.left rounds played stands more in

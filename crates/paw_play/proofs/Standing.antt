@@ -4,7 +4,7 @@ use Rattle.std.proofs.Common.{length, take, drop, arith}
 use Rattle.std.specs.Prelude.{◌-◌}
 use Rattle.std.proofs.Math.Path.{fun_ext}
 use Rattle.std.proofs.lemmas.List.{length-append, length-map, length-take-le}
-use Rattle.paw_base.specs.Bytes.{Bytes, Lines, Text, Name, Seed}
+use Rattle.paw_base.specs.Bytes.{Bytes, Lines, Text, Name, Seed, Texts}
 use Rattle.paw_base.specs.declared.limits.TheConstants.{EVENT_LIMIT, LINE_LIMIT}
 use Rattle.paw_game.specs.Game.{GameLists}
 use Rattle.paw_game.specs.Valid.{Valid}
@@ -67,7 +67,7 @@ standing_goes_on g seed es fs bytes digests st piece played stands shows =
 -- ---- going on from where a reading waits ----
 
 -- The pieces after those that were closed before.
-pieces_with_past : (ps : List (List ℕ)) (ts : List (List Step)) (last : List ℕ) (x : Ending) → ending_with_past (last ∷ []) [] x ≢ Unended →
+pieces_with_past : (ps : Texts) (ts : List (List Step)) (last : Text) (x : Ending) → ending_with_past (last ∷ []) [] x ≢ Unended →
     pieces_of (ending_with_past ps ts x) ≡ ps ++ drop 1 (pieces_of (ending_with_past (last ∷ []) [] x))
 pieces_with_past ps ts last (WaitsAt p path r) ends = refl
 pieces_with_past ps ts last (Halted halt r) ends = refl
@@ -116,7 +116,7 @@ begun_stands g seed lines name n bytes there few kept =
 pub later_stands : (g : Story) (seed : Seed) (es lines : Lines) (digests : Digests) (name : Name) (n : ℕ) (bytes : Bytes) → IsOfStory g digests →
     n ≤ length lines → length es + n ≤ EVENT_LIMIT → KeptBy (from_lines g seed es digests name) lines n bytes → Stands g seed (es ++ first_lines n lines) bytes
 later_stands g seed es lines digests name n bytes belongs there few kept =
-    let fs : List (List ℕ) = first_lines n lines in
+    let fs : Lines = first_lines n lines in
     let all : length (es ++ fs) ≡ length es + n = omega (arith, length-append es fs, count_lines n lines there) in
     record {
       few = omega (arith, all, few);

@@ -5,7 +5,7 @@ use Rattle.std.proofs.Common.{arith, append_assoc, length-append}
 use Rattle.std.proofs.lemmas.List.{append-nil, length-reverse, take-append-drop}
 use Rattle.std.specs.Prelude.{reverse}
 use Rattle.std.specs.List.{concat}
-use Rattle.paw_base.specs.Bytes.{Bytes, Line, Lines, Texts, Seed}
+use Rattle.paw_base.specs.Bytes.{Bytes, Line, Lines, Texts, Seed, Text}
 use Rattle.paw_base.specs.declared.limits.TheConstants.{EVENT_LIMIT, LINE_LIMIT}
 use Rattle.paw_stage.specs.Stage.{Standing}
 use Rattle.paw_effects.specs.declared.act.Prompt.{Prompt}
@@ -38,13 +38,13 @@ use Rattle.paw_effects.specs.Story.{Story}
 -- ---- lines ----
 
 -- The line after the first n lines is this one.
-take_more : (lines : Lines) (n : ℕ) (line : Line) (rest : List (List ℕ)) → drop n lines ≡ line ∷ rest → take (suc n) lines ≡ take n lines ++ line ∷ []
+take_more : (lines : Lines) (n : ℕ) (line : Line) (rest : Lines) → drop n lines ≡ line ∷ rest → take (suc n) lines ≡ take n lines ++ line ∷ []
 take_more [] zero line rest h = cc
 take_more [] (suc n) line rest h = cc
 take_more (l ∷ lines) zero line rest h = let e : l ≡ line = cc in rw e refl
 take_more (l ∷ lines) (suc n) line rest h = ap (λ xs. l ∷ xs) (take_more lines n line rest h)
 
-pub drop_more : (lines : Lines) (n : ℕ) (line : Line) (rest : List (List ℕ)) → drop n lines ≡ line ∷ rest →
+pub drop_more : (lines : Lines) (n : ℕ) (line : Line) (rest : Lines) → drop n lines ≡ line ∷ rest →
     (drop (suc n) lines ≡ rest) × (suc n ≤ length lines)
 drop_more [] zero line rest h = cc
 drop_more [] (suc n) line rest h = cc
@@ -57,13 +57,13 @@ drop_all [] (suc n) h k = absurd (omega arith)
 drop_all (l ∷ lines) zero h k = cc
 drop_all (l ∷ lines) (suc n) h k = ap suc (drop_all lines n h (omega arith))
 
-map_append : (xs : List (List ℕ)) (line : Line)
+map_append : (xs : Lines) (line : Line)
     → map (take LINE_LIMIT) (xs ++ line ∷ []) ≡ map (take LINE_LIMIT) xs ++ take LINE_LIMIT line ∷ []
 map_append [] line = refl
 map_append (x ∷ xs) line = ap (λ ys. take LINE_LIMIT x ∷ ys) (map_append xs line)
 
 -- The lines that come after one more.
-pub lines_more : (lines : Lines) (n : ℕ) (line : Line) (rest more : List (List ℕ)) → drop n lines ≡ line ∷ rest →
+pub lines_more : (lines : Lines) (n : ℕ) (line : Line) (rest more : Lines) → drop n lines ≡ line ∷ rest →
     first_lines (suc n) lines ++ more ≡ first_lines n lines ++ take LINE_LIMIT line ∷ more
 lines_more lines n line rest more h =
     ap (λ xs. map (take LINE_LIMIT) xs ++ more) (take_more lines n line rest h)
@@ -72,7 +72,7 @@ lines_more lines n line rest more h =
 
 -- ---- what stands ----
 
-played_more : (old : Standing) (n : ℕ) (text part line : Bytes) (rest : List (List ℕ)) → drop n old.lines ≡ line ∷ rest →
+played_more : (old : Standing) (n : ℕ) (text part line : Bytes) (rest : Lines) → drop n old.lines ≡ line ∷ rest →
     record (with_lines_taken old n text) { lines = rest; asked = old.asked + n + 1; shown = (old.shown ++ text) ++ part }
     ≡ with_lines_taken old (suc n) (text ++ part)
 played_more old n text part line rest h =
@@ -170,9 +170,9 @@ module _ {F : Type 0} (showing : ShowSteps) (g : Story) (whole after : EndingOf)
     (pieces : Texts) (traces : List (List Read)) (each : HaveSteps showing pieces traces)
     (keeps : KeepsShown showing next.machine.steps.most)
     (last : next.last ≡ s) (seated : IsSeated next) (there : n ≤ length first.lines)
-    (whole_after : (more : List (List ℕ)) → whole (first_lines n first.lines ++ more) ≡ after more)
+    (whole_after : (more : Lines) → whole (first_lines n first.lines ++ more) ≡ after more)
     (earlier : text_before (with_shown_steps showing whole) first.lines n ≡ concat (shown_pieces showing pieces traces))
-    (stands_with : (part : List ℕ) → new ≡ record mid { shown = mid.shown ++ part } →
+    (stands_with : (part : Text) → new ≡ record mid { shown = mid.shown ++ part } →
     new ≡ with_lines_taken first n (concat (shown_pieces showing pieces traces) ++ part))
     (plays : PlaysTo g after s next pieces traces) where
   read_all : whole (first_lines n first.lines) ≡ after []
@@ -264,7 +264,7 @@ module _ {F : Type 0} (showing : ShowSteps) (g : Story) (whole : EndingOf) (n : 
   pub one_more : suc n ≤ length first.lines
   one_more = (drop_more first.lines n line mid.lines line_stands).1
 
-  whole_after : (more : List (List ℕ)) →
+  whole_after : (more : Lines) →
       whole (first_lines (suc n) first.lines ++ more)
       ≡ going_on_from g w.prompt (reverse seat.machine.frames) (run_at seat w.pieces w.traces (given ∷ more))
   whole_after more =

@@ -5,7 +5,7 @@ use Rattle.std.proofs.Common.{Some, None, Result, Ok, Err, refl, sym, ap, ◌∙
 use Rattle.std.specs.Prelude.{nat_lt}
 use Rattle.std.proofs.lemmas.Bool.{ltb-true}
 use Rattle.std.proofs.lemmas.Bool.Decides.{nat_tests}
-use Rattle.paw_base.specs.Bytes.{Name, Tokens}
+use Rattle.paw_base.specs.Bytes.{Name, Tokens, Bytes, Texts}
 use Rattle.paw_base.specs.declared.limits.TheConstants.{LOCATION_LIMIT}
 use Rattle.paw_base.specs.declared.fault.SourceKind.{SourceKind}
 use Rattle.paw_base.specs.declared.fault.SourceKind.TheVariants as kind
@@ -30,7 +30,7 @@ and_false false = refl
 same_number : (n k : ℕ) → k ≤ 256 → eqb (min n 4294967295) k ≡ eqb n k
 same_number n k h = grind (arith, nat_tests, h)
 
-text_capped : (limit n : ℕ) (ts : Tokens) → length ts ≤ 256 → text_item limit (min n 4294967295) ts ≡ text_item limit n ts
+text_capped : (limit n : ℕ) (ts : Texts) → length ts ≤ 256 → text_item limit (min n 4294967295) ts ≡ text_item limit n ts
 text_capped limit n ts h =
     ap (λ (b : Bool).
     cond (not b) (Err kind.Range) (cond (not (ltb (length ts) limit)) (Err kind.TooBig) (Ok (ts ++ [] ∷ []))))
@@ -38,7 +38,7 @@ text_capped limit n ts h =
 
 new_text_capped : (s : Section) (d : Spelt) (n : ℕ) → length (texts_of s d) ≤ 256 → new_text s d (min n 4294967295) ≡ new_text s d n
 new_text_capped s d n h =
-    ap (λ (r : Result (List (List ℕ)) SourceKind). r >>= λ ts. Ok (with_texts s false ts d))
+    ap (λ (r : Result Texts SourceKind). r >>= λ ts. Ok (with_texts s false ts d))
     (text_capped (text_limit s) n (texts_of s d) h)
 
 -- Past the locations there is no item of exits.
@@ -87,7 +87,7 @@ past_three : {A : Type 0} (x y z rest : A) (a b c : Bool) → a ≡ false → b 
 past_three x y z rest a b c p q r = rw (p, q, r) refl
 
 -- A line of tokens that begins with `/`, of which the first token was taken and its number read.
-pub slash_read : (p : ℕ) (d : Spelt) (l name rest : List ℕ) (left : List (List ℕ)) (o : Option ℕ) → IsShortDraft d
+pub slash_read : (p : ℕ) (d : Spelt) (l name rest : Bytes) (left : Tokens) (o : Option ℕ) → IsShortDraft d
     → is_comment l ≡ false → has_forbidden_byte false l ≡ false → begins_with_slash l ≡ true → tokens_of l ≡ name ∷ left
     → rest ≡ drop 1 name → o ≡ capped_value (number rest) → slash_line d name o left ≡ after_line p d l
 unfolding after_line
@@ -101,6 +101,6 @@ slash_read p d l name rest left o small comment allowed slash tokens cut read =
     ap (λ (x : Option ℕ). slash_line d name x left) read
     ∙ ap (λ (x : List ℕ). slash_line d name (capped_value (number x)) left) cut
     ∙ slash_capped d name (number (drop 1 name)) left small
-    ∙ sym (ap (λ (x : List (List ℕ)). tokens_added p d true blank x) tokens)
+    ∙ sym (ap (λ (x : Tokens). tokens_added p d true blank x) tokens)
     ∙ sym (ap (λ (b : Bool). tokens_added p d b blank (tokens_of l)) slash)
     ∙ sym is

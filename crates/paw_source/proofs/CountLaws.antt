@@ -114,11 +114,11 @@ pro_more : (d e : Spelt) (ts : Tokens) → pro_header d ts ≡ Ok e → tables e
 pro_more d e ts h = ap tables (sym (table_opened d e ts h).is) ∙ length-append d.tables ([] ∷ [])
 
 -- The first of these tokens is the header of a table.
-abbrev is_pro_token : List (List ℕ) → Bool
+abbrev is_pro_token : Tokens → Bool
 is_pro_token ts = is_named (get_or ts 0 []) (codes "/PRO")
 
 -- How many tables a line of these tokens begins.
-abbrev begun : List (List ℕ) → ℕ
+abbrev begun : Tokens → ℕ
 begun ts = cond (is_pro_token ts) 1 0
 
 no_more : (d e : Spelt) (b : Bool) → b ≡ false → tables e ≡ tables d → tables e ≡ tables d + cond b 1 0

@@ -8,7 +8,7 @@ use Rattle.std.proofs.lemmas.Bool.{eqb-false}
 use Rattle.std.proofs.lemmas.Bool.Decides.{nat_tests}
 use Rattle.std.proofs.lemmas.List.{length-append, length-set, length-replicate}
 use Rattle.std.proofs.lemmas.List.Folds.{list_all-append}
-use Rattle.paw_base.specs.Bytes.{Lines, Name, Tokens}
+use Rattle.paw_base.specs.Bytes.{Name, Tokens, Texts}
 use Rattle.paw_base.specs.declared.limits.TheConstants.{SYSTEM_LIMIT, MESSAGE_LIMIT, OBJECT_LIMIT, LOCATION_LEAST}
 use Rattle.paw_base.specs.declared.limits.TheConstants.{LOCATION_LIMIT, TABLE_LIMIT}
 use Rattle.paw_base.specs.declared.fault.SourceKind.{SourceKind}
@@ -46,7 +46,7 @@ pub record RowsKept {A : Type 0} (rule : A → Bool) (limit : ℕ) (rows : List 
   pub all : list_all rule rows ≡ true
   pub few : length rows ≤ limit
 
-abbrev pub TextsKept : ℕ → List (List ℕ) → Type 0
+abbrev pub TextsKept : ℕ → Texts → Type 0
 TextsKept limit ts = RowsKept is_text limit ts
 
 -- No section of rows was reached.
@@ -58,7 +58,7 @@ pub record AreNone (es : List (List Exit)) (fs : List ObjectFacts) (ts : List (L
 abbrev pub NoRows : Spelt → Type 0
 NoRows d = AreNone d.exits d.facts d.tables
 
-pub record BeforeObjects (ls : Lines) (fs : List ObjectFacts) (ts : List (List Entry)) : Type 0 where
+pub record BeforeObjects (ls : Texts) (fs : List ObjectFacts) (ts : List (List Entry)) : Type 0 where
   pub facts : fs ≡ []
   pub tables : ts ≡ []
   pub locations : LOCATION_LEAST ≤ length ls
@@ -66,14 +66,14 @@ pub record BeforeObjects (ls : Lines) (fs : List ObjectFacts) (ts : List (List E
 abbrev pub AtExits : Spelt → Type 0
 AtExits d = BeforeObjects d.locations d.facts d.tables
 
-pub record BeforeTables (ls : Lines) (ts : List (List Entry)) : Type 0 where
+pub record BeforeTables (ls : Texts) (ts : List (List Entry)) : Type 0 where
   pub tables : ts ≡ []
   pub locations : LOCATION_LEAST ≤ length ls
 
 abbrev pub AtObjects : Spelt → Type 0
 AtObjects d = BeforeTables d.locations d.tables
 
-pub record WithRows (ns ls : List (List ℕ)) (fs : List ObjectFacts) : Type 0 where
+pub record WithRows (ns ls : Texts) (fs : List ObjectFacts) : Type 0 where
   pub locations : LOCATION_LEAST ≤ length ls
   pub rows : length ns ≤ length fs
 
@@ -100,7 +100,7 @@ from_section : (s : Section) (d : Spelt) → d.section ≡ s → InOrder s d →
 from_section s d here h = subst (λ (t : Section). InOrder t d) (sym here) h
 
 -- Words and texts have rules of their own.
-pub record HeadsKept (ws : List Word) (ss ms ns ls : List (List ℕ)) : Type 0 where
+pub record HeadsKept (ws : List Word) (ss ms ns ls : Texts) : Type 0 where
   pub words : words_are_valid ws ≡ true
   pub system : TextsKept SYSTEM_LIMIT ss
   pub messages : TextsKept MESSAGE_LIMIT ms
@@ -140,7 +140,7 @@ no_rows p d heads none order =
 
 -- ---- texts
 
-texts_keep : (p : ℕ) (s : Section) (begun : Bool) (ts : Tokens) (d : Spelt) → d.section ≡ s → Keeps p d
+texts_keep : (p : ℕ) (s : Section) (begun : Bool) (ts : Texts) (d : Spelt) → d.section ≡ s → Keeps p d
     → TextsKept (text_limit s) ts → Keeps p (with_texts s begun ts d)
 texts_keep p section.Before begun ts d e k new = k
 texts_keep p section.Voc begun ts d e k new = k

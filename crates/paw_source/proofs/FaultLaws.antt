@@ -1,5 +1,5 @@
 -- The fault that is named is that of the first line with one.
-use Rattle.std.proofs.Common.{◌≡◌, ℕ, suc, ◌+◌, ◌≤◌, ◌⊎◌, inl, inr, true, false, cond, List, [], ◌∷◌, ◌++◌, length}
+use Rattle.std.proofs.Common.{◌≡◌, ℕ, suc, ◌+◌, ◌≤◌, ◌⊎◌, inl, inr, true, false, cond, [], ◌∷◌, ◌++◌, length}
 use Rattle.std.proofs.Common.{Result, Ok, Err, refl, sym, ap, ◌∙◌, arith}
 use Rattle.std.specs.Prelude.{nat_lt}
 use Rattle.std.specs.List.{count_by}
@@ -16,7 +16,7 @@ use Rattle.paw_grammar.specs.GrammarState.{Spelt, nothing_yet, game_of}
 use Rattle.paw_grammar.specs.Spells.{after_line, begins_table, fault, at_line, whole, spelled_after, game_spelled}
 use Rattle.paw_source.specs.inner.Laws.{after_lines, HasFault, HasNone, NamesTheFirst, IsNamedRightly}
 
-found : (p n : ℕ) (d : Spelt) (before : List (List ℕ)) (line : Line) (behind : List (List ℕ)) (e : Spelt)
+found : (p n : ℕ) (d : Spelt) (before : Lines) (line : Line) (behind : Lines) (e : Spelt)
     (k : SourceKind) → after_lines p d before ≡ Ok e → after_line p e line ≡ Err k
     → spelled_after p n d (before ++ line ∷ behind) ≡ Err (fault (suc (n + length before)) k)
 unfolding spelled_after after_lines
@@ -54,7 +54,7 @@ names_the_first source n k small h =
 err_is : {A E : Type 0} (x y : E) → ◌≡◌ {A = Result A E} (Err x) (Err y) → x ≡ y
 err_is {A} {E} x y h = cc
 
-abbrev Named : ℕ → ℕ → Spelt → List (List ℕ) → SourceFault → Type 0
+abbrev Named : ℕ → ℕ → Spelt → Lines → SourceFault → Type 0
 Named p n d ls f = ((m : ℕ) × (f.line ≡ suc (n + m)) × HasFault p d ls m f.kind) ⊎ ((f.line ≡ suc (n + length ls)) × HasNone p d ls)
 
 -- At the end no line had a fault.
@@ -109,7 +109,7 @@ named p n d (l ∷ ls) f h =
                 behind = some.behind;
                 draft = some.draft;
                 parts =
-                    ap (λ (y : List (List ℕ)). l ∷ y) some.parts;
+                    ap (λ (y : Lines). l ∷ y) some.parts;
                 place = ap suc some.place;
                 no_fault =
                     rw e some.no_fault;

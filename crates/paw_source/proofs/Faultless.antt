@@ -1,8 +1,8 @@
 -- What is known of a reading in which no fault was found.
-use Rattle.std.proofs.Common.{◌≡◌, ℕ, Bool, true, false, cond, ◌&&◌, List, [], ◌∷◌, Option, Some, None, Result, Ok, Err}
+use Rattle.std.proofs.Common.{◌≡◌, ℕ, Bool, true, false, cond, ◌&&◌, [], ◌∷◌, Option, Some, None, Result, Ok, Err}
 use Rattle.std.proofs.Common.{refl, ap, ◌∙◌, sym}
 use Rattle.std.specs.Option.{ok_or}
-use Rattle.paw_base.specs.Bytes.{Tokens}
+use Rattle.paw_base.specs.Bytes.{Tokens, Token}
 use Rattle.paw_base.specs.declared.fault.SourceKind.{SourceKind}
 use Rattle.paw_base.specs.declared.fault.SourceKind.TheVariants as kind
 use Rattle.paw_read_error.specs.Bind.{◌>>=◌}
@@ -43,21 +43,21 @@ pub at_end : {A : Type 0} (ts : Tokens) (x : Result A SourceKind) (e : A) → (e
 at_end {A} [] x e h = h
 at_end {A} (t ∷ ts) x e h = absurd cc
 
-means_ok : {A : Type 0} (k : SourceKind) (ts : Tokens) (o : Option A) (x : A × List (List ℕ))
-    → ◌≡◌ {A = Result (A × List (List ℕ)) SourceKind} (ok_or o k >>= λ y. Ok (y, ts)) (Ok x) → o ≡ Some x.0
+means_ok : {A : Type 0} (k : SourceKind) (ts : Tokens) (o : Option A) (x : A × Tokens)
+    → ◌≡◌ {A = Result (A × Tokens) SourceKind} (ok_or o k >>= λ y. Ok (y, ts)) (Ok x) → o ≡ Some x.0
 means_ok {A} k ts None x h = absurd cc
-means_ok {A} k ts (Some y) x h = ap (λ (z : A × List (List ℕ)). Some z.0) (ok_is (y, ts) x h)
+means_ok {A} k ts (Some y) x h = ap (λ (z : A × Tokens). Some z.0) (ok_is (y, ts) x h)
 
 -- The token that was read means what was read.
-pub read_ok : {A : Type 0} (k : SourceKind) (f : List ℕ → Option A) (ts : Tokens) (x : A × List (List ℕ))
-    → read_by k f ts ≡ Ok x → (t : List ℕ) × (f t ≡ Some x.0)
+pub read_ok : {A : Type 0} (k : SourceKind) (f : Token → Option A) (ts : Tokens) (x : A × Tokens)
+    → read_by k f ts ≡ Ok x → (t : Token) × (f t ≡ Some x.0)
 read_ok {A} k f [] x h = absurd cc
 read_ok {A} k f (t ∷ ts) x h = (t, means_ok k ts (f t) x h)
 
-pub in_range_ok : (rule : ℕ → Bool) (n x : ℕ × List (List ℕ)) → in_range rule n ≡ Ok x → rule x.0 ≡ true
+pub in_range_ok : (rule : ℕ → Bool) (n x : ℕ × Tokens) → in_range rule n ≡ Ok x → rule x.0 ≡ true
 in_range_ok rule n x h =
     let g = holds _ _ _ x h in
-    ap (λ (z : ℕ × List (List ℕ)). rule z.0) (sym (ok_is n x g.1)) ∙ g.0
+    ap (λ (z : ℕ × Tokens). rule z.0) (sym (ok_is n x g.1)) ∙ g.0
 
-pub number_ok : (rule : ℕ → Bool) (ts : Tokens) (x : ℕ × List (List ℕ)) → number_with rule ts ≡ Ok x → rule x.0 ≡ true
+pub number_ok : (rule : ℕ → Bool) (ts : Tokens) (x : ℕ × Tokens) → number_with rule ts ≡ Ok x → rule x.0 ≡ true
 number_ok rule ts x h = let b = bound (read_by kind.Number number ts) (in_range rule) x h in in_range_ok rule b.0 x b.2

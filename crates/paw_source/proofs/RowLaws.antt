@@ -10,7 +10,7 @@ use Rattle.std.proofs.lemmas.Bool.Decides.{nat_tests}
 use Rattle.std.proofs.lemmas.List.{length-map, length-append, length-set}
 use Rattle.std.proofs.lemmas.List.Folds.{list_all-append}
 use Rattle.std.proofs.lemmas.Map.Steps.{length-le_from_distinct_below}
-use Rattle.paw_base.specs.Bytes.{Name, Tokens}
+use Rattle.paw_base.specs.Bytes.{Name, Tokens, Token}
 use Rattle.paw_base.specs.declared.fault.SourceKind.TheVariants as fault
 use Rattle.paw_base.specs.declared.parts.Condact.{Condact}
 use Rattle.paw_base.specs.declared.rows.ParamKind.{ParamKind}
@@ -175,14 +175,14 @@ exit_row_ok ws locations xs ys ts words kept h =
 
 -- ---- objects
 
-place_within : (last : ℕ) (named : List ℕ → Option ℕ) (locations : ℕ) (ts : Tokens) (x : ℕ × List (List ℕ))
+place_within : (last : ℕ) (named : Token → Option ℕ) (locations : ℕ) (ts : Tokens) (x : ℕ × Tokens)
     → place_up_to last named locations ts ≡ Ok x → (nat_lt x.0 locations || is_within NOT_CREATED_PLACE last x.0) ≡ true
 place_within last named locations ts x h =
     let b = bound (read_by fault.Number (λ t. option_or (number t) (option_map (λ i. NOT_CREATED_PLACE + i) (named t))) ts)
     (in_range (λ n. nat_lt n locations || is_within NOT_CREATED_PLACE last n)) x h in
     in_range_ok (λ n. nat_lt n locations || is_within NOT_CREATED_PLACE last n) b.0 x b.2
 
-first_place_ok : (locations : ℕ) (ts : Tokens) (x : ℕ × List (List ℕ)) → first_place locations ts ≡ Ok x → is_place locations x.0 ≡ true
+first_place_ok : (locations : ℕ) (ts : Tokens) (x : ℕ × Tokens) → first_place locations ts ≡ Ok x → is_place locations x.0 ≡ true
 first_place_ok locations ts x h = place_within CARRIED_PLACE (index_among place_names) locations ts x h
 
 pub record ObjectRowKept (ws : List Word) (locations next count : ℕ) (f : ObjectFacts) : Type 0 where
@@ -224,19 +224,19 @@ pub record Has (bounds : Bounds) (ws : List Word) (g : GameLists) : Type 0 where
   pub locations : length g.locations ≡ bounds.locations
   pub tables : length g.tables ≡ bounds.tables
 
-table_ok : (tables : ℕ) (ts : Tokens) (x : ℕ × List (List ℕ)) → table tables ts ≡ Ok x → nat_lt x.0 tables ≡ true
+table_ok : (tables : ℕ) (ts : Tokens) (x : ℕ × Tokens) → table tables ts ≡ Ok x → nat_lt x.0 tables ≡ true
 table_ok tables ts x h =
     let b = bound (number_below tables ts) (λ n. Ok (min n.0 255, n.1)) x h in
     let low = number_ok (λ n. nat_lt n tables) ts b.0 b.1 in
-    let made : min b.0.0 255 ≡ x.0 = ap (λ (z : ℕ × List (List ℕ)). z.0) (ok_is (min b.0.0 255, b.0.1) x b.2) in
+    let made : min b.0.0 255 ≡ x.0 = ap (λ (z : ℕ × Tokens). z.0) (ok_is (min b.0.0 255, b.0.1) x b.2) in
     rw (← made) (let below = ltb-true b.0.0 tables low in grind (arith, nat_tests, below))
 
-place_ok : (locations : ℕ) (ts : Tokens) (x : ℕ × List (List ℕ)) → any_place locations ts ≡ Ok x
+place_ok : (locations : ℕ) (ts : Tokens) (x : ℕ × Tokens) → any_place locations ts ≡ Ok x
     → (nat_lt x.0 locations || is_within NOT_CREATED_PLACE HERE_PLACE x.0) ≡ true
 place_ok locations ts x h = place_within HERE_PLACE (index_among (place_names ++ codes "HERE" ∷ [])) locations ts x h
 
 parameter_ok : (bounds : Bounds) (ws : List Word) (g : GameLists) (k : ParamKind) (ts : Tokens)
-    (x : ℕ × List (List ℕ)) → Has bounds ws g → parameter bounds ws k ts ≡ Ok x → is_parameter (counts_of g) g.words k x.0 ≡ true
+    (x : ℕ × Tokens) → Has bounds ws g → parameter bounds ws k ts ≡ Ok x → is_parameter (counts_of g) g.words k x.0 ≡ true
 parameter_ok bounds ws g kind.Absent ts x has h = rw (← ok_is (0, ts) x h) refl
 parameter_ok bounds ws g kind.Location ts x has h = rw has.locations (number_ok (λ n. nat_lt n bounds.locations) ts x h)
 parameter_ok bounds ws g kind.Place ts x has h = rw has.locations (place_ok bounds.locations ts x h)
@@ -251,13 +251,13 @@ parameter_ok bounds ws g kind.Noun ts x has h = rw has.words (word_or_none_ok ws
 parameter_ok bounds ws g kind.Adjective ts x has h = rw has.words (word_or_none_ok ws ADJECTIVE_CLASS ts x h)
 parameter_ok bounds ws g kind.Preposition ts x has h = rw has.words (word_or_none_ok ws PREPOSITION_CLASS ts x h)
 
-flag_ok : (ts : Tokens) (x : ℕ × List (List ℕ)) → flag_after_at ts ≡ Ok x → nat_lt x.0 FLAG_COUNT ≡ true
+flag_ok : (ts : Tokens) (x : ℕ × Tokens) → flag_after_at ts ≡ Ok x → nat_lt x.0 FLAG_COUNT ≡ true
 flag_ok ts x h =
     let b = bound (read_by fault.Number (λ t. number (drop 1 t)) ts) (in_range (λ n. nat_lt n FLAG_COUNT)) x h in
     in_range_ok (λ n. nat_lt n FLAG_COUNT) b.0 x b.2
 
 first_ok : (bounds : Bounds) (ws : List Word) (g : GameLists) (code : ℕ) (indirect : Bool) (ts : Tokens)
-    (x : ℕ × List (List ℕ)) → Has bounds ws g → (indirect ≡ true → may_be_indirect code ≡ true)
+    (x : ℕ × Tokens) → Has bounds ws g → (indirect ≡ true → may_be_indirect code ≡ true)
     → first_parameter bounds ws indirect (first_kind code) ts ≡ Ok x
     → is_parameter (counts_of g) g.words (first_kind (code_of indirect code)) x.0 ≡ true
 first_ok bounds ws g code true ts x has may h =
@@ -265,7 +265,7 @@ first_ok bounds ws g code true ts x has may h =
 first_ok bounds ws g code false ts x has may h = parameter_ok bounds ws g (first_kind code) ts x has h
 
 condact_ok : (bounds : Bounds) (ws : List Word) (g : GameLists) (name : Name) (ts : Tokens)
-    (x : Condact × List (List ℕ)) → Has bounds ws g → condact bounds ws name ts ≡ Ok x → is_condact g x.0 ≡ true
+    (x : Condact × Tokens) → Has bounds ws g → condact bounds ws name ts ≡ Ok x → is_condact g x.0 ≡ true
 unfolding condact
 condact_ok bounds ws g name ts x has h =
     bound_then _ (ok_or (code_named name) fault.Condact) _ x h (λ plain plain_ok h.
@@ -274,7 +274,7 @@ condact_ok bounds ws g name ts x has h =
     let indirect : Bool = is_indirect_before plain ts in
     let code : ℕ = code_of indirect plain in
     let made : Condact = record { code = code; a = a.0; b = b.0 } in
-    let same : made ≡ x.0 = ap (λ (z : Condact × List (List ℕ)). z.0) (ok_is (made, b.1) x h) in
+    let same : made ≡ x.0 = ap (λ (z : Condact × Tokens). z.0) (ok_is (made, b.1) x h) in
     let named = named_plain name plain plain_ok in
     let may : indirect ≡ true → may_be_indirect plain ≡ true = λ e. (and_parts (may_be_indirect plain) (at_is_next ts) e).0 in
     let is : is_code code ≡ true = read_code plain indirect named may in

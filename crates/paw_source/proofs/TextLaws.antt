@@ -7,6 +7,7 @@ use Rattle.std.proofs.lemmas.Bool.{and_parts}
 use Rattle.std.proofs.lemmas.Bool.Decides.{nat_tests}
 use Rattle.std.proofs.lemmas.List.{length-set, length-append}
 use Rattle.std.proofs.lemmas.List.Folds.{list_all-append}
+use Rattle.paw_base.specs.Bytes.{Line, Texts}
 use Rattle.paw_base.specs.declared.limits.TheConstants.{TEXT_LIMIT}
 use Rattle.paw_base.specs.declared.fault.SourceKind.TheVariants as kind
 use Rattle.paw_game.specs.Valid.{is_text, is_text_byte, begins_no_line, is_printed}
@@ -104,7 +105,7 @@ allowed true a e h = absurd cc
 allowed false a e h = h
 
 -- A text line leaves texts that follow the rules.
-pub text_line_ok : (begun : Bool) (l : List ℕ) (ts us : List (List ℕ)) → list_all is_text ts ≡ true
+pub text_line_ok : (begun : Bool) (l : Line) (ts us : Texts) → list_all is_text ts ≡ true
     → is_comment l ≡ false → begins_with_slash l ≡ false → has_forbidden_byte true l ≡ false
     → text_line begun l ts ≡ Ok us → (list_all is_text us ≡ true) × (length us ≡ length ts)
 text_line_ok begun l ts us all comment slash bytes h =
@@ -124,7 +125,7 @@ text_line_ok begun l ts us all comment slash bytes h =
     let made = ok_is (with_last b.0 ts) us b.2 in
     rw (← made) (all_set is_text ts (length ts - 1) b.0 all good, length-set ts (length ts - 1) b.0)
 
-pub text_item_ok : (limit n : ℕ) (ts us : List (List ℕ)) → list_all is_text ts ≡ true → text_item limit n ts ≡ Ok us
+pub text_item_ok : (limit n : ℕ) (ts us : Texts) → list_all is_text ts ≡ true → text_item limit n ts ≡ Ok us
     → (list_all is_text us ≡ true) × (length us ≤ limit)
 text_item_ok limit n ts us all h =
     let a = passes (not (eqb n (length ts))) kind.Range (cond (not (ltb (length ts) limit)) (Err kind.TooBig) (Ok (ts ++ [] ∷ []))) us h in

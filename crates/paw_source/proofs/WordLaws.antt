@@ -14,7 +14,7 @@ use Rattle.std.proofs.lemmas.List.{length-take, length-map, length-replicate}
 use Rattle.std.proofs.lemmas.List.Quantifiers.{position-Some}
 use Rattle.std.proofs.lemmas.Cmp.{nat_list_cmp_total}
 use Rattle.std.proofs.lemmas.Map.Text.{is_eq-slice_cmp}
-use Rattle.paw_base.specs.Bytes.{Tokens}
+use Rattle.paw_base.specs.Bytes.{Tokens, Letters}
 use Rattle.paw_base.specs.declared.fault.SourceKind.TheVariants as kind
 use Rattle.paw_base.specs.Condacts.{capitals}
 use Rattle.paw_base.specs.declared.limits.TheConstants.{WORD_LENGTH, WORD_LIMIT}
@@ -83,7 +83,7 @@ letters_kept (b ∷ bs) h =
     ap (λ (n : ℕ). length (take WORD_LENGTH (capitals (b ∷ bs)) ++ replicate (WORD_LENGTH - suc n) 32)) (sym long) ∙ five in
     rw (same, first, tail) refl
 
-pub word_ok : (ts : Tokens) (x : List ℕ × List (List ℕ)) → word ts ≡ Ok x → are_letters x.0 ≡ true
+pub word_ok : (ts : Tokens) (x : Letters × Tokens) → word ts ≡ Ok x → are_letters x.0 ≡ true
 word_ok ts x h =
     let r = read_ok kind.Word letters_in ts x h in
     elim (is_word_token r.0) as (λ b. is_word_token r.0 ≡ b → cond b (Some (letters_of r.0)) None ≡ Some x.0 → are_letters x.0 ≡ true) [
@@ -91,7 +91,7 @@ word_ok ts x h =
       | false ↦ λ e f. absurd cc
     ] refl r.1
 
-pub class_ok : (ts : Tokens) (x : ℕ × List (List ℕ)) → class ts ≡ Ok x → nat_le x.0 PRONOUN_CLASS ≡ true
+pub class_ok : (ts : Tokens) (x : ℕ × Tokens) → class ts ≡ Ok x → nat_le x.0 PRONOUN_CLASS ≡ true
 class_ok ts x h =
     let r = read_ok kind.Word (index_among class_names) ts x h in
     let within = (position-Some (is_named r.0) class_names x.0 [] r.1).0 in
@@ -232,7 +232,7 @@ verb_has ws v (Some w) from h =
           ] refl f
     ] refl h
 
-pub verb_word_ok : (ws : List Word) (ts : Tokens) (x : ℕ × List (List ℕ)) → verb_word ws ts ≡ Ok x → is_verb_value ws x.0 ≡ true
+pub verb_word_ok : (ws : List Word) (ts : Tokens) (x : ℕ × Tokens) → verb_word ws ts ≡ Ok x → is_verb_value ws x.0 ≡ true
 verb_word_ok ws ts x h =
     let r = read_ok kind.Word (λ t. as_verb (declared_word ws t)) ts x h in
     verb_has ws x.0 (declared_word ws r.0) (known_has ws r.0) r.1
@@ -252,17 +252,17 @@ any_or f t v good from h =
       | false ↦ λ e. let n = none_or f t v good from e in elim (eqb v ANY_WORD) as (λ b. ((b || eqb v NO_WORD) || good) ≡ true) [ true ↦ refl | false ↦ n ]
     ] h
 
-pub word_or_none_ok : (ws : List Word) (c : ℕ) (ts : Tokens) (x : ℕ × List (List ℕ)) → word_or_none ws c ts ≡ Ok x → is_word_or_none ws c x.0 ≡ true
+pub word_or_none_ok : (ws : List Word) (c : ℕ) (ts : Tokens) (x : ℕ × Tokens) → word_or_none ws c ts ≡ Ok x → is_word_or_none ws c x.0 ≡ true
 word_or_none_ok ws c ts x h =
     let r = read_ok kind.Word (or_none (λ t. in_class c (declared_word ws t))) ts x h in
     none_or (λ t. in_class c (declared_word ws t)) r.0 x.0 (has_word ws c x.0) (class_has ws c x.0 (declared_word ws r.0) (known_has ws r.0)) r.1
 
-pub entry_verb_ok : (ws : List Word) (ts : Tokens) (x : ℕ × List (List ℕ)) → entry_verb ws ts ≡ Ok x → (is_wildcard x.0 || is_verb_value ws x.0) ≡ true
+pub entry_verb_ok : (ws : List Word) (ts : Tokens) (x : ℕ × Tokens) → entry_verb ws ts ≡ Ok x → (is_wildcard x.0 || is_verb_value ws x.0) ≡ true
 entry_verb_ok ws ts x h =
     let r = read_ok kind.Word (or_any (λ t. as_verb (declared_word ws t))) ts x h in
     any_or (λ t. as_verb (declared_word ws t)) r.0 x.0 (is_verb_value ws x.0) (verb_has ws x.0 (declared_word ws r.0) (known_has ws r.0)) r.1
 
-pub entry_noun_ok : (ws : List Word) (ts : Tokens) (x : ℕ × List (List ℕ)) → entry_noun ws ts ≡ Ok x → (is_wildcard x.0 || has_word ws NOUN_CLASS x.0)
+pub entry_noun_ok : (ws : List Word) (ts : Tokens) (x : ℕ × Tokens) → entry_noun ws ts ≡ Ok x → (is_wildcard x.0 || has_word ws NOUN_CLASS x.0)
     ≡ true
 entry_noun_ok ws ts x h =
     let r = read_ok kind.Word (or_any (λ t. in_class NOUN_CLASS (declared_word ws t))) ts x h in

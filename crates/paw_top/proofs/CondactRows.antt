@@ -10,6 +10,7 @@ use Rattle.std.proofs.lemmas.Bool.{le-ltb, false≢true}
 use Rattle.std.proofs.lemmas.List.{append-nil}
 use Rattle.std.proofs.lemmas.List.Folds.{list_all-append}
 use Rattle.std.proofs.Math.ListN.{length-map}
+use Rattle.paw_base.specs.Bytes.{Tokens}
 use Rattle.paw_base.specs.declared.limits.TheConstants.{LOCATION_LIMIT, SYSTEM_LIMIT, MESSAGE_LIMIT, OBJECT_LIMIT}
 use Rattle.paw_base.specs.declared.limits.TheConstants.{TABLE_LIMIT, FLAG_COUNT, CONDACT_LIMIT}
 use Rattle.paw_base.specs.declared.places.TheConstants.{NOT_CREATED_PLACE, HERE_PLACE}
@@ -133,7 +134,7 @@ record ParameterBack (p : ℕ) (g : GameLists) (k : ParamKind) (x : ℕ) : Type 
   plain : list_all is_plain (parameter_tokens g.words k x) ≡ true
   no_at : list_all has_no_at (parameter_tokens g.words k x) ≡ true
   count : length (parameter_tokens g.words k x) ≡ param_count k
-  read : (ts : List (List ℕ)) → parameter (bounds p g) g.words k (parameter_tokens g.words k x ++ ts) ≡ Ok (x, ts)
+  read : (ts : Tokens) → parameter (bounds p g) g.words k (parameter_tokens g.words k x ++ ts) ≡ Ok (x, ts)
 
 below_small : (x n : ℕ) → n ≤ 256 → ltb x n ≡ true → x ≤ 65535
 below_small x n h g = omega (arith, ltb-true x n g)
@@ -203,12 +204,12 @@ parameter_back p g kind.Preposition x s h =
 record FirstBack (p : ℕ) (g : GameLists) (c : Condact) : Type 0 where
   plain : list_all is_plain (first_tokens g.words c) ≡ true
   count : length (first_tokens g.words c) ≡ param_count (first_kind c.code)
-  told : (ts : List (List ℕ)) → list_all has_no_at ts ≡ true
+  told : (ts : Tokens) → list_all has_no_at ts ≡ true
       → is_indirect_before (plain_code c.code) (first_tokens g.words c ++ ts) ≡ is_indirect c.code
-  read : (ts : List (List ℕ))
+  read : (ts : Tokens)
       → first_parameter (bounds p g) g.words (is_indirect c.code) (first_kind (plain_code c.code)) (first_tokens g.words c ++ ts) ≡ Ok (c.a, ts)
 
-flag_read : (a : ℕ) (ts : List (List ℕ)) → a ≤ 65535 → ltb a FLAG_COUNT ≡ true → flag_after_at ((64 ∷ decimal a) ∷ ts) ≡ Ok (a, ts)
+flag_read : (a : ℕ) (ts : Tokens) → a ≤ 65535 → ltb a FLAG_COUNT ≡ true → flag_after_at ((64 ∷ decimal a) ∷ ts) ≡ Ok (a, ts)
 flag_read a ts small low =
     ap (λ (o : Option ℕ). (ok_or o fault.Number >>= λ n. Ok (n, ts)) >>= in_range (λ n. ltb n FLAG_COUNT)) (number-decimal a small)
     ∙ rw low refl
@@ -226,7 +227,7 @@ flag_back p g c h kept =
       read = λ ts. rw h (flag_read c.a ts small low);
     }
 
-no_at_next : (ts us : List (List ℕ)) → list_all has_no_at ts ≡ true → list_all has_no_at us ≡ true → at_is_next (ts ++ us) ≡ false
+no_at_next : (ts us : Tokens) → list_all has_no_at ts ≡ true → list_all has_no_at us ≡ true → at_is_next (ts ++ us) ≡ false
 no_at_next [] [] h g = refl
 no_at_next [] (u ∷ us) h g = not-true (begins_with_at u) (and_parts (has_no_at u) (list_all has_no_at us) g).0
 no_at_next (t ∷ ts) us h g = not-true (begins_with_at t) (and_parts (has_no_at t) (list_all has_no_at ts) h).0
@@ -250,10 +251,10 @@ first_back p g c s kept =
 -- ---- a condact ----
 
 -- Name, parameters.
-abbrev pub condact_tokens : List Word → Condact → List (List ℕ)
+abbrev pub condact_tokens : List Word → Condact → Tokens
 condact_tokens ws c = name_of c.code ∷ (first_tokens ws c ++ parameter_tokens ws (second_kind c.code) c.b)
 
-skipped : (p : ℕ) (g : GameLists) (ts : List (List ℕ)) → condacts_in (bounds p g) g.words (length ts) ts ≡ Ok []
+skipped : (p : ℕ) (g : GameLists) (ts : Tokens) → condacts_in (bounds p g) g.words (length ts) ts ≡ Ok []
 unfolding condacts_in
 skipped p g [] = refl
 skipped p g (t ∷ ts) = skipped p g ts
@@ -267,7 +268,7 @@ condact-is : (p : ℕ) (g : GameLists) (c : Condact) → IsCode c.code → First
     → condact (bounds p g) g.words (name_of c.code)
     (first_tokens g.words c ++ parameter_tokens g.words (second_kind c.code) c.b) ≡ Ok (c, [])
 condact-is p g c code a b =
-    let rest : List (List ℕ) = parameter_tokens g.words (second_kind c.code) c.b in
+    let rest : Tokens = parameter_tokens g.words (second_kind c.code) c.b in
     let second : parameter (bounds p g) g.words (second_kind c.code) rest ≡ Ok (c.b, []) =
     ap (parameter (bounds p g) g.words (second_kind c.code)) (sym (append-nil rest)) ∙ b.read [] in
     condact_made (bounds p g) g.words (name_of c.code) (first_tokens g.words c ++ rest) (plain_code c.code) (is_indirect c.code)
@@ -279,7 +280,7 @@ skipped_both : (p : ℕ) (g : GameLists) (c : Condact) → FirstBack p g c → P
     → condacts_in (bounds p g) g.words (params_of c.code)
     (first_tokens g.words c ++ parameter_tokens g.words (second_kind c.code) c.b) ≡ Ok []
 skipped_both p g c a b =
-    let ts : List (List ℕ) = first_tokens g.words c ++ parameter_tokens g.words (second_kind c.code) c.b in
+    let ts : Tokens = first_tokens g.words c ++ parameter_tokens g.words (second_kind c.code) c.b in
     let count : length ts ≡ params_of c.code =
     length-append (first_tokens g.words c) (parameter_tokens g.words (second_kind c.code) c.b)
     ∙ rw (a.count, b.count) refl in

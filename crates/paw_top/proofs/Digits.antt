@@ -7,6 +7,7 @@ use Rattle.std.specs.List.{list_all}
 use Rattle.std.proofs.lemmas.Bool.{and_from, and_parts, le-leb, leb-true, lt-ltb, ne_eqb, not_from_false}
 use Rattle.std.proofs.lemmas.Fmt.{decimal_nonempty, digits_decimal, digits_value-decimal}
 use Rattle.std.proofs.lemmas.List.{append-nil}
+use Rattle.paw_base.specs.Bytes.{Tokens}
 use Rattle.paw_grammar.specs.Tokens.{begins_with_at}
 use Rattle.paw_grammar.specs.Numbers.{number, number_with}
 use Rattle.paw_grammar.specs.Spells.{begins_with_slash, after_line}
@@ -59,7 +60,7 @@ item_begins p d n h =
     ∙ ap (λ x. slash_line d (47 ∷ decimal n) x []) (number-decimal n h)
 
 -- A printed number that follows a rule.
-pub number_with-decimal : (rule : ℕ → Bool) (n : ℕ) (ts : List (List ℕ)) → n ≤ 65535 → rule n ≡ true → number_with rule (decimal n ∷ ts) ≡ Ok (n, ts)
+pub number_with-decimal : (rule : ℕ → Bool) (n : ℕ) (ts : Tokens) → n ≤ 65535 → rule n ≡ true → number_with rule (decimal n ∷ ts) ≡ Ok (n, ts)
 number_with-decimal rule n ts h keeps = rw (number-decimal n h, keeps) refl
 
 -- No digit is a stroke.

@@ -8,7 +8,7 @@ use Rattle.std.proofs.lemmas.Bool.{and_parts, and_from, or_from, or_parts, le-lt
 use Rattle.std.proofs.lemmas.Bool.{not-true, not_from_false}
 use Rattle.std.proofs.lemmas.List.{append_assoc, append-nil, replicate_more}
 use Rattle.std.proofs.lemmas.List.Folds.{list_any-append}
-use Rattle.paw_base.specs.Bytes.{Lines}
+use Rattle.paw_base.specs.Bytes.{Lines, Tokens}
 use Rattle.paw_base.specs.declared.limits.TheConstants.{LOCATION_LIMIT, EXIT_LIMIT}
 use Rattle.paw_game.specs.declared.parts.Word.{Word}
 use Rattle.paw_game.specs.declared.parts.Exit.{Exit}
@@ -57,7 +57,7 @@ fresh_more done x (y ∷ ys) h g =
 -- ---- one exit ----
 
 -- Verb, location.
-abbrev exit_tokens : List Word → Exit → List (List ℕ)
+abbrev exit_tokens : List Word → Exit → Tokens
 exit_tokens ws x = verb_token ws x.verb ∷ decimal x.to ∷ []
 
 -- What a row of an exit needs.
@@ -171,7 +171,7 @@ pub record ReadsExits (p : ℕ) (d : Spelt) (es : List (List Exit)) (lines : Lin
   pub reads : Reads p (record d { exits = es }) lines (record d { exits = exits })
   pub filled : Filled exits n all
 
-reads_then : (p : ℕ) (d : Spelt) (es fs : List (List Exit)) (ls ms : List (List ℕ)) (n : ℕ) (all : List (List Exit)) →
+reads_then : (p : ℕ) (d : Spelt) (es fs : List (List Exit)) (ls ms : Lines) (n : ℕ) (all : List (List Exit)) →
     Reads p (record d { exits = es }) ls (record d { exits = fs })
     → ReadsExits p d fs ms n all → ReadsExits p d es (ls ++ ms) n all
 reads_then p d es fs ls ms n all first rest = record { exits = rest.exits; reads = reads_append p _ _ _ ls ms first rest.reads; filled = rest.filled }

@@ -9,6 +9,7 @@ use Rattle.std.specs.Ordering.{is_eq, is_lt, nat_cmp}
 use Rattle.std.specs.Cmp.Lexicographic.{slice_cmp}
 use Rattle.std.proofs.lemmas.Bool.{and_parts, or_cases, eqb-true, eq-eqb, ne_eqb, leb-true, lt-ltb, ltb-true}
 use Rattle.std.proofs.lemmas.Bool.{false≢true}
+use Rattle.paw_base.specs.Bytes.{Token, Tokens}
 use Rattle.paw_base.specs.declared.words.TheConstants.{LEAST_WORD, GREATEST_WORD, ANY_WORD, NO_WORD, NOUN_CLASS}
 use Rattle.paw_base.specs.declared.words.TheConstants.{VERB_CLASS, FIRST_PLAIN_NOUN}
 use Rattle.paw_grammar.specs.Spells.{begins_with_slash}
@@ -133,11 +134,11 @@ no_sign value w low high =
 -- ---- reading ----
 
 -- A token is plain, begins with no stroke and no `@`, and these readers read this value.
-pub record ReadsBack (t : List ℕ) (read : List (List ℕ) → Result (ℕ × List (List ℕ)) SourceKind) (value : ℕ) : Type 0 where
+pub record ReadsBack (t : Token) (read : Tokens → Result (ℕ × Tokens) SourceKind) (value : ℕ) : Type 0 where
   pub plain : is_plain t ≡ true
   pub slash : begins_with_slash t ≡ false
   pub at : begins_with_at t ≡ false
-  pub is : (ts : List (List ℕ)) → read (t ∷ ts) ≡ Ok (value, ts)
+  pub is : (ts : Tokens) → read (t ∷ ts) ≡ Ok (value, ts)
 
 in_class-is : (ws : List Word) (class value : ℕ) (w : Word) → First ws class value w → in_class class (declared_word ws (spelled_letters w)) ≡ Some value
 in_class-is ws class value w f =

@@ -6,6 +6,7 @@ use Rattle.std.specs.List.{list_all}
 use Rattle.std.specs.Fmt.{decimal}
 use Rattle.std.proofs.lemmas.Bool.{and_parts, and_from, or_cases, leb-true, ltb-true, lt-ltb, le-leb, eq-eqb}
 use Rattle.std.proofs.lemmas.List.{append_assoc, append-nil}
+use Rattle.paw_base.specs.Bytes.{Tokens}
 use Rattle.paw_base.specs.declared.limits.TheConstants.{LOCATION_LIMIT, WEIGHT_LIMIT, OBJECT_LIMIT}
 use Rattle.paw_base.specs.declared.places.TheConstants.{NOT_CREATED_PLACE, CARRIED_PLACE}
 use Rattle.paw_base.specs.declared.words.TheConstants.{NOUN_CLASS, ADJECTIVE_CLASS}
@@ -110,9 +111,9 @@ object_step : (p : ℕ) (d : Spelt) (fs : List ObjectFacts) (f : ObjectFacts) �
     → LineReads p (record d { facts = fs }) (tokens_spaced (object_tokens d.words (length fs) f)) (record d { facts = fs ++ f ∷ [] })
 object_step p d fs f at r =
     let e : Spelt = record d { facts = fs } in
-    let ts : List (List ℕ) = object_tokens d.words (length fs) f in
+    let ts : Tokens = object_tokens d.words (length fs) f in
     let out : is_in_text e ≡ false = rw at refl in
-    let others : List (List ℕ) = decimal f.start ∷ decimal f.weight ∷ kind_token f.container f.wearable ∷ value_token
+    let others : Tokens = decimal f.start ∷ decimal f.weight ∷ kind_token f.container f.wearable ∷ value_token
     d.words NOUN_CLASS f.noun ∷ value_token d.words ADJECTIVE_CLASS f.adjective ∷ [] in
     let plain = plain_facts d.words (length d.locations) (length fs) (length d.names) f r in
     record {

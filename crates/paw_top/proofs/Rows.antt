@@ -6,7 +6,7 @@ use Rattle.std.proofs.lemmas.Bool.{and_parts, and_from, and_right, not-true, not
 use Rattle.std.proofs.lemmas.Bool.{lt-ltb}
 use Rattle.std.proofs.lemmas.List.{append-nil}
 use Rattle.std.proofs.lemmas.List.Folds.{list_all-append}
-use Rattle.paw_base.specs.Bytes.{Bytes}
+use Rattle.paw_base.specs.Bytes.{Bytes, Token, Tokens}
 use Rattle.paw_lex.specs.Bytes.{is_printed_byte, is_allowed, is_comment, has_forbidden_byte}
 use Rattle.paw_lex.specs.Tokens.{is_blank, tokens_of}
 use Rattle.paw_lex.specs.inner.Tokens.{ends_token}
@@ -68,7 +68,7 @@ plain_token (b ∷ bs) h =
     and_from (ltb 0 (length (b ∷ bs))) _ (lt-ltb 0 (length (b ∷ bs)) (omega arith))
     (all_weaker is_clean (λ c. not (ends_token c)) (λ c e. not_from_false (ends_token c) (clean c e).no_end) (b ∷ bs) h)
 
-plain_tokens : (ts : List (List ℕ)) → list_all is_plain ts ≡ true → list_all is_token ts ≡ true
+plain_tokens : (ts : Tokens) → list_all is_plain ts ≡ true → list_all is_token ts ≡ true
 plain_tokens [] h = refl
 plain_tokens (t ∷ ts) h =
     let both = and_parts (is_plain t) _ h in
@@ -76,23 +76,23 @@ plain_tokens (t ∷ ts) h =
 
 -- ---- tokens ----
 
-spaced-join : (t : List ℕ) (ts : List (List ℕ)) → tokens_spaced (t ∷ ts) ≡ join_with_byte 32 (t ∷ ts)
+spaced-join : (t : Token) (ts : Tokens) → tokens_spaced (t ∷ ts) ≡ join_with_byte 32 (t ∷ ts)
 spaced-join t [] = append-nil t
 spaced-join t (u ∷ us) = ap (λ (s : List ℕ). t ++ (32 ∷ s)) (spaced-join u us)
 
-tokens_of-spaced : (t : List ℕ) (ts : List (List ℕ)) → list_all is_plain (t ∷ ts) ≡ true → tokens_of (tokens_spaced (t ∷ ts)) ≡ t ∷ ts
+tokens_of-spaced : (t : Token) (ts : Tokens) → list_all is_plain (t ∷ ts) ≡ true → tokens_of (tokens_spaced (t ∷ ts)) ≡ t ∷ ts
 tokens_of-spaced t ts h = ap tokens_of (spaced-join t ts) ∙ tokens_of-join (t ∷ ts) (plain_tokens (t ∷ ts) h)
 
-tokens_of-behind : (t : List ℕ) (ts : List (List ℕ)) → list_all is_plain (t ∷ ts) ≡ true → tokens_of (after_spaces (t ∷ ts)) ≡ t ∷ ts
+tokens_of-behind : (t : Token) (ts : Tokens) → list_all is_plain (t ∷ ts) ≡ true → tokens_of (after_spaces (t ∷ ts)) ≡ t ∷ ts
 tokens_of-behind t ts h = tokens_of-blank 32 (tokens_spaced (t ∷ ts)) refl ∙ tokens_of-spaced t ts h
 
-pub printed-behind : (ts : List (List ℕ)) → list_all is_plain ts ≡ true → list_all is_printed_byte (after_spaces ts) ≡ true
+pub printed-behind : (ts : Tokens) → list_all is_plain ts ≡ true → list_all is_printed_byte (after_spaces ts) ≡ true
 printed-behind [] h = refl
 printed-behind (t ∷ ts) h =
     let both = and_parts (is_plain t) _ h in
     list_all-append is_printed_byte t (after_spaces ts) ∙ and_from _ _ (plain_printed t both.0) (printed-behind ts both.1)
 
-pub printed-spaced : (t : List ℕ) (ts : List (List ℕ)) → list_all is_plain (t ∷ ts) ≡ true → list_all is_printed_byte (tokens_spaced (t ∷ ts)) ≡ true
+pub printed-spaced : (t : Token) (ts : Tokens) → list_all is_plain (t ∷ ts) ≡ true → list_all is_printed_byte (tokens_spaced (t ∷ ts)) ≡ true
 printed-spaced t ts h = printed-behind (t ∷ ts) h
 
 -- ---- bytes ----
@@ -109,7 +109,7 @@ no_forbidden_byte text l h = and_right (not (is_comment l)) _ (none_forbidden te
 -- ---- one line ----
 
 -- A line of tokens, of which the first has no stroke.
-pub row_step : (p : ℕ) (d : Spelt) (t : List ℕ) (ts : List (List ℕ)) → list_all is_plain (t ∷ ts) ≡ true → begins_with_slash t ≡ false → is_in_text d ≡ false
+pub row_step : (p : ℕ) (d : Spelt) (t : Token) (ts : Tokens) → list_all is_plain (t ∷ ts) ≡ true → begins_with_slash t ≡ false → is_in_text d ≡ false
     → after_line p d (tokens_spaced (t ∷ ts)) ≡ row_in d.section p d false (t ∷ ts)
 unfolding after_line
 row_step p d [] ts h slash out = absurd cc
@@ -128,7 +128,7 @@ row_step p d (b ∷ bs) ts h slash out =
     ) refl
 
 -- A line of tokens after spaces.
-pub more_step : (p : ℕ) (d : Spelt) (t : List ℕ) (ts : List (List ℕ)) → list_all is_plain (t ∷ ts) ≡ true → is_in_text d ≡ false
+pub more_step : (p : ℕ) (d : Spelt) (t : Token) (ts : Tokens) → list_all is_plain (t ∷ ts) ≡ true → is_in_text d ≡ false
     → after_line p d (after_spaces (t ∷ ts)) ≡ row_in d.section p d true (t ∷ ts)
 unfolding after_line
 more_step p d t ts h out =
@@ -137,7 +137,7 @@ more_step p d t ts h out =
     rw (no_forbidden_byte (is_text_line d l) l (printed-behind (t ∷ ts) h), text, tokens_of-behind t ts h) refl
 
 -- A line of tokens, of which the first begins with a stroke.
-pub slash_step : (p : ℕ) (d : Spelt) (bs : Bytes) (ts : List (List ℕ)) → list_all is_plain ((47 ∷ bs) ∷ ts) ≡ true
+pub slash_step : (p : ℕ) (d : Spelt) (bs : Bytes) (ts : Tokens) → list_all is_plain ((47 ∷ bs) ∷ ts) ≡ true
     → after_line p d (tokens_spaced ((47 ∷ bs) ∷ ts)) ≡ slash_line d (47 ∷ bs) (number bs) ts
 unfolding after_line
 slash_step p d bs ts h =

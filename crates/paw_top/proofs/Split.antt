@@ -3,24 +3,25 @@ use Rattle.std.proofs.Common.{◌≡◌, ℕ, Bool, true, false, not, ◌&&◌, 
 use Rattle.std.proofs.Common.{inl, inr}
 use Rattle.std.specs.List.{list_all, flat_map, slice_split, onto_first}
 use Rattle.std.proofs.lemmas.Bool.{and_parts, and_from, or_cases, or_parts, eqb-true, not-true, false≢true}
+use Rattle.paw_base.specs.Bytes.{Line, Text}
 use Rattle.paw_game.specs.Valid.{is_within, is_text_byte, begins_no_line, is_printed}
 use Rattle.paw_lex.specs.Bytes.{is_printed_byte as is_print, is_comment}
 use Rattle.paw_grammar.specs.Spells.{begins_with_slash}
 
 -- Lines with an LF between each two.
-abbrev pub rejoined : List (List ℕ) → List ℕ
+abbrev pub rejoined : List Line → Text
 rejoined [] = []
 rejoined (l ∷ ls) = l ++ flat_map (λ m. 10 ∷ m) ls
 
 -- The bytes between line ends.
-abbrev pub split : List ℕ → List (List ℕ)
+abbrev pub split : Text → List Line
 split s = slice_split (λ c. eqb c 10) s
 
 -- Lines, one at least.
-pub data HasLine (ls : List (List ℕ)) : Type 0 where
-  has_line : (l : List ℕ) (ms : List (List ℕ)) → ls ≡ l ∷ ms → HasLine ls
+pub data HasLine (ls : List Line) : Type 0 where
+  has_line : (l : Line) (ms : List Line) → ls ≡ l ∷ ms → HasLine ls
 
-onto_some : (b : ℕ) (ls : List (List ℕ)) → HasLine ls → HasLine (onto_first b ls)
+onto_some : (b : ℕ) (ls : List Line) → HasLine ls → HasLine (onto_first b ls)
 onto_some b ls (has_line l ms e) = has_line (b ∷ l) ms (ap (onto_first b) e)
 
 pub split_some : (s : List ℕ) → HasLine (split s)
@@ -31,10 +32,10 @@ split_some (b ∷ bs) =
       | false ↦ onto_some b (split bs) (split_some bs)
     ]
 
-rejoined-end : (ls : List (List ℕ)) → HasLine ls → rejoined ([] ∷ ls) ≡ 10 ∷ rejoined ls
+rejoined-end : (ls : List Line) → HasLine ls → rejoined ([] ∷ ls) ≡ 10 ∷ rejoined ls
 rejoined-end ls (has_line l ms e) = rw e refl
 
-rejoined-onto : (b : ℕ) (ls : List (List ℕ)) → HasLine ls → rejoined (onto_first b ls) ≡ b ∷ rejoined ls
+rejoined-onto : (b : ℕ) (ls : List Line) → HasLine ls → rejoined (onto_first b ls) ≡ b ∷ rejoined ls
 rejoined-onto b ls (has_line l ms e) = rw e refl
 
 pub rejoined-split : (s : List ℕ) → rejoined (split s) ≡ s
@@ -57,9 +58,9 @@ abbrev pub is_line : List ℕ → Bool
 is_line l = list_all is_print l && begins_well l
 
 -- Lines of which the first may be the rest of a line.
-record Lines (first : Bool) (ls : List (List ℕ)) : Type 0 where
-  head : List ℕ
-  others : List (List ℕ)
+record Lines (first : Bool) (ls : List Line) : Type 0 where
+  head : Line
+  others : List Line
   are : ls ≡ head ∷ others
   printed : list_all is_print head ≡ true
   begins : first ≡ true → begins_well head ≡ true
@@ -72,10 +73,10 @@ begins_here : (first : Bool) (b : ℕ) → not (first && begins_no_line b) ≡ t
 begins_here true b h e = h
 begins_here false b h e = absurd (false≢true e)
 
-all_lines : (ls : List (List ℕ)) → Lines true ls → list_all is_line ls ≡ true
+all_lines : (ls : List Line) → Lines true ls → list_all is_line ls ≡ true
 all_lines ls n = rw n.are (and_from _ _ (and_from _ _ n.printed (n.begins refl)) n.rest)
 
-lines_onto : (first : Bool) (b : ℕ) (ls : List (List ℕ)) → is_print b ≡ true →
+lines_onto : (first : Bool) (b : ℕ) (ls : List Line) → is_print b ≡ true →
     (first ≡ true → not (begins_no_line b) ≡ true) → Lines false ls → Lines first (onto_first b ls)
 lines_onto first b ls printed begins n = record {
   head = b ∷ n.head;

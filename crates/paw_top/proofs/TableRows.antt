@@ -7,6 +7,7 @@ use Rattle.std.specs.List.{list_all, flat_map}
 use Rattle.std.specs.Fmt.{decimal}
 use Rattle.std.proofs.lemmas.Bool.{and_parts, leb-true, lt-ltb, eq-eqb, ne_eqb}
 use Rattle.std.proofs.lemmas.List.{append_assoc, append-nil}
+use Rattle.paw_base.specs.Bytes.{Tokens}
 use Rattle.paw_base.specs.declared.limits.TheConstants.{ENTRY_LIMIT, CONDACT_LIMIT, TABLE_LIMIT}
 use Rattle.paw_base.specs.declared.words.TheConstants.{NOUN_CLASS}
 use Rattle.paw_base.specs.declared.fault.SourceKind.{SourceKind}
@@ -96,7 +97,7 @@ condacts_read p g exits ts es e done (c ∷ cs) s few h =
 -- ---- an entry ----
 
 -- Verb, noun.
-abbrev entry_tokens : List Word → Entry → List (List ℕ)
+abbrev entry_tokens : List Word → Entry → Tokens
 entry_tokens ws e = verb_token ws e.verb ∷ value_token ws NOUN_CLASS e.noun ∷ []
 
 -- What the line of an entry needs.

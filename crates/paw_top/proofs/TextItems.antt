@@ -5,7 +5,7 @@ use Rattle.std.proofs.Common.{arith, length-append}
 use Rattle.std.specs.List.{list_all, flat_map}
 use Rattle.std.proofs.lemmas.Bool.{and_parts, leb-true, le-ltb, lt-ltb, eq-eqb, ne_eqb}
 use Rattle.std.proofs.lemmas.List.{append_assoc, append-nil}
-use Rattle.paw_base.specs.Bytes.{Texts}
+use Rattle.paw_base.specs.Bytes.{Texts, Line, Lines, Text}
 use Rattle.paw_base.specs.declared.limits.TheConstants.{TEXT_LIMIT}
 use Rattle.paw_base.specs.declared.fault.SourceKind.{SourceKind}
 use Rattle.paw_game.specs.Valid.{is_text, is_printed}
@@ -31,7 +31,7 @@ use Rattle.paw_top.proofs.Split.{split_is_lines, TextLine, text_line_is}
 abbrev pub is_text_section : Section → Bool
 is_text_section s = ltb 0 (text_limit s)
 
-texts-with : (s : Section) (b : Bool) (ts : List (List ℕ)) (d : Spelt) → is_text_section s ≡ true →
+texts-with : (s : Section) (b : Bool) (ts : Texts) (d : Spelt) → is_text_section s ≡ true →
     (texts_of s (with_texts s b ts d) ≡ ts) × ((with_texts s b ts d).begun ≡ b)
 texts-with section.Before b ts d h = absurd cc
 texts-with section.Voc b ts d h = absurd cc
@@ -43,7 +43,7 @@ texts-with section.Con b ts d h = absurd cc
 texts-with section.Obj b ts d h = absurd cc
 texts-with section.Pro b ts d h = absurd cc
 
-section-with : (s : Section) (b : Bool) (ts : List (List ℕ)) (d : Spelt) → (with_texts s b ts d).section ≡ d.section
+section-with : (s : Section) (b : Bool) (ts : Texts) (d : Spelt) → (with_texts s b ts d).section ≡ d.section
 section-with section.Before b ts d = refl
 section-with section.Voc b ts d = refl
 section-with section.Stx b ts d = refl
@@ -54,7 +54,7 @@ section-with section.Con b ts d = refl
 section-with section.Obj b ts d = refl
 section-with section.Pro b ts d = refl
 
-with-with : (s : Section) (b c : Bool) (ts us : List (List ℕ)) (d : Spelt) → with_texts s c us (with_texts s b ts d) ≡ with_texts s c us d
+with-with : (s : Section) (b c : Bool) (ts us : Texts) (d : Spelt) → with_texts s c us (with_texts s b ts d) ≡ with_texts s c us d
 with-with section.Before b c ts us d = refl
 with-with section.Voc b c ts us d = refl
 with-with section.Stx b c ts us d = refl
@@ -89,7 +89,7 @@ small_limit section.Pro = omega arith
 
 -- ---- one line of a text ----
 
-in_text : (s : Section) (b : Bool) (before : List (List ℕ)) (t : List ℕ) (d : Spelt) → d.section ≡ s →
+in_text : (s : Section) (b : Bool) (before : Texts) (t : Text) (d : Spelt) → d.section ≡ s →
     is_text_section s ≡ true → is_in_text (with_texts s b (before ++ t ∷ []) d) ≡ true
 in_text s b before t d at text =
     let some : eqb (length (before ++ t ∷ [])) 0 ≡ false = ne_eqb _ 0 (λ e. omega (arith, length-append before (t ∷ []))) in
@@ -98,17 +98,17 @@ in_text s b before t d at text =
     ap (λ x. not (eqb (length (texts_of x e)) 0)) here
     ∙ rw ((texts-with s b (before ++ t ∷ []) d text).0, some) refl
 
-line_joined : (b : Bool) (before : List (List ℕ)) (t l : List ℕ) → length (with_line b t l) ≤ TEXT_LIMIT →
+line_joined : (b : Bool) (before : Texts) (t : Text) (l : Line) → length (with_line b t l) ≤ TEXT_LIMIT →
     text_line b l (before ++ t ∷ []) ≡ Ok (before ++ with_line b t l ∷ [])
 line_joined b before t l short =
     let within : ltb TEXT_LIMIT (length (with_line b t l)) ≡ false = le-ltb TEXT_LIMIT (length (with_line b t l)) short in
     rw (last_or-push [] before t, within, with_last-push (with_line b t l) before t) refl
 
-line_step : (p : ℕ) (s : Section) (b : Bool) (d : Spelt) (before : List (List ℕ)) (t l : List ℕ) → d.section ≡ s →
+line_step : (p : ℕ) (s : Section) (b : Bool) (d : Spelt) (before : Texts) (t : Text) (l : Line) → d.section ≡ s →
     is_text_section s ≡ true → TextLine l → length (with_line b t l) ≤ TEXT_LIMIT
     → LineReads p (with_texts s b (before ++ t ∷ []) d) l (with_texts s true (before ++ with_line b t l ∷ []) d)
 line_step p s b d before t l at text line short =
-    let ts : List (List ℕ) = before ++ t ∷ [] in
+    let ts : Texts = before ++ t ∷ [] in
     let e : Spelt = with_texts s b ts d in
     let here : e.section ≡ s = section-with s b ts d ∙ at in
     record {
@@ -117,14 +117,14 @@ line_step p s b d before t l at text line short =
           text_step p e l line.printed line.slash line.comment (in_text s b before t d at text)
           ∙ ap (λ x. text_line e.begun l (texts_of x e) >>= λ us. Ok (with_texts x true us e)) here
           ∙ ap (λ x. text_line x l (texts_of s e) >>= λ us. Ok (with_texts s true us e)) (texts-with s b ts d text).1
-          ∙ ap (λ (us : List (List ℕ)). text_line b l us >>= λ vs. Ok (with_texts s true vs e)) (texts-with s b ts d text).0
-          ∙ ap (λ (r : Result (List (List ℕ)) SourceKind). r >>= λ vs. Ok (with_texts s true vs e)) (line_joined b before t l short)
+          ∙ ap (λ (us : Texts). text_line b l us >>= λ vs. Ok (with_texts s true vs e)) (texts-with s b ts d text).0
+          ∙ ap (λ (r : Result Texts SourceKind). r >>= λ vs. Ok (with_texts s true vs e)) (line_joined b before t l short)
           ∙ ap Ok (with-with s b true ts (before ++ with_line b t l ∷ []) d);
     }
 
 -- ---- a text ----
 
-more_lines : (p : ℕ) (s : Section) (d : Spelt) (before : List (List ℕ)) (t : List ℕ) (ls : List (List ℕ)) → d.section ≡ s → is_text_section s ≡ true
+more_lines : (p : ℕ) (s : Section) (d : Spelt) (before : Texts) (t : Text) (ls : Lines) → d.section ≡ s → is_text_section s ≡ true
     → list_all is_line ls ≡ true → length (t ++ flat_map (λ m. 10 ∷ m) ls) ≤ TEXT_LIMIT
     → Reads p (with_texts s true (before ++ t ∷ []) d) ls (with_texts s true (before ++ (t ++ flat_map (λ m. 10 ∷ m) ls) ∷ []) d)
 more_lines p s d before t [] at text lines short = rw (append-nil t) (reads_none p (with_texts s true (before ++ t ∷ []) d))
@@ -138,10 +138,10 @@ more_lines p s d before t (l ∷ ls) at text lines short =
     (rw same at (more_lines p s d before (t ++ 10 ∷ l) ls at text both.1 whole))
 
 -- A state in which the texts are these.
-abbrev pub Then : ℕ → Section → Spelt → Spelt → List (List ℕ) → List (List ℕ) → Type 0
+abbrev pub Then : ℕ → Section → Spelt → Spelt → Lines → Texts → Type 0
 Then p s d e lines texts = (b : Bool) × Reads p e lines (with_texts s b texts d)
 
-whole_text : (p : ℕ) (s : Section) (d : Spelt) (before : List (List ℕ)) (t : List ℕ) (ls : List (List ℕ)) → d.section ≡ s → is_text_section s ≡ true
+whole_text : (p : ℕ) (s : Section) (d : Spelt) (before : Texts) (t : Text) (ls : Lines) → d.section ≡ s → is_text_section s ≡ true
     → HasLine ls → list_all is_line ls ≡ true → rejoined ls ≡ t → length t ≤ TEXT_LIMIT →
     Then p s d (with_texts s false (before ++ [] ∷ []) d) ls (before ++ t ∷ [])
 whole_text p s d before t ls at text (has_line l ms are) lines is short =
@@ -155,7 +155,7 @@ whole_text p s d before t ls at text (has_line l ms are) lines is short =
           (rw same at (more_lines p s d before l ms at text both.1 whole)),
     )
 
-text_read : (p : ℕ) (s : Section) (d : Spelt) (before : List (List ℕ)) (t : List ℕ) → d.section ≡ s → is_text_section s ≡ true → is_text t ≡ true
+text_read : (p : ℕ) (s : Section) (d : Spelt) (before : Texts) (t : Text) → d.section ≡ s → is_text_section s ≡ true → is_text t ≡ true
     → Then p s d (with_texts s false (before ++ [] ∷ []) d) (lines_of_text t) (before ++ t ∷ [])
 text_read p s d before [] at text h = (false, reads_none p (with_texts s false (before ++ [] ∷ []) d))
 text_read p s d before (b ∷ bs) at text h =
@@ -165,7 +165,7 @@ text_read p s d before (b ∷ bs) at text h =
 
 -- ---- items ----
 
-item_step : (p : ℕ) (s : Section) (b : Bool) (d : Spelt) (before : List (List ℕ)) (n : ℕ) → d.section ≡ s →
+item_step : (p : ℕ) (s : Section) (b : Bool) (d : Spelt) (before : Texts) (n : ℕ) → d.section ≡ s →
     is_text_section s ≡ true → n ≡ length before → n < text_limit s
     → LineReads p (with_texts s b before d) (item_token n) (with_texts s false (before ++ [] ∷ []) d)
 item_step p s b d before n at text is room =
@@ -180,12 +180,12 @@ item_step p s b d before n at text is room =
           item_begins p e n small
           ∙ ap (λ x. item_in x e n) here
           ∙ item_in-text s e n text
-          ∙ ap (λ (us : List (List ℕ)). text_item (text_limit s) n us >>= λ vs. Ok (with_texts s false vs e)) (texts-with s b before d text).0
+          ∙ ap (λ (us : Texts). text_item (text_limit s) n us >>= λ vs. Ok (with_texts s false vs e)) (texts-with s b before d text).0
           ∙ rw (next, below) (ap Ok (with-with s b false before (before ++ [] ∷ []) d));
     }
 
 -- The items of texts after those that were read.
-pub items_read : (p : ℕ) (s : Section) (b : Bool) (d : Spelt) (before : List (List ℕ)) (n : ℕ) (texts : Texts) →
+pub items_read : (p : ℕ) (s : Section) (b : Bool) (d : Spelt) (before : Texts) (n : ℕ) (texts : Texts) →
     d.section ≡ s → is_text_section s ≡ true
     → n ≡ length before → length (before ++ texts) ≤ text_limit s → list_all is_text texts ≡ true →
     Then p s d (with_texts s b before d) (numbered_lines text_lines n texts) (before ++ texts)

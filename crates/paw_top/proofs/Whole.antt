@@ -5,7 +5,7 @@ use Rattle.std.specs.Prelude.{codes}
 use Rattle.std.specs.List.{list_all, count_by}
 use Rattle.std.proofs.Math.ListN.{length-map}
 use Rattle.std.proofs.lemmas.Bool.{and_parts, and_from, leb-true, le-ltb, eqb-true, ne_eqb}
-use Rattle.paw_base.specs.Bytes.{Name}
+use Rattle.paw_base.specs.Bytes.{Name, Lines, Texts}
 use Rattle.paw_base.specs.declared.limits.TheConstants.{IMAGE_LIMIT, LOCATION_LIMIT, SOURCE_LIMIT, WORD_LIMIT}
 use Rattle.paw_base.specs.declared.limits.TheConstants.{OBJECT_LIMIT, SYSTEM_LIMIT, MESSAGE_LIMIT, TABLE_LEAST}
 use Rattle.paw_base.specs.declared.limits.TheConstants.{TABLE_LIMIT}
@@ -108,7 +108,7 @@ texts_of_objects ws locations (o ∷ os) h =
 -- ---- sections ----
 
 -- After lines that are read, a section of texts.
-texts_read : (p : ℕ) (s : Section) (name : Name) (d : Spelt) (before texts : List (List ℕ)) → Reads p nothing_yet before d →
+texts_read : (p : ℕ) (s : Section) (name : Name) (d : Spelt) (before : Lines) (texts : Texts) → Reads p nothing_yet before d →
     LineReads p d name (section_opened s d) → with_texts s false [] (section_opened s d) ≡ section_opened s d → is_text_section s ≡ true
     → length texts ≤ text_limit s → list_all is_text texts ≡ true → (b : Bool)
     × Reads p nothing_yet (before ++ texts_lines name texts) (with_texts s b texts (section_opened s d))
@@ -147,13 +147,13 @@ record WholeRead (p : ℕ) (g : GameLists) : Type 0 where
 whole_read : (p : ℕ) (g : GameLists) → Rules g → Small p g → WholeRead p g
 unfolding canonical_lines
 whole_read p g r s =
-    let names : List (List ℕ) = map (λ (o : ObjectRow). o.text) g.objects in
+    let names : Texts = map (λ (o : ObjectRow). o.text) g.objects in
     let as_many = length-map g.objects (λ (o : ObjectRow). o.text) in
     let names_few : length names ≤ OBJECT_LIMIT = omega (arith, as_many, r.few_objects) in
     -- The words.
     let d0 : Spelt = section_opened section.Voc nothing_yet in
     let d1 : Spelt = record d0 { words = g.words } in
-    let l1 : List (List ℕ) = words_lines g.words in
+    let l1 : Lines = words_lines g.words in
     let r1 : Reads p nothing_yet l1 d1 =
     reads_line p nothing_yet d0 d1 (codes "/VOC") (map (λ (w : Word). tokens_spaced (word_tokens w)) g.words)
     (header_reads p nothing_yet section.Before refl tt)
@@ -161,17 +161,17 @@ whole_read p g r s =
     -- The texts.
     let t2 = texts_read p section.Stx (codes "/STX") d1 l1 g.system r1 (header_reads p d1 section.Voc refl tt) refl refl r.few_system r.system in
     let d2 : Spelt = with_texts section.Stx t2.0 g.system (section_opened section.Stx d1) in
-    let l2 : List (List ℕ) = l1 ++ texts_lines (codes "/STX") g.system in
+    let l2 : Lines = l1 ++ texts_lines (codes "/STX") g.system in
     let t3 = texts_read p section.Mtx (codes "/MTX") d2 l2 g.messages t2.1 (header_reads p d2 section.Stx refl tt) refl refl r.few_messages r.messages in
     let d3 : Spelt = with_texts section.Mtx t3.0 g.messages (section_opened section.Mtx d2) in
-    let l3 : List (List ℕ) = l2 ++ texts_lines (codes "/MTX") g.messages in
+    let l3 : Lines = l2 ++ texts_lines (codes "/MTX") g.messages in
     let all_names = texts_of_objects g.words (length g.locations) g.objects r.objects in
     let t4 = texts_read p section.Otx (codes "/OTX") d3 l3 names t3.1 (header_reads p d3 section.Mtx refl tt) refl refl names_few all_names in
     let d4 : Spelt = with_texts section.Otx t4.0 names (section_opened section.Otx d3) in
-    let l4 : List (List ℕ) = l3 ++ texts_lines (codes "/OTX") names in
+    let l4 : Lines = l3 ++ texts_lines (codes "/OTX") names in
     let t5 = texts_read p section.Ltx (codes "/LTX") d4 l4 g.locations t4.1 (header_reads p d4 section.Otx refl tt) refl refl r.few_locations r.locations in
     let d5 : Spelt = with_texts section.Ltx t5.0 g.locations (section_opened section.Ltx d4) in
-    let l5 : List (List ℕ) = l4 ++ texts_lines (codes "/LTX") g.locations in
+    let l5 : Lines = l4 ++ texts_lines (codes "/LTX") g.locations in
     -- The exits.
     let some : eqb (length g.locations) 0 ≡ false = ne_eqb (length g.locations) 0 (λ e. omega (arith, r.some_locations)) in
     let c5 : Spelt = section_opened section.Con d5 in
@@ -180,7 +180,7 @@ whole_read p g r s =
     let m : length g.locations ≡ 0 + length g.exits = omega (arith, r.one_each) in
     let x6 = locations_read p c5 [] [] 0 (length g.locations) g.exits refl scene5 none refl m (omega arith) r.exits in
     let d6 : Spelt = record c5 { exits = x6.exits } in
-    let con : List (List ℕ) = exits_lines g.words g.exits in
+    let con : Lines = exits_lines g.words g.exits in
     let t6 : Reads p d5 con d6 =
     reads_line p d5 c5 d6 (codes "/CON") (numbered_lines (location_lines g.words) 0 g.exits) (exits_header_reads p d5 refl some) x6.reads in
     let r6 : Reads p nothing_yet (l5 ++ con) d6 = reads_append p nothing_yet d5 d6 l5 con t5.1 t6 in
@@ -189,15 +189,15 @@ whole_read p g r s =
     let scene6 : Scene c6 = record { words = s.words; few = r.few_locations } in
     let rows : 0 + length g.objects ≤ length names = omega (arith, as_many) in
     let d7 : Spelt = record c6 { facts = map (λ (o : ObjectRow). o.facts) g.objects } in
-    let obj : List (List ℕ) = objects_lines g.words g.objects in
+    let obj : Lines = objects_lines g.words g.objects in
     let t7 : Reads p d6 obj d7 =
     reads_line p d6 c6 d7 (codes "/OBJ") (numbered_lines (λ n (o : ObjectRow). tokens_spaced (object_tokens g.words n o.facts) ∷ []) 0 g.objects)
     (header_reads p d6 section.Con refl tt) (objects_read p c6 [] 0 g.objects refl scene6 refl rows names_few r.objects) in
-    let l7 : List (List ℕ) = l5 ++ con ++ obj in
+    let l7 : Lines = l5 ++ con ++ obj in
     let r7 : Reads p nothing_yet l7 d7 = reads_append p nothing_yet d6 d7 (l5 ++ con) obj r6 t7 in
     -- The tables.
     let e : Spelt = spelt_of g x6.exits g.tables in
-    let pro : List (List ℕ) = numbered_lines (table_lines g.words) 0 g.tables in
+    let pro : Lines = numbered_lines (table_lines g.words) 0 g.tables in
     let t8 : Reads p d7 pro e = tables_section p g false x6.exits g.tables s r.some_tables r.few_tables r.tables in
     record { exits = x6.exits; reads = reads_append p nothing_yet d7 e l7 pro r7 t8; filled = x6.filled }
 
@@ -236,4 +236,4 @@ unfolding game_spelled
 spells_itself counts = λ g v within short.
     let r = rules g v in
     let fits : ltb SOURCE_LIMIT (length (canonical_of g)) ≡ false = le-ltb _ _ short in
-    rw fits (ap (λ (ls : List (List ℕ)). spelled_after (count_by begins_table ls) 0 nothing_yet ls) (lines_are g r) ∙ read_again counts g r within)
+    rw fits (ap (λ (ls : Lines). spelled_after (count_by begins_table ls) 0 nothing_yet ls) (lines_are g r) ∙ read_again counts g r within)

@@ -11,6 +11,7 @@ use Rattle.std.proofs.lemmas.Bool.{and_parts, leb-true, ne_eqb}
 use Rattle.std.proofs.lemmas.Cmp.{nat_list_cmp_total}
 use Rattle.std.proofs.lemmas.List.{append_assoc, append-nil}
 use Rattle.std.proofs.lemmas.Map.Text.{is_eq-slice_cmp}
+use Rattle.paw_base.specs.Bytes.{Tokens}
 use Rattle.paw_base.specs.declared.limits.TheConstants.{WORD_LIMIT}
 use Rattle.paw_base.specs.declared.words.TheConstants.{LEAST_WORD, GREATEST_WORD, PRONOUN_CLASS}
 use Rattle.paw_base.specs.declared.fault.SourceKind.{SourceKind}
@@ -72,7 +73,7 @@ put_last (v ∷ vs) w ws h =
 -- ---- a row ----
 
 -- Letters, value, class.
-abbrev pub word_tokens : Word → List (List ℕ)
+abbrev pub word_tokens : Word → Tokens
 word_tokens w = spelled_letters w ∷ decimal w.value ∷ class_name w.class ∷ []
 
 -- The row of a word.

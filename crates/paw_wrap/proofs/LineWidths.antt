@@ -1,19 +1,19 @@
 -- How long the lines of a wrapped text are.
-use Rattle.std.proofs.Common.{◌≡◌, ℕ, suc, ◌≤◌, ◌+◌, Bool, true, false, eqb, ◌||◌, List, [], ◌∷◌, length, drop, get_or}
+use Rattle.std.proofs.Common.{◌≡◌, ℕ, suc, ◌≤◌, ◌+◌, Bool, true, false, eqb, ◌||◌, [], ◌∷◌, length, drop, get_or}
 use Rattle.std.proofs.Common.{refl, sym, ap, ◌∙◌, inl, inr, arith}
 use Rattle.std.specs.List.{AllByRecursion, list_any, slice_split, onto_first}
-use Rattle.paw_base.specs.Bytes.{Bytes, Text}
+use Rattle.paw_base.specs.Bytes.{Bytes, Text, Line, Lines}
 use Rattle.paw_wrap.specs.FirstFit.{space, line_feed, word_length, breaks_from, FitsLine}
 use Rattle.paw_wrap.proofs.Breaking.{NextBreak, step, left_true}
 use Rattle.paw_wrap.proofs.Undoing.{wrapped, wrapped-kept, wrapped-broken}
 
-abbrev pub lines : List ℕ → List (List ℕ)
+abbrev pub lines : Text → Lines
 lines bytes = slice_split (λ b. eqb b line_feed) bytes
 
-abbrev pub has_space : List ℕ → Bool
+abbrev pub has_space : Line → Bool
 has_space line = list_any (λ b. eqb b space) line
 
-abbrev pub first_line : List (List ℕ) → List ℕ
+abbrev pub first_line : Lines → Line
 first_line ls = get_or ls 0 []
 
 both_false : (x y : Bool) → x || y ≡ false → (x ≡ false) × (y ≡ false)
@@ -26,20 +26,20 @@ lines-line_feed b bs e = rw e refl
 pub lines-other : (b : ℕ) (bs : Bytes) → eqb b line_feed ≡ false → lines (b ∷ bs) ≡ onto_first b (lines bs)
 lines-other b bs e = rw e refl
 
-pub first_line-onto : (b : ℕ) (ls : List (List ℕ)) → first_line (onto_first b ls) ≡ b ∷ first_line ls
+pub first_line-onto : (b : ℕ) (ls : Lines) → first_line (onto_first b ls) ≡ b ∷ first_line ls
 first_line-onto b [] = refl
 first_line-onto b (l ∷ ls) = refl
 
-pub drop-onto : (b : ℕ) (ls : List (List ℕ)) → drop 1 (onto_first b ls) ≡ drop 1 ls
+pub drop-onto : (b : ℕ) (ls : Lines) → drop 1 (onto_first b ls) ≡ drop 1 ls
 drop-onto b [] = refl
 drop-onto b (l ∷ ls) = refl
 
 -- Each line fits, where `before` bytes stand before the first.
-pub record FitsBehind (w before : ℕ) (ls : List (List ℕ)) : Type 0 where
+pub record FitsBehind (w before : ℕ) (ls : Lines) : Type 0 where
   pub first : has_space (first_line ls) ≡ true → before + length (first_line ls) ≤ w
   pub rest : AllByRecursion (FitsLine w) (drop 1 ls)
 
-pub fits_all : (w : ℕ) (ls : List (List ℕ)) → FitsBehind w 0 ls → AllByRecursion (FitsLine w) ls
+pub fits_all : (w : ℕ) (ls : Lines) → FitsBehind w 0 ls → AllByRecursion (FitsLine w) ls
 fits_all w [] f = tt
 fits_all w (l ∷ ls) f = (
   elim (has_space l) as (λ v. has_space l ≡ v → FitsLine w l) [
@@ -49,7 +49,7 @@ fits_all w (l ∷ ls) f = (
   f.rest,
 )
 
-pub fits_behind : (w : ℕ) (ls : List (List ℕ)) → AllByRecursion (FitsLine w) ls → FitsBehind w 0 ls
+pub fits_behind : (w : ℕ) (ls : Lines) → AllByRecursion (FitsLine w) ls → FitsBehind w 0 ls
 fits_behind w [] f = record { first = λ never. absurd (cc); rest = tt }
 fits_behind w (l ∷ ls) (inl h, more) = record { first = λ _. omega (arith, h); rest = more }
 fits_behind w (l ∷ ls) (inr none, more) = record { first = λ some. absurd (cc); rest = more }

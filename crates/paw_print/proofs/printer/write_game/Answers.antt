@@ -1,6 +1,6 @@
-use Rattle.std.proofs.Common.{◌≡◌, ℕ, List, ◌++◌, ◌∙◌, ap, map}
+use Rattle.std.proofs.Common.{◌≡◌, List, ◌++◌, ◌∙◌, ap, map}
 use Rattle.std.specs.Prelude.{codes}
-use Rattle.paw_base.specs.Bytes.{Tokens}
+use Rattle.paw_base.specs.Bytes.{Lines, Texts}
 use Rattle.paw_game.specs.declared.parts.Word.{Word}
 use Rattle.paw_game.specs.declared.parts.Exit.{Exit}
 use Rattle.paw_game.specs.declared.parts.Entry.{Entry}
@@ -10,7 +10,7 @@ use Rattle.paw_print.specs.Canonical.{table_lines, numbered_lines, with_line_end
 use Rattle.paw_print.proofs.Growing.{written_more, written_last}
 use Rattle.paw_print.proofs.printer.write_game.Goals as goal
 
-abbrev tables_lines : List Word → List (List Entry) → List (List ℕ)
+abbrev tables_lines : List Word → List (List Entry) → Lines
 tables_lines ws tables = numbered_lines (table_lines ws) 0 tables
 
 pub returns : goal.returns
@@ -37,15 +37,15 @@ returns c =
     let to_objects = to_exits ++ objects_lines g.words g.objects in
     let w_words = c.in_ok-write_words.ensures.writes ∙ ap (λ (ws : List Word). before ++ with_line_ends (words_lines ws)) words in
     let w_system = written_more before _ _ _ to_words (texts_lines (codes "/STX") g.system) w_words c.in_ok-write_texts.ensures.writes
-    (ap (λ (ts : Tokens). with_line_ends (texts_lines (codes "/STX") ts)) system) in
+    (ap (λ (ts : Texts). with_line_ends (texts_lines (codes "/STX") ts)) system) in
     let w_messages = written_more before _ _ _ to_system (texts_lines (codes "/MTX") g.messages) w_system c.in_ok-write_texts-2.ensures.writes
-    (ap (λ (ts : Tokens). with_line_ends (texts_lines (codes "/MTX") ts)) messages) in
+    (ap (λ (ts : Texts). with_line_ends (texts_lines (codes "/MTX") ts)) messages) in
     let w_names =
     written_more before _ _ _ to_messages (texts_lines (codes "/OTX") (map (λ (o : ObjectRow). o.text) g.objects))
     w_messages c.in_ok-write_object_texts.ensures.writes
     (ap (λ (os : List ObjectRow). with_line_ends (texts_lines (codes "/OTX") (map (λ (o : ObjectRow). o.text) os))) names) in
     let w_locations = written_more before _ _ _ to_names (texts_lines (codes "/LTX") g.locations) w_names c.in_ok-write_texts-3.ensures.writes
-    (ap (λ (ts : Tokens). with_line_ends (texts_lines (codes "/LTX") ts)) locations) in
+    (ap (λ (ts : Texts). with_line_ends (texts_lines (codes "/LTX") ts)) locations) in
     let w_exits = written_more before _ _ _ to_locations (exits_lines g.words g.exits) w_locations c.in_ok-write_exits.ensures.writes
     (ap (λ (xs : List (List Exit)). with_line_ends (exits_lines vocabulary xs)) exits
     ∙ ap (λ (ws : List Word). with_line_ends (exits_lines ws g.exits)) words) in

@@ -1,4 +1,4 @@
-use Rattle.std.proofs.Common.{ℕ, List, [], ◌∷◌, ◌++◌, ◌∙◌, sym, ap, arith}
+use Rattle.std.proofs.Common.{ℕ, [], ◌∷◌, ◌++◌, ◌∙◌, sym, ap, arith}
 use Rattle.std.specs.Prelude.{codes}
 use Rattle.std.proofs.lemmas.List.{take_all}
 use Rattle.paw_base.specs.Bytes.{Lines}
@@ -8,7 +8,7 @@ use Rattle.paw_print.specs.Canonical.{numbered_lines, with_line_ends}
 use Rattle.paw_print.proofs.Growing.{numbered_more, numbered-map}
 use Rattle.paw_print.proofs.texts.write_object_texts.Goals as goal
 
-abbrev text_rows : ℕ → ObjectRow → List (List ℕ)
+abbrev text_rows : ℕ → ObjectRow → Lines
 text_rows n o = text_lines n o.text
 
 pub loop-number-preserved : goal.loop-number-preserved
