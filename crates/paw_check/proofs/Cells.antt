@@ -14,21 +14,21 @@ use Rattle.paw_game.specs.declared.parts.Entry.{Entry}
 use Rattle.paw_game.specs.Game.{GameLists}
 use Rattle.paw_game.specs.Tables.{table_at}
 use Rattle.paw_check.specs.Costs.{counting, passed_over, with_call}
-use Rattle.paw_check.specs.inner.Capped.{HoldsCapped, in_32_bits, cell_at, condacts_of_entries, entries_take}
+use Rattle.paw_check.specs.inner.Capped.{HoldsCapped, in_32_bits, cell_at, condacts_of_entries, entries_take, VerbCosts}
 use Rattle.paw_check.specs.inner.Levels.{HoldsLevel}
 use Rattle.paw_check.proofs.Capped.{add_alike, product_alike, from_capped}
 use Rattle.paw_check.proofs.FoundLaws.{cell_past}
 
 -- What rows hold of the tables before a number.
-pub record HoldBefore (objects : ℕ) (own : Condact → ℕ) (changing : Bool) (tables : List (List Entry)) (called rows : List (List ℕ)) (n : ℕ) : Type 0 where
+pub record HoldBefore (objects : ℕ) (own : Condact → ℕ) (changing : Bool) (tables : List (List Entry)) (called rows : VerbCosts) (n : ℕ) : Type 0 where
   pub long : length rows ≡ n
   pub each : (t v : ℕ) → t < n → v < 256 → cell_at rows t v
       ≡ in_32_bits (entries_take objects (with_call own (λ u. cell_at called u v)) changing v (get_or tables t []))
 
-cell_is : (rows : List (List ℕ)) (t v : ℕ) → cell_at rows t v ≡ slice_index_or (get_or rows t []) v 0
+cell_is : (rows : VerbCosts) (t v : ℕ) → cell_at rows t v ≡ slice_index_or (get_or rows t []) v 0
 cell_is rows t v = ap (λ (row : List ℕ). slice_index_or row v 0) (unwrap_or-slice_get rows t [])
 
-pub before_more : (objects : ℕ) (own : Condact → ℕ) (changing : Bool) (tables : List (List Entry)) (called rows : List (List ℕ))
+pub before_more : (objects : ℕ) (own : Condact → ℕ) (changing : Bool) (tables : List (List Entry)) (called rows : VerbCosts)
     (n : ℕ) (row : List ℕ) (es : List Entry)
     → HoldBefore objects own changing tables called rows n → es ≡ get_or tables n []
     → HoldsCapped row (λ v. entries_take objects (with_call own (λ u. cell_at called u v)) changing v es)
@@ -63,7 +63,7 @@ none_taken g t changing v u past =
     ap (λ found. passed_over g t (condacts_of_entries (counting changing v (unwrap_or found [])))) (slice_get_past g.tables u past)
     ∙ mul-zero _
 
-pub before_all : (g : GameLists) (objects : ℕ) (own : Condact → ℕ) (changing : Bool) (called rows : List (List ℕ)) (n : ℕ)
+pub before_all : (g : GameLists) (objects : ℕ) (own : Condact → ℕ) (changing : Bool) (called rows : VerbCosts) (n : ℕ)
     → objects ≡ in_32_bits (length g.objects) → length g.tables ≤ n
     → HoldBefore objects own changing g.tables called rows n → HoldsLevel g own changing called rows
 before_all g objects own changing called rows n many whole so = λ t v small. elim (cases_lt t n) [
@@ -76,7 +76,7 @@ before_all g objects own changing called rows n many whole so = λ t v small. el
       ∙ ap in_32_bits (sym (none_taken g (with_call own (λ u. cell_at called u v)) changing v t (omega (arith, high, whole))))
 ]
 
-pub before_none : (objects : ℕ) (own : Condact → ℕ) (changing : Bool) (tables : List (List Entry)) (called : List (List ℕ))
+pub before_none : (objects : ℕ) (own : Condact → ℕ) (changing : Bool) (tables : List (List Entry)) (called : VerbCosts)
     → HoldBefore objects own changing tables called [] 0
 before_none objects own changing tables called = record {
   long = refl;

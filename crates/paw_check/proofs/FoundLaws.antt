@@ -12,7 +12,7 @@ use Rattle.paw_check.specs.Calls.{is_call_of}
 use Rattle.paw_check.specs.Costs.{with_call, counting}
 use Rattle.paw_check.specs.declared.sums.TableSums.{TableSums}
 use Rattle.paw_check.specs.inner.Capped.{HoldsCapped, in_32_bits, cell_at, dot, is_doall, over_every, over_verb}
-use Rattle.paw_check.specs.inner.Capped.{condacts_of_entries, entries_take}
+use Rattle.paw_check.specs.inner.Capped.{condacts_of_entries, entries_take, VerbCosts}
 use Rattle.paw_check.specs.inner.Found.{IsFound, found_sum, found_taken}
 use Rattle.paw_check.proofs.Capped.{add_alike, product_alike, from_capped}
 use Rattle.paw_check.proofs.Entries.{counting_parts, every_parts}
@@ -27,11 +27,11 @@ range_alike f h a (suc n) same =
     ∙ ap in_32_bits (sym (sum_by-cons h a (range_with_len (a + 1) n)))
 
 -- Past the last table nothing is taken.
-pub cell_past : (rows : List (List ℕ)) (u v : ℕ) → length rows ≤ u → cell_at rows u v ≡ 0
+pub cell_past : (rows : VerbCosts) (u v : ℕ) → length rows ≤ u → cell_at rows u v ≡ 0
 cell_past rows u v past = ap (λ row. slice_index_or (unwrap_or row []) v 0) (slice_get_past rows u past)
 
 -- How many loops the entries that count for a verb open.
-doalls_alike : (x : TableSums) (takes : Condact → ℕ) (changing : Bool) (called : List (List ℕ)) (es : List Entry) (v : ℕ)
+doalls_alike : (x : TableSums) (takes : Condact → ℕ) (changing : Bool) (called : VerbCosts) (es : List Entry) (v : ℕ)
     → IsFound x takes changing called es → v < 256
     → in_32_bits (x.doalls + slice_index_or x.verb_doalls v 0) ≡ in_32_bits (count_by is_doall (condacts_of_entries (counting changing v es)))
 doalls_alike x takes changing called es v is low =
@@ -40,7 +40,7 @@ doalls_alike x takes changing called es v is low =
     ∙ ap in_32_bits (sym (counting_parts changing v (λ (c : Condact). cond (is_doall c) 1 0) es))
 
 -- What the tables take that the entries for every verb call.
-calls_alike : (x : TableSums) (takes : Condact → ℕ) (changing : Bool) (called : List (List ℕ)) (es : List Entry) (v : ℕ)
+calls_alike : (x : TableSums) (takes : Condact → ℕ) (changing : Bool) (called : VerbCosts) (es : List Entry) (v : ℕ)
     → IsFound x takes changing called es → length called ≤ 256
     → in_32_bits (dot x.calls called v)
     ≡ in_32_bits (sum_by (λ u. over_every changing (count_by (is_call_of u)) es * cell_at called u v) (range_with_len 0 (length called)))
@@ -49,7 +49,7 @@ calls_alike x takes changing called es v is few =
     product_alike _ _ (cell_at called u v) (cell_at called u v) (from_capped _ _ (is.calls.each u (omega (arith, low, few)))) refl)
 
 -- What their condacts take.
-sum_alike : (x : TableSums) (takes : Condact → ℕ) (changing : Bool) (called : List (List ℕ)) (es : List Entry) (v : ℕ)
+sum_alike : (x : TableSums) (takes : Condact → ℕ) (changing : Bool) (called : VerbCosts) (es : List Entry) (v : ℕ)
     → IsFound x takes changing called es → length called ≤ 256 → v < 256
     → in_32_bits (found_sum x called v)
     ≡ in_32_bits (sum_by (with_call takes (λ u. cell_at called u v)) (condacts_of_entries (counting changing v es)))
@@ -65,7 +65,7 @@ sum_alike x takes changing called es v is few low =
     ∙ ap in_32_bits (sym (counting_parts changing v t es))
 
 -- What their reading takes.
-pub found_is : (objects : ℕ) (x : TableSums) (takes : Condact → ℕ) (changing : Bool) (called : List (List ℕ)) (es : List Entry) (v : ℕ)
+pub found_is : (objects : ℕ) (x : TableSums) (takes : Condact → ℕ) (changing : Bool) (called : VerbCosts) (es : List Entry) (v : ℕ)
     → IsFound x takes changing called es → length called ≤ 256 → v < 256
     → in_32_bits (found_taken objects x called v)
     ≡ in_32_bits (entries_take objects (with_call takes (λ u. cell_at called u v)) changing v es)
@@ -75,7 +75,7 @@ found_is objects x takes changing called es v is few low =
     (sum_alike x takes changing called es v is few low)
 
 -- And so for each verb.
-pub found_holds : (objects : ℕ) (row : List ℕ) (x : TableSums) (takes : Condact → ℕ) (changing : Bool) (called : List (List ℕ)) (es : List Entry)
+pub found_holds : (objects : ℕ) (row : List ℕ) (x : TableSums) (takes : Condact → ℕ) (changing : Bool) (called : VerbCosts) (es : List Entry)
     → IsFound x takes changing called es → length called ≤ 256 → HoldsCapped row (found_taken objects x called)
     → HoldsCapped row (λ v. entries_take objects (with_call takes (λ u. cell_at called u v)) changing v es)
 found_holds objects row x takes changing called es is few holds = record {

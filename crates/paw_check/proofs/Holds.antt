@@ -3,7 +3,7 @@ use Rattle.std.proofs.Common.{◌≡◌, ℕ, zero, suc, ◌+◌, ◌*◌, ◌�
 use Rattle.std.proofs.Common.{refl, arith}
 use Rattle.std.specs.Prelude.{if◌then◌else◌, nat_lt, sum_by, All}
 use Rattle.std.proofs.lemmas.Bool.{ltb-false}
-use Rattle.paw_base.specs.Bytes.{Seed}
+use Rattle.paw_base.specs.Bytes.{Seed, Lines}
 use Rattle.paw_base.specs.declared.limits.TheConstants.{READ_LIMIT, PIECE_LIMIT}
 use Rattle.paw_base.specs.declared.messages.TheConstants.{TIMEOUT_MESSAGE, GOODBYE_MESSAGE}
 use Rattle.paw_base.specs.declared.tables.TheConstants.{DESCRIBED_TABLE, FRAME_TABLE}
@@ -89,7 +89,7 @@ module _ (tables : TablesWithin) (g : Story) (valid : ValidStory g) (calm : call
   tables_take few short pending m n t r low ready used reads bytes =
       tables g (most_condacts g.game) (most_piece g.game) pending m n t r valid calm (bound_of g.game few short) low ready used reads bytes
 
-  within : most_condacts g.game ≤ READ_LIMIT → most_piece g.game ≤ PIECE_LIMIT → (seed : Seed) (es : List (List ℕ)) → All IsLine es →
+  within : most_condacts g.game ≤ READ_LIMIT → most_piece g.game ≤ PIECE_LIMIT → (seed : Seed) (es : Lines) → All IsLine es →
       EndsWithin (most_condacts g.game) (most_piece g.game) (reading g seed es)
   within few short =
       readings_stay g valid (most_condacts g.game) (most_piece g.game) (takes_of g.game) (enough_of g.game short) (says_of g) (tables_take few short) only

@@ -13,7 +13,7 @@ use Rattle.paw_game.specs.declared.parts.Entry.{Entry}
 use Rattle.paw_check.specs.Calls.{calls_table, turn_tables}
 use Rattle.paw_check.specs.Costs.{cost, counting, passed_over, with_call, all_verbs}
 use Rattle.paw_check.specs.Measures.{greatest}
-use Rattle.paw_check.specs.inner.Capped.{in_32_bits, cell_at, condacts_of_entries, entries_take}
+use Rattle.paw_check.specs.inner.Capped.{in_32_bits, cell_at, condacts_of_entries, entries_take, VerbCosts}
 use Rattle.paw_check.specs.inner.Levels.{HoldsLevel, HoldsCosts, most_taken, round_taken}
 use Rattle.paw_check.proofs.Capped.{add_alike, product_alike, sum_alike, from_capped}
 use Rattle.paw_check.proofs.Entries.{sum_same}
@@ -55,7 +55,7 @@ no_call own v c = at (calls_table c) where
   at true = omega (arith, none)
   at false = omega arith
 
-pub first_costs : (g : GameLists) (own : Condact → ℕ) (changing : Bool) (rows : List (List ℕ))
+pub first_costs : (g : GameLists) (own : Condact → ℕ) (changing : Bool) (rows : VerbCosts)
     → HoldsLevel g own changing [] rows → HoldsCosts g own changing 0 rows
 first_costs g own changing rows holds = λ t v low.
     holds t v low
@@ -63,7 +63,7 @@ first_costs g own changing rows holds = λ t v low.
     (sum_same _ own (condacts_of_entries (counting changing v (table_at g t))) (no_call own v))
     ∙ ap in_32_bits (sym (cost_none g own (counting changing v) t))
 
-pub next_costs : (g : GameLists) (own : Condact → ℕ) (changing : Bool) (n : ℕ) (called rows : List (List ℕ))
+pub next_costs : (g : GameLists) (own : Condact → ℕ) (changing : Bool) (n : ℕ) (called rows : VerbCosts)
     → HoldsCosts g own changing n called → HoldsLevel g own changing called rows
     → HoldsCosts g own changing (suc n) rows
 next_costs g own changing n called rows below holds = λ t v low.

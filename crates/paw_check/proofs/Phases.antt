@@ -252,7 +252,7 @@ module _ (g : Story) (valid : ValidStory g) (condacts text : ℕ) (k : Takes) (e
   ended Unended h some = absurd (some refl)
 
   -- A reading waits or is over, with all its pieces within the bound.
-  pub readings_stay : (seed : Seed) (es : List (List ℕ)) → All IsLine es → EndsWithin condacts text (reading g seed es)
+  pub readings_stay : (seed : Seed) (es : Lines) → All IsLine es → EndsWithin condacts text (reading g seed es)
   readings_stay seed es are =
       let r : Run = opening g seed es in
       ended (reading g seed es)

@@ -162,7 +162,7 @@ module _ (g : Story) (valid : ValidStory g) (condacts text : ℕ) where
     };
   }
 
-  pub opening_ready : (seed : Seed) (es : List (List ℕ)) → All IsLine es → Ready (opening g seed es)
+  pub opening_ready : (seed : Seed) (es : Lines) → All IsLine es → Ready (opening g seed es)
   opening_ready seed es are = record {
     world = start_of g.game valid.game seed;
     earlier = omega arith;

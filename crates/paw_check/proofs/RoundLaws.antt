@@ -12,12 +12,12 @@ use Rattle.paw_base.specs.declared.parts.Condact.{Condact}
 use Rattle.paw_game.specs.Game.{GameLists}
 use Rattle.paw_check.specs.Costs.{cost, counting, all_verbs}
 use Rattle.paw_check.specs.Measures.{greatest}
-use Rattle.paw_check.specs.inner.Capped.{in_32_bits, cell_at}
+use Rattle.paw_check.specs.inner.Capped.{in_32_bits, cell_at, VerbCosts}
 use Rattle.paw_check.specs.inner.Levels.{HoldsCosts, most_taken, round_taken}
 use Rattle.paw_check.proofs.Greatest.{greatest_capped}
 
 -- The greatest number of a table's row is what it takes at most.
-pub row_most : (g : GameLists) (own : Condact → ℕ) (changing : Bool) (rows : List (List ℕ)) (t : ℕ) (row : List ℕ) (m : ℕ)
+pub row_most : (g : GameLists) (own : Condact → ℕ) (changing : Bool) (rows : VerbCosts) (t : ℕ) (row : List ℕ) (m : ℕ)
     → HoldsCosts g own changing LEVEL_LIMIT rows → t < length rows → row ≡ slice_index_or rows t row → length row ≡ 256
     → m ≡ greatest row → m ≡ in_32_bits (most_taken g own changing t)
 row_most g own changing rows t row m holds within is long so =

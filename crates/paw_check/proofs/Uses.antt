@@ -4,7 +4,7 @@ use Rattle.std.proofs.Common.{length-append}
 use Rattle.std.specs.Prelude.{if◌then◌else◌, nat_lt, All}
 use Rattle.std.proofs.lemmas.Bool.{ltb-false, leb-false}
 use Rattle.std.proofs.lemmas.List.Elements.{All-append}
-use Rattle.paw_base.specs.Bytes.{Text}
+use Rattle.paw_base.specs.Bytes.{Text, Texts}
 use Rattle.paw_base.specs.declared.limits.TheConstants.{READ_LIMIT, PIECE_LIMIT}
 use Rattle.paw_base.specs.declared.parts.Condact.{Condact}
 use Rattle.paw_base.specs.declared.fault.SpentKind.{SpentKind}
@@ -30,7 +30,7 @@ abbrev pub own_of : SpentKind → GameLists → Condact → ℕ
 own_of kind g c = of_kind kind 1 (most_text g c)
 
 -- Each closed piece has used at most so much.
-abbrev pub Closed : SpentKind → ℕ → List (List Step) → List (List ℕ) → Type 0
+abbrev pub Closed : SpentKind → ℕ → List (List Step) → Texts → Type 0
 Closed spent.Condacts limit traces pieces = All (λ trace. length trace ≤ limit) traces
 Closed spent.Text limit traces pieces = All (λ piece. length piece ≤ limit) pieces
 

@@ -10,7 +10,7 @@ use Rattle.std.proofs.lemmas.Option.{slice_get_within, get_or_from_slice_get, sa
 use Rattle.std.proofs.lemmas.Bool.Decides.{nat_tests}
 use Rattle.std.proofs.lemmas.List.{length-map, length-append, length-take, length-drop, length-set, get_or_past}
 use Rattle.std.proofs.lemmas.List.Elements.{All-take, All-drop, All-append, All-set}
-use Rattle.paw_base.specs.Bytes.{RoutineAnswers, Seed}
+use Rattle.paw_base.specs.Bytes.{RoutineAnswers, Seed, Bytes}
 use Rattle.paw_base.specs.declared.words.TheConstants.{NO_WORD}
 use Rattle.paw_base.specs.declared.places.TheConstants.{WORN_PLACE, CARRIED_PLACE, NOT_CREATED_PLACE, HERE_PLACE}
 use Rattle.paw_base.specs.declared.flags.TheConstants.{REFERRED_FLAG, REFERRED_PLACE_FLAG, REFERRED_WEIGHT_FLAG}
@@ -333,7 +333,7 @@ module _ (g : GameLists) (v : Valid g) (seed : Seed) (n : ℕ) where
   -- ---- all actions ----
 
   -- An answer among lists of bytes is a byte.
-  pub value_small : (rows : List (List ℕ)) → All AreBytes rows → (m x y : ℕ) (row : Option (List ℕ)) → slice_get rows m ≡ row →
+  pub value_small : (rows : RoutineAnswers) → All AreBytes rows → (m x y : ℕ) (row : Option Bytes) → slice_get rows m ≡ row →
       value_in row x ≡ Some y → y < 256
   value_small rows bytes m x y None e is = cc
   value_small rows bytes m x y (Some row) e is =

@@ -8,7 +8,7 @@ use Rattle.std.specs.Ordering.{is_lt, nat_cmp}
 use Rattle.std.specs.Cmp.Lexicographic.{slice_cmp}
 use Rattle.std.proofs.lemmas.Bool.{cases_Bool, and_parts, false≢true, leb-true}
 use Rattle.std.proofs.lemmas.Bool.Decides.{nat_tests}
-use Rattle.paw_base.specs.Bytes.{Letters}
+use Rattle.paw_base.specs.Bytes.{Letters, Texts}
 use Rattle.paw_base.specs.declared.limits.TheConstants.{WORD_LIMIT, SYSTEM_LIMIT, MESSAGE_LIMIT, OBJECT_LIMIT}
 use Rattle.paw_base.specs.declared.limits.TheConstants.{LOCATION_LEAST, LOCATION_LIMIT, TABLE_LEAST, TABLE_LIMIT}
 use Rattle.paw_game.specs.declared.parts.Word.{Word}
@@ -100,7 +100,7 @@ is_none-words_fault ws =
 
 -- ---- the other parts
 
-is_none-texts_fault : (least most : ℕ) (ts : List (List ℕ)) → is_none (texts_fault least most ts) ≡ (nat_le least (length ts) && rows_are_valid most is_text ts)
+is_none-texts_fault : (least most : ℕ) (ts : Texts) → is_none (texts_fault least most ts) ≡ (nat_le least (length ts) && rows_are_valid most is_text ts)
 unfolding texts_fault
 is_none-texts_fault least most ts =
     is_none-row_fault least most (length ts) (first_bad is_text ts)
@@ -196,7 +196,7 @@ no_fault-from_Valid g h =
       tables = fault_in-none _ _ (is_none-tables_fault g ∙ h.tables);
     })
 
-pub few_locations : (ts : List (List ℕ))
+pub few_locations : (ts : Texts)
     → fault_in part.Locations (texts_fault LOCATION_LEAST LOCATION_LIMIT ts) ≡ None → length ts ≤ LOCATION_LIMIT
 few_locations ts h =
     let kept = and_parts (nat_le LOCATION_LEAST (length ts)) _

@@ -112,7 +112,7 @@ pieces_count g seed es p path r h =
 
 past_by : (pieces : Texts) (e x : Ending) (p : Prompt) (path : List Frame) (r : Run) (traces : List (List Step)) →
     e ≡ ending_with_past pieces traces x → e ≡ WaitsAt p path r →
-    (more : List (List ℕ)) × (r.pieces ≡ pieces ++ more)
+    (more : Texts) × (r.pieces ≡ pieces ++ more)
 past_by pieces e (WaitsAt q at s) p path r traces h k =
     let same : WaitsAt p path r ≡ ending_with_past pieces traces (WaitsAt q at s) = sym k ∙ h in
     (s.pieces, ap pieces_of same)
@@ -162,7 +162,7 @@ same_lines : (seed : Seed) (es fs : Lines) → At seed es ≡ At seed fs → es 
 same_lines seed es fs h = cc
 
 -- No more lines than texts are taken.
-at_most : (g : Story) (seed : Seed) (es texts lines : List (List ℕ)) → session_after g seed (At seed es) (map Some texts) ≡ At seed lines →
+at_most : (g : Story) (seed : Seed) (es texts lines : Lines) → session_after g seed (At seed es) (map Some texts) ≡ At seed lines →
     length lines ≤ length es + length texts
 unfolding session_after
 at_most g seed es [] lines h = let same = ap length (same_lines seed es lines h) in omega (arith, same)
@@ -174,7 +174,7 @@ at_most g seed es (text ∷ texts) lines h = elim (answered_by g seed es text) [
 ]
 
 -- A text that was taken has a piece of its own.
-text_piece : (g : Story) (seed : Seed) (es texts : List (List ℕ)) (text : Text) (p : Prompt) (path : List Frame) (r : Run) →
+text_piece : (g : Story) (seed : Seed) (es texts : Lines) (text : Text) (p : Prompt) (path : List Frame) (r : Run) →
     reading g seed ((es ++ text ∷ []) ++ texts) ≡ WaitsAt p path r →
     pieces_of (reading g seed (es ++ text ∷ [])) ≡ pieces_of (reading g seed es) ++ last_piece (pieces_of (reading g seed (es ++ text ∷ []))) ∷ []
 text_piece g seed es texts text p path r h =
@@ -182,7 +182,7 @@ text_piece g seed es texts text p path r h =
     let before = waits_before g seed es (text ∷ []) here.0 here.1 here.2 here.3 in
     rw (here.3, before.3) (one_more g seed es text before.0 here.0 before.1 here.1 before.2 here.2 before.3 here.3)
 
-answered_later : (g : Story) (seed : Seed) (es texts : List (List ℕ)) (p : Prompt) (path : List Frame) (r : Run) →
+answered_later : (g : Story) (seed : Seed) (es texts : Lines) (p : Prompt) (path : List Frame) (r : Run) →
     session_after g seed (At seed es) (map Some texts) ≡ At seed (es ++ texts) → reading g seed (es ++ texts) ≡ WaitsAt p path r →
     pieces_of (reading g seed (es ++ texts)) ≡ pieces_of (reading g seed es) ++ answers_of g seed (At seed es) (map Some texts)
 unfolding session_after answers_of
@@ -196,7 +196,7 @@ answered_later g seed es (text ∷ texts) p path r h k = elim (answered_by g see
       let parts : (es ++ text ∷ []) ++ texts ≡ es ++ text ∷ texts = append_assoc es (text ∷ []) texts in
       let whole = ap (reading g seed) parts ∙ k in
       let session = subst (λ (a : Answer). session_after g seed a.session (map Some texts) ≡ At seed (es ++ text ∷ texts)) goes h ∙ ap (At seed) (sym parts) in
-      let rest : List (List ℕ) = answers_of g seed (At seed (es ++ text ∷ [])) (map Some texts) in
+      let rest : Texts = answers_of g seed (At seed (es ++ text ∷ [])) (map Some texts) in
       ap (λ l. pieces_of (reading g seed l)) (sym parts)
       ∙ answered_later g seed (es ++ text ∷ []) texts p path r session whole
       ∙ ap (λ x. x ++ rest) (text_piece g seed es texts text p path r whole)
@@ -218,7 +218,7 @@ answered_all g seed texts p path r h k =
     let start = waits_before g seed [] texts p path r k in
     let first = begins g seed start.0 start.1 start.2 start.3 in
     let session = subst (λ (a : Answer). session_after g seed a.session (map Some texts) ≡ At seed texts) first h in
-    let rest : List (List ℕ) = answers_of g seed (At seed []) (map Some texts) in
+    let rest : Texts = answers_of g seed (At seed []) (map Some texts) in
     ap (λ (a : Answer). a.body ∷ answers_of g seed a.session (map Some texts)) first
     ∙ ap (λ x. x ++ rest) (sym (one_piece start.2.pieces (pieces_count g seed [] start.0 start.1 start.2 start.3)))
     ∙ ap (λ e. pieces_of e ++ rest) (sym start.3)

@@ -64,14 +64,14 @@ begun_then g seed text before mid after bytes at grown a = rw (begun_takes g see
 
 -- ---- what a crash leaves of them meanwhile ----
 
-gone_at : (seed : Seed) (a b : List (List ℕ)) (e : Ending) → (o : List (List ℕ)) × ((gone_on (At seed a) (At seed b) e).session ≡ At seed o)
+gone_at : (seed : Seed) (a b : Lines) (e : Ending) → (o : Lines) × ((gone_on (At seed a) (At seed b) e).session ≡ At seed o)
 gone_at seed a b (WaitsAt p path r) = (b, refl)
 gone_at seed a b (Halted halt.Over r) = (b, refl)
 gone_at seed a b (Halted (halt.Spent kind) r) = (a, refl)
 gone_at seed a b (Halted (halt.TooDeep table) r) = (a, refl)
 gone_at seed a b Unended = (b, refl)
 
-taken_by : (seed : Seed) (es : Lines) (text : Text) (e : Ending) (over full : Bool) → (o : List (List ℕ)) ×
+taken_by : (seed : Seed) (es : Lines) (text : Text) (e : Ending) (over full : Bool) → (o : Lines) ×
     ((if over then record { body = codes "over"; session = At seed es } else if full then record { body = codes "full"; session = At seed es }
     else gone_on (At seed es) (At seed (es ++ text ∷ [])) e).session ≡ At seed o)
 taken_by seed es text e true full = (es, refl)
@@ -79,17 +79,17 @@ taken_by seed es text e false true = (es, refl)
 taken_by seed es text e false false = gone_at seed es (es ++ text ∷ []) e
 
 -- A text leaves a session.
-taken_at : (g : Story) (seed : Seed) (es : Lines) (text : Text) → (o : List (List ℕ)) × ((answer_taking g seed es text).session ≡ At seed o)
+taken_at : (g : Story) (seed : Seed) (es : Lines) (text : Text) → (o : Lines) × ((answer_taking g seed es text).session ≡ At seed o)
 taken_at g seed es text =
     taken_by seed es text (reading g seed (es ++ text ∷ [])) (is_over (reading g seed es)) (nat_le EVENT_LIMIT (length es))
 
-answer_at : (g : Story) (seed : Seed) (text : Option (List ℕ)) → (begun_answer g seed).session ≡ At seed [] →
-    (o : List (List ℕ)) × ((answer g seed Absent text).session ≡ At seed o)
+answer_at : (g : Story) (seed : Seed) (text : Option Text) → (begun_answer g seed).session ≡ At seed [] →
+    (o : Lines) × ((answer g seed Absent text).session ≡ At seed o)
 answer_at g seed None at = ([], ap (λ (a : Answer). a.session) (answer_absent g seed None) ∙ at)
 answer_at g seed (Some text) at =
     let t = taken_at g seed [] text in (t.0, ap (λ (a : Answer). a.session) (begun_takes g seed text at) ∙ t.1)
 
-making_by : (g : Story) (seed : Seed) (s : NamedSession) (o : List (List ℕ)) (bytes : Bytes) → s ≡ At seed o → IsUnmade (recover bytes) ⊎ Stands g seed [] bytes →
+making_by : (g : Story) (seed : Seed) (s : NamedSession) (o : Lines) (bytes : Bytes) → s ≡ At seed o → IsUnmade (recover bytes) ⊎ Stands g seed [] bytes →
     LeftOfMaking g seed Absent s bytes
 making_by g seed s o bytes e h = subst (λ x. LeftOfMaking g seed Absent x bytes) (sym e) h
 

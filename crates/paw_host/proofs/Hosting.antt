@@ -66,7 +66,7 @@ asks_line line bytes r e =
     (All-take (λ b. b < 256) LINE_LIMIT line bytes) r e
 
 -- Each line that is left is made of bytes.
-line_bytes : (lines : Lines) (n : ℕ) (line : Line) (rest : List (List ℕ)) → drop n lines ≡ line ∷ rest → All AreBytes lines → AreBytes line
+line_bytes : (lines : Lines) (n : ℕ) (line : Line) (rest : Lines) → drop n lines ≡ line ∷ rest → All AreBytes lines → AreBytes line
 line_bytes lines n line rest e all = All-head AreBytes line rest (subst (All AreBytes) e (All-drop AreBytes n lines all))
 
 -- ---- before the first line ----

@@ -21,7 +21,7 @@ use Rattle.paw_host.proofs.Reaching.{FilesHold, rest_left}
 
 -- ---- lists of lines ----
 
-pub sessions_more : (g : Story) (seed : Seed) (first : Sessions) (lines : Lines) (n : ℕ) (line : Line) (rest : List (List ℕ)) →
+pub sessions_more : (g : Story) (seed : Seed) (first : Sessions) (lines : Lines) (n : ℕ) (line : Line) (rest : Lines) →
     drop n lines ≡ line ∷ rest →
     sessions_after g seed first (take (suc n) lines) ≡ sessions_with g seed (sessions_after g seed first (take n lines)) (request_of line)
 unfolding sessions_after
@@ -30,7 +30,7 @@ sessions_more g seed first [] (suc n) line rest h = cc
 sessions_more g seed first (l ∷ lines) zero line rest h = let e : l ≡ line = cc in ap (λ x. sessions_with g seed first (request_of x)) e
 sessions_more g seed first (l ∷ lines) (suc n) line rest h = sessions_more g seed (sessions_with g seed first (request_of l)) lines n line rest h
 
-pub replies_more : (g : Story) (seed : Seed) (first : Sessions) (lines : Lines) (n : ℕ) (line : Line) (rest : List (List ℕ)) →
+pub replies_more : (g : Story) (seed : Seed) (first : Sessions) (lines : Lines) (n : ℕ) (line : Line) (rest : Lines) →
     drop n lines ≡ line ∷ rest →
     replies g seed first (take (suc n) lines)
     ≡ replies g seed first (take n lines) ++ reply_to g seed (sessions_after g seed first (take n lines)) (request_of line)
@@ -46,26 +46,26 @@ replies_more g seed first (l ∷ lines) (suc n) line rest h =
     (reply_to g seed (sessions_after g seed next (take n lines)) (request_of line)))
 
 -- A file that is none of the lines' up to one more is none of those before, and not that line's.
-pub not_of_more : (lines : Lines) (n : ℕ) (line : Line) (rest : List (List ℕ)) (f : List ℕ) → drop n lines ≡ line ∷ rest →
+pub not_of_more : (lines : Lines) (n : ℕ) (line : Line) (rest : Lines) (f : Name) → drop n lines ≡ line ∷ rest →
     IsNotOf (take (suc n) lines) f → IsNotOf (take n lines) f × IsNotFor (request_of line) f
 not_of_more [] zero line rest f h k = cc
 not_of_more [] (suc n) line rest f h k = cc
 not_of_more (l ∷ lines) zero line rest f h k = let e : l ≡ line = cc in (tt, subst (λ x. IsNotFor (request_of x) f) e k.0)
 not_of_more (l ∷ lines) (suc n) line rest f h k = let m = not_of_more lines n line rest f h k.1 in ((k.0, m.0), m.1)
 
-drop_none : (n : ℕ) → ◌≡◌ {A = List (List ℕ)} (drop n []) []
+drop_none : (n : ℕ) → ◌≡◌ {A = Lines} (drop n []) []
 drop_none zero = refl
 drop_none (suc n) = refl
 
 -- Where there are lines there is a last one.
-pub last_line : (lines : Lines) (n : ℕ) → suc n ≤ length lines → (line : Line) × (rest : List (List ℕ)) × (drop n lines ≡ line ∷ rest)
+pub last_line : (lines : Lines) (n : ℕ) → suc n ≤ length lines → (line : Line) × (rest : Lines) × (drop n lines ≡ line ∷ rest)
 last_line [] n h = absurd (omega (arith, h))
 last_line (l ∷ lines) zero h = (l, lines, refl)
 last_line (l ∷ lines) (suc n) h = last_line lines n (omega (arith, h))
 
 -- ---- the attached store ----
 
-pub attached_more : (start : Option (List ℕ)) (lines : Lines) (n : ℕ) (line : Line) (rest : List (List ℕ)) → drop n lines ≡ line ∷ rest →
+pub attached_more : (start : Option Name) (lines : Lines) (n : ℕ) (line : Line) (rest : Lines) → drop n lines ≡ line ∷ rest →
     attached_after start (take (suc n) lines) ≡ attached_with (request_of line) (attached_after start (take n lines))
 unfolding attached_after
 attached_more start [] zero line rest h = cc
@@ -73,25 +73,25 @@ attached_more start [] (suc n) line rest h = cc
 attached_more start (l ∷ lines) zero line rest h = let e : l ≡ line = cc in ap (λ x. attached_with (request_of x) start) e
 attached_more start (l ∷ lines) (suc n) line rest h = attached_more (attached_with (request_of l) start) lines n line rest h
 
-done_attached : (request : Option Request) (start : Option (List ℕ)) → MayAttach request start (attached_with request start)
+done_attached : (request : Option Request) (start : Option Name) → MayAttach request start (attached_with request start)
 done_attached None start = refl
 done_attached (Some r) start = inr (inl refl)
 
 -- After lines that are done.
-pub attached_now : (start : Option (List ℕ)) (lines : Lines) → AttachedIn start lines (attached_after start lines)
+pub attached_now : (start : Option Name) (lines : Lines) → AttachedIn start lines (attached_after start lines)
 unfolding attached_after AttachedIn
 attached_now start [] = refl
 attached_now start (line ∷ []) = done_attached (request_of line) start
 attached_now start (line ∷ next ∷ lines) = attached_now (attached_with (request_of line) start) (next ∷ lines)
 
 -- While one more is at work.
-pub attached_in : (start : Option (List ℕ)) (lines : Lines) (n : ℕ) (line : Line) (rest : List (List ℕ)) (attached : Option (List ℕ)) →
+pub attached_in : (start : Option Name) (lines : Lines) (n : ℕ) (line : Line) (rest : Lines) (attached : Option Name) →
     drop n lines ≡ line ∷ rest → MayAttach (request_of line) (attached_after start (take n lines)) attached → AttachedIn start (take (suc n) lines) attached
 unfolding attached_after AttachedIn
 attached_in start [] zero line rest attached h k = cc
 attached_in start [] (suc n) line rest attached h k = cc
 attached_in start (l ∷ lines) zero line rest attached h k = let e : line ≡ l = cc in subst (λ x. MayAttach (request_of x) start attached) e k
-attached_in start (l ∷ []) (suc n) line rest attached h k = let none : ◌≡◌ {A = List (List ℕ)} [] (line ∷ rest) = sym (drop_none n) ∙ h in cc
+attached_in start (l ∷ []) (suc n) line rest attached h k = let none : ◌≡◌ {A = Lines} [] (line ∷ rest) = sym (drop_none n) ∙ h in cc
 attached_in start (l ∷ next ∷ lines) (suc n) line rest attached h k = attached_in (attached_with (request_of l) start) (next ∷ lines) n line rest attached h k
 
 -- ---- names ----

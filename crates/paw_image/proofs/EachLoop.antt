@@ -8,7 +8,7 @@ use Rattle.paw_read_error.specs.declared.read_error.ReadError.{ReadError}
 use Rattle.paw_read_error.specs.declared.read_error.ReadError.TheVariants as fault
 use Rattle.paw_read_error.specs.inner.Gives.{Fails}
 use Rattle.paw_image.specs.Damage.{ImagePreface, Passing, each, checked_exit, after_exits_of, after_table}
-use Rattle.paw_image.specs.inner.Offsets.{begins, entries_begin, entries_of, tables_begin}
+use Rattle.paw_image.specs.inner.Offsets.{begins, entries_begin, entries_of, tables_begin, TableOffsets}
 use Rattle.paw_image.specs.declared.offsets.TableIndex.{TableIndex}
 
 -- ---- rows ----
@@ -80,7 +80,7 @@ module _ (pass : List ℕ → Passing) (total : ℕ) (front : List ℕ) (count i
       let one : front ++ begins pass total (count - i) bytes ≡ front = rw k (append-nil front) in
       sym one ∙ so_far
 
-module _ (d : ImagePreface) (total : ℕ) (front : List TableIndex) (count i : ℕ) (bytes : Bytes) (whole : List (List ℕ)) where
+module _ (d : ImagePreface) (total : ℕ) (front : List TableIndex) (count i : ℕ) (bytes : Bytes) (whole : TableOffsets) where
   pub tables_go_on : (t : TableIndex) (after : List ℕ) → i < count → after_table d bytes ≡ Ok after → t.entries.items ≡ entries_begin d total bytes
       → entries_of front ++ tables_begin d total (count - i) bytes ≡ whole
       → entries_of (front ++ t ∷ []) ++ tables_begin d total (count - (i + 1)) after ≡ whole
@@ -89,7 +89,7 @@ module _ (d : ImagePreface) (total : ℕ) (front : List TableIndex) (count i : �
       let k : count - i ≡ suc (count - (i + 1)) = omega arith in
       let later = tables_begin d total (count - (i + 1)) after in
       let one : entries_of front ++ tables_begin d total (count - i) bytes ≡ entries_of front ++ (entries_begin d total bytes ∷ later) = rw (k, h) refl in
-      ap (λ (l : List (List ℕ)). l ++ later) (map-append (λ (x : TableIndex). x.entries.items) front (t ∷ []))
+      ap (λ (l : TableOffsets). l ++ later) (map-append (λ (x : TableIndex). x.entries.items) front (t ∷ []))
       ∙ append_assoc (entries_of front) (t.entries.items ∷ []) later
       ∙ ap (λ (l : List ℕ). entries_of front ++ (l ∷ later)) is ∙ sym one ∙ so_far
 

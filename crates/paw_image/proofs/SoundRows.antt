@@ -32,7 +32,7 @@ use Rattle.paw_image.specs.Damage.{checked_exit, after_exits_of, after_exits, af
 use Rattle.paw_image.specs.Damage.{after_condact, after_entry, after_table}
 use Rattle.paw_image.specs.declared.version.Version.{Version}
 use Rattle.paw_image.specs.declared.version.Version.TheVariants.{One, Two}
-use Rattle.paw_image.specs.inner.Offsets.{offsets, entry_offsets, entries_begin, tables_begin}
+use Rattle.paw_image.specs.inner.Offsets.{offsets, entry_offsets, entries_begin, tables_begin, TableOffsets}
 use Rattle.paw_image.proofs.FieldLaws.{IsBytes, at_ok, bind_then, byte_takes, number_takes}
 use Rattle.paw_image.proofs.ListLaws.{rows_take}
 use Rattle.paw_image.proofs.RowLaws.{text_takes, exit_takes, condact_takes, entry_takes, parameter_takes, table_takes}
@@ -286,5 +286,5 @@ tables_placed d (suc n) bytes rest fits e =
       begin = λ total start h.
           let later = others.begin total (start + length (table_image first.value))
           (omega (arith, h, taken_length bytes (table_image first.value) after taken)) in
-          rw (first.begin total start h, after_ok) (ap (λ (l : List (List ℕ)). offsets entry_image (start + 2) first.value ∷ l) later);
+          rw (first.begin total start h, after_ok) (ap (λ (l : TableOffsets). offsets entry_image (start + 2) first.value ∷ l) later);
     })

@@ -20,7 +20,7 @@ use Rattle.paw_image.specs.inner.Milestones.{HasMilestones, EntryMilestones}
 use Rattle.paw_image.specs.Images.{IsImage}
 use Rattle.paw_image.specs.inner.Images.{AtDamage}
 use Rattle.paw_image.specs.inner.Orders.{is_match, IsOrder, IsLeast, IsMatch}
-use Rattle.paw_image.specs.inner.Offsets.{entry_offsets, entries_of, preface_of, IsPassed}
+use Rattle.paw_image.specs.inner.Offsets.{entry_offsets, entries_of, preface_of, IsPassed, TableOffsets}
 use Rattle.paw_image.specs.inner.Reading as inner_reading
 use Rattle.paw_image.specs.inner.Reading.{all_of}
 use Rattle.paw_image.specs.inner.Rows.{value_of, head_here, nth_condact, entry_here}
@@ -169,12 +169,12 @@ pub ordered_at : (bytes : Bytes) (ts : List TableIndex) (k : ℕ) (t : TableInde
 ordered_at bytes ts k t h e = all_at (λ (x : TableIndex). IsOrder bytes x.entries.items x.order) ts k t h e
 
 -- The entries kept of a table are where its entries begin.
-entries_at : (ts : List TableIndex) (k : ℕ) (t : TableIndex) (ps : List (List ℕ)) → entries_of ts ≡ ps
+entries_at : (ts : List TableIndex) (k : ℕ) (t : TableIndex) (ps : TableOffsets) → entries_of ts ≡ ps
     → slice_get ts k ≡ Some t → slice_get ps k ≡ Some t.entries.items
-entries_at ts k t ps e h = ap (λ (l : List (List ℕ)). slice_get l k) (sym e) ∙ slice_get-map (λ (x : TableIndex). x.entries.items) ts k ∙ rw h refl
+entries_at ts k t ps e h = ap (λ (l : TableOffsets). slice_get l k) (sym e) ∙ slice_get-map (λ (x : TableIndex). x.entries.items) ts k ∙ rw h refl
 
-no_entries_at : (ts : List TableIndex) (k : ℕ) (ps : List (List ℕ)) → entries_of ts ≡ ps → slice_get ts k ≡ None → slice_get ps k ≡ None
-no_entries_at ts k ps e h = ap (λ (l : List (List ℕ)). slice_get l k) (sym e) ∙ slice_get-map (λ (x : TableIndex). x.entries.items) ts k ∙ rw h refl
+no_entries_at : (ts : List TableIndex) (k : ℕ) (ps : TableOffsets) → entries_of ts ≡ ps → slice_get ts k ≡ None → slice_get ps k ≡ None
+no_entries_at ts k ps e h = ap (λ (l : TableOffsets). slice_get l k) (sym e) ∙ slice_get-map (λ (x : TableIndex). x.entries.items) ts k ∙ rw h refl
 
 pub match_read : {bytes : Bytes} {counts : Counts} {words : List Word} {p : Offsets} → IsIndex bytes counts words p
     → (t : ℕ) (i : TableIndex) → slice_get p.tables.items t ≡ Some i

@@ -5,7 +5,7 @@ use Rattle.std.proofs.Common.{None, refl, sym, ap, ◌∙◌, length, arith, app
 use Rattle.std.specs.Prelude.{if◌then◌else◌, nat_lt}
 use Rattle.std.specs.Option.{option_map_or}
 use Rattle.std.proofs.lemmas.Option.{slice_get_past}
-use Rattle.paw_base.specs.Bytes.{Line, Lines, Text}
+use Rattle.paw_base.specs.Bytes.{Line, Lines, Text, Texts}
 use Rattle.paw_base.specs.declared.limits.TheConstants.{READ_LIMIT, LEVEL_LIMIT}
 use Rattle.paw_base.specs.declared.parts.Condact.{Condact}
 use Rattle.paw_base.specs.declared.fault.SpentKind.TheVariants as spent
@@ -43,14 +43,14 @@ use Rattle.paw_reading.proofs.Onward.{plain_end, plain_entry, taken_again}
 use Rattle.paw_reading.proofs.Stops.{Stops, deeper_stops, path_stops}
 
 -- The run with these pieces closed before its own, and these lines after those that are left.
-abbrev pub around : List (List ℕ) → List (List Step) → List (List ℕ) → Run → Run
+abbrev pub around : Texts → List (List Step) → Lines → Run → Run
 around ps ts lines r = record r { pieces = ps ++ r.pieces; traces = ts ++ r.traces; events = r.events ++ lines }
 
-closed_around : (ps : List (List ℕ)) (ts : List (List Step)) (lines : Lines) (r : Run) →
+closed_around : (ps : Texts) (ts : List (List Step)) (lines : Lines) (r : Run) →
     piece_closed (around ps ts lines r) ≡ around ps ts lines (piece_closed r)
 closed_around ps ts lines r = rw (append_assoc ps r.pieces (r.current ∷ []), append_assoc ts r.traces (r.read ∷ [])) refl
 
-module _ (g : Story) (ps : List (List ℕ)) (ts : List (List Step)) (lines : Lines) where
+module _ (g : Story) (ps : Texts) (ts : List (List Step)) (lines : Lines) where
   -- How a reading at a level ends with these pieces before it and these lines after it.
   abbrev pub extends : ℕ → Out → Out
   extends lv (Left a r) = Left a (around ps ts lines r)

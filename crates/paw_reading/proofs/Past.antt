@@ -4,7 +4,7 @@ use Rattle.std.proofs.Common.{sym, ap, ◌∙◌, append_assoc, append-nil}
 use Rattle.std.specs.Prelude.{if◌then◌else◌}
 use Rattle.std.specs.List.{concat}
 use Rattle.std.proofs.lemmas.List.Folds.{concat-append}
-use Rattle.paw_base.specs.Bytes.{Lines, Text}
+use Rattle.paw_base.specs.Bytes.{Lines, Text, Texts}
 use Rattle.paw_base.specs.declared.fault.SpentKind.TheVariants as spent
 use Rattle.paw_base.specs.declared.flags.TheConstants.{LOCATION_FLAG, VERB_FLAG}
 use Rattle.paw_base.specs.declared.tables.TheConstants.{RESPONSE_TABLE, DESCRIBED_TABLE, FRAME_TABLE}
@@ -44,7 +44,7 @@ waits_there g p lv [] r some none = absurd (some refl)
 waits_there g p lv (f ∷ []) r some none = waits_on g lv p f r none
 waits_there g p lv (f ∷ h ∷ path) r some none = rw (waits_there g p (suc lv) (h ∷ path) r (λ e. cc) none) refl
 
-module _ (g : Story) (ps : List (List ℕ)) (ts : List (List Step)) where
+module _ (g : Story) (ps : Texts) (ts : List (List Step)) where
   -- How reading tables ends, with these pieces before.
   abbrev out_with_past : Out → Out
   out_with_past (Left a r) = Left a (with_past ps ts r)
@@ -171,7 +171,7 @@ longer_reading g seed es fs p path r e =
     let apart : with_past r.pieces r.traces (with_lines fs (without_past r)) ≡ with_lines fs r = rw (append-nil r.pieces, append-nil r.traces) refl in
     whole ∙ ap (going_on_from g p path) (sym apart) ∙ past_stays g r.pieces r.traces p path (with_lines fs (without_past r))
 
-past_text : (ps : List (List ℕ)) (ts : List (List Step)) (x : Ending) → x ≢ Unended →
+past_text : (ps : Texts) (ts : List (List Step)) (x : Ending) → x ≢ Unended →
     text_of (ending_with_past ps ts x) ≡ concat ps ++ text_of x
 past_text ps ts (WaitsAt p path r) h = concat-append ps r.pieces
 past_text ps ts (Halted halt r) h = concat-append ps r.pieces

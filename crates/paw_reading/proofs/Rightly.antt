@@ -4,7 +4,7 @@ use Rattle.std.proofs.Common.{None, refl, sym, ap}
 use Rattle.std.proofs.Common.{subst, length, arith, append-nil}
 use Rattle.std.specs.Prelude.{All}
 use Rattle.std.proofs.Math.ListN.{get_or}
-use Rattle.paw_base.specs.Bytes.{Lines, Text, Seed}
+use Rattle.paw_base.specs.Bytes.{Lines, Text, Seed, Texts}
 use Rattle.paw_base.specs.declared.limits.TheConstants.{READ_LIMIT, LEVEL_LIMIT}
 use Rattle.paw_base.specs.declared.fault.SpentKind.TheVariants as spent
 use Rattle.paw_base.specs.declared.flags.TheConstants.{LOCATION_FLAG, VERB_FLAG, UNLIT_VIEW_FLAG, DARK_VIEW_FLAG}
@@ -276,7 +276,7 @@ going_on_is_bounded g seed n p path r valid lines k bound =
 apart : (r : Run) → with_past r.pieces r.traces (without_past r) ≡ r
 apart r = rw (append-nil r.pieces, append-nil r.traces) refl
 
-placed_past : (g : GameLists) (ps : List (List ℕ)) (ts : List (List Step)) (e : Ending) → StopsRightly g e → StopsRightly g (ending_with_past ps ts e)
+placed_past : (g : GameLists) (ps : Texts) (ts : List (List Step)) (e : Ending) → StopsRightly g e → StopsRightly g (ending_with_past ps ts e)
 placed_past g ps ts (WaitsAt p path r) k =
     (k.0, record { world = k.1.world; places = k.1.places; line = k.1.line; pending = k.1.pending; earlier = k.1.earlier; piece = k.1.piece; read = k.1.read })
 placed_past g ps ts (Halted halt.Over r) k = record {

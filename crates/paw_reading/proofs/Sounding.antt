@@ -72,7 +72,7 @@ use Rattle.paw_effects.proofs.Changes.{referred_so}
 use Rattle.paw_effects.proofs.EachRow.{effect_so, condition_so}
 
 -- Each of these is a line.
-abbrev pub AreLines : List (List ℕ) → Type 0
+abbrev pub AreLines : Lines → Type 0
 AreLines [] = Unit {0}
 AreLines (line ∷ lines) = IsLine line × AreLines lines
 

@@ -40,7 +40,7 @@ use Rattle.paw_reading.proofs.Keeps.{either, open_or_not, prints}
 use Rattle.paw_reading.proofs.EachCondact.{plain_goes}
 
 -- What lines bring.
-abbrev pub brought : List (List ℕ) → ℕ
+abbrev pub brought : Lines → ℕ
 brought lines = sum_by (λ line. length line + (READ_LIMIT + 1)) lines
 
 -- One line more brings so much more.

@@ -15,7 +15,7 @@ abbrev pub values_of : (ℕ → ℕ) → List ℕ
 values_of h = map h (range_with_len 0 256)
 
 -- The answers of each of the first `count` routines.
-abbrev pub answers_of : (ℕ → ℕ → ℕ) → ℕ → List (List ℕ)
+abbrev pub answers_of : (ℕ → ℕ → ℕ) → ℕ → RoutineAnswers
 answers_of g count = map (λ n. values_of (g n)) (range_with_len 0 count)
 
 length-answers_of : (g : ℕ → ℕ → ℕ) (count : ℕ) → length (answers_of g count) ≡ count

@@ -12,7 +12,7 @@ use Rattle.paw_base.specs.Bytes.{RoutineAnswers}
 use Rattle.paw_routines.specs.Answers.{StandFor, value_in, value_at}
 
 -- The first values of a list, up to this number, are the first answers of routine n.
-abbrev pub AreValues : List (List ℕ) → ℕ → ℕ → List ℕ → Type 0
+abbrev pub AreValues : RoutineAnswers → ℕ → ℕ → List ℕ → Type 0
 AreValues answers n count own = (x : ℕ) → x < count → value_at answers n x ≡ Some (get_or own x 0)
 
 -- With the next value put in its place there is one more.

@@ -1,7 +1,7 @@
 -- What each call of the stage in memory does, by its record.
-use Rattle.std.proofs.Common.{◌≡◌, ℕ, ◌+◌, ◌-◌, List, [], ◌∷◌, ◌++◌, length, drop, inl, inr, refl, sym, ap, ◌∙◌, subst, arith}
+use Rattle.std.proofs.Common.{◌≡◌, ℕ, ◌+◌, ◌-◌, [], ◌∷◌, ◌++◌, length, drop, inl, inr, refl, sym, ap, ◌∙◌, subst, arith}
 use Rattle.std.specs.Prelude.{Some, Bool, true, false}
-use Rattle.paw_base.specs.Bytes.{Bytes, Name}
+use Rattle.paw_base.specs.Bytes.{Bytes, Name, Lines}
 use Rattle.paw_stage.specs.Disk.{stable}
 use Rattle.paw_stage.specs.Stage.{Standing, with_store_opened, InAsk, InAttach, InSync}
 use Rattle.paw_stage.specs.Moments.{Passes}
@@ -58,10 +58,10 @@ asked_inside kind.End name bytes s m stays e = same_asked s m e
 asked_inside kind.Show name bytes s m stays h = ap (λ (q : Standing). q.asked) h.1
 
 -- What may stand inside a call doesn't depend on the lines that are left.
-with_lines : List (List ℕ) → Standing → Standing
+with_lines : Lines → Standing → Standing
 with_lines lines s = record s { lines = lines }
 
-left_inside : (k : CallKind) (name bytes : Bytes) (l : List (List ℕ)) (s m : Standing) → MayStand k name bytes s m →
+left_inside : (k : CallKind) (name bytes : Bytes) (l : Lines) (s m : Standing) → MayStand k name bytes s m →
     MayStand k name bytes (record s { lines = l }) (record m { lines = l })
 unfolding with_lines
 left_inside kind.Add name bytes l s m (inl e) = inl (ap (with_lines l) e)

@@ -1,5 +1,5 @@
 -- How playing the two halves of a trial ends.
-use Rattle.std.proofs.Common.{◌≡◌, ℕ, ◌+◌, ◌<◌, ◌≤◌, List, [], ◌++◌, Some, length, drop, refl, sym, ap, ◌∙◌, subst}
+use Rattle.std.proofs.Common.{◌≡◌, ℕ, ◌+◌, ◌<◌, ◌≤◌, [], ◌++◌, Some, length, drop, refl, sym, ap, ◌∙◌, subst}
 use Rattle.std.proofs.Common.{arith, append-nil}
 use Rattle.std.specs.Prelude.{◌-◌, All}
 use Rattle.std.proofs.lemmas.List.{drop_all}
@@ -73,8 +73,8 @@ stop_halted o halt e = ap stop_of (ends_by_halt o halt e) ∙ stops_by halt
 -- the others and these; what it keeps stands for them.
 module _ (n : ℕ) (es lines rest : Lines) (all : (es ++ lines) ++ rest ≡ trial_lines n) (are : All IsLine lines) (s : PlayedSession)
     (named : s.name ≡ trial_store)
-    (stops : (stop : TrialEnd) (fs : List (List ℕ)) → TrialStopsAs stop (s.whole fs) → TrialStopsAs stop (reading (trial_story n) n (es ++ fs)))
-    (waits : (fs : List (List ℕ)) → Waits (s.whole fs) → Waits (reading (trial_story n) n (es ++ fs)))
+    (stops : (stop : TrialEnd) (fs : Lines) → TrialStopsAs stop (s.whole fs) → TrialStopsAs stop (reading (trial_story n) n (es ++ fs)))
+    (waits : (fs : Lines) → Waits (s.whole fs) → Waits (reading (trial_story n) n (es ++ fs)))
     (stands : (k : ℕ) (bytes : Bytes) → k ≤ length lines → s.before + k ≤ EVENT_LIMIT → KeptBy s lines k bytes →
     Stands (trial_story n) n (es ++ first_lines k lines) bytes) where
   -- A trial that stops after k of them.
@@ -95,7 +95,7 @@ module _ (n : ℕ) (es lines rest : Lines) (all : (es ++ lines) ++ rest ≡ tria
       let count : p.session.0 ≡ length lines = omega (arith, p.session.1, ap (λ (x : Standing). x.asked) reads.stands, ap length is) in
       let rests = p.session.2 in
       let taken : first_lines (length lines) lines ≡ lines = all_taken lines are in
-      let read : first_lines (length old.lines) old.lines ≡ lines = ap (λ (x : List (List ℕ)). first_lines (length x) x) is ∙ taken in
+      let read : first_lines (length old.lines) old.lines ≡ lines = ap (λ (x : Lines). first_lines (length x) x) is ∙ taken in
       let kept : Stands (trial_story n) n (es ++ lines) new.disk.bytes =
       subst (λ fs. Stands (trial_story n) n (es ++ fs) new.disk.bytes) (ap (λ k. first_lines k lines) count ∙ taken)
       (stands p.session.0 new.disk.bytes (omega (arith, count)) rests.few

@@ -104,7 +104,7 @@ pub all_taken : (lines : Lines) → All IsLine lines → first_lines (length lin
 all_taken lines are = first_taken (length lines) lines are ∙ take_all (length lines) lines (omega arith)
 
 -- Those that were taken and those that are left.
-pub taken_and_left : (before lines behind : List (List ℕ)) (k : ℕ) → All IsLine lines →
+pub taken_and_left : (before lines behind : Lines) (k : ℕ) → All IsLine lines →
     (before ++ first_lines k lines) ++ (drop k lines ++ behind) ≡ (before ++ lines) ++ behind
 taken_and_left before lines behind k are =
     ap (λ xs. (before ++ xs) ++ (drop k lines ++ behind)) (first_taken k lines are)

@@ -1,5 +1,6 @@
 -- A trial that stops before its last line stops as the reading of all lines does.
-use Rattle.std.proofs.Common.{◌≡◌, ℕ, List, ◌++◌, sym, subst}
+use Rattle.std.proofs.Common.{◌≡◌, ℕ, ◌++◌, sym, subst}
+use Rattle.paw_base.specs.Bytes.{Lines}
 use Rattle.paw_effects.specs.Story.{Story}
 use Rattle.paw_reading.specs.Turn.{Ending, WaitsAt, Halted, reading}
 use Rattle.paw_reading.specs.inner.Turn.{ending_followed}
@@ -13,12 +14,12 @@ use Rattle.paw_trial.specs.inner.Trial.{TrialStopsAs}
 use Rattle.paw_trial.specs.inner.Session.{Waits}
 
 -- More lines change nothing.
-stays : (g : Story) (fs : List (List ℕ)) (stop : TrialEnd) (e : Ending) → TrialStopsAs stop e → TrialStopsAs stop (ending_followed g fs e)
+stays : (g : Story) (fs : Lines) (stop : TrialEnd) (e : Ending) → TrialStopsAs stop e → TrialStopsAs stop (ending_followed g fs e)
 stays g fs end.Memory e h = tt
 stays g fs stop (Halted halt r) h = h
 stays g fs stop e h = absurd h
 
-pub stops_later : (n : ℕ) (es fs : List (List ℕ)) (stop : TrialEnd) → es ++ fs ≡ trial_lines n → TrialStopsAs stop (reading (trial_story n) n es) →
+pub stops_later : (n : ℕ) (es fs : Lines) (stop : TrialEnd) → es ++ fs ≡ trial_lines n → TrialStopsAs stop (reading (trial_story n) n es) →
     TrialStopsAs stop (trial_reading n)
 stops_later n es fs stop all h =
     subst (λ lines. TrialStopsAs stop (reading (trial_story n) n lines)) all

@@ -136,7 +136,7 @@ answer_plays g p t old mid new line turned nx awaits first runs moves same past 
       ),
     )
 
-pub runs_left : (g : Story) (x : Past → List (List ℕ) → Out) (old mid : PlayState) (turned : Turned) → HasReadSome old.machine → RunsAs g x old turned mid
+pub runs_left : (g : Story) (x : Past → Lines → Out) (old mid : PlayState) (turned : Turned) → HasReadSome old.machine → RunsAs g x old turned mid
     → mid.machine.left ≤ old.machine.left
 runs_left g x old mid turned budget runs =
     let some = some_past old budget in

@@ -1,6 +1,7 @@
 -- What is left to do falls from phase to phase.
 use Rattle.std.proofs.Common.{◌≡◌, ℕ, zero, suc, ◌+◌, ◌*◌, ◌<◌, ◌≤◌, List, [], ◌++◌, sym, ap, ◌∙◌, subst, arith, lit≤}
 use Rattle.std.proofs.Common.{length-append}
+use Rattle.paw_base.specs.Bytes.{Lines}
 use Rattle.paw_base.proofs.Noted.{kept_none}
 use Rattle.paw_effects.specs.Story.{Story}
 use Rattle.paw_reading.specs.declared.frames.Frame.{Frame}
@@ -40,7 +41,7 @@ pub equal_none : (old new : OpenTables) → new ≡ old → ReadsNone old new
 equal_none old new e = record { left = ap (λ (m : OpenTables). m.left) e; steps = ap (λ (m : OpenTables). m.steps) e }
 
 -- What was played was read.
-pub plays_read : (g : Story) (whole : ℕ → Past → List (List ℕ) → Ending) (old : PlayState) (n : Next) (new : PlayState) → PlaysAs g whole old n new
+pub plays_read : (g : Story) (whole : ℕ → Past → Lines → Ending) (old : PlayState) (n : Next) (new : PlayState) → PlaysAs g whole old n new
     → HasReadSome old.machine → HasReadSome new.machine
 plays_read g whole old n new plays some = let k = plays (record { read = some.0; pieces = []; traces = [] }) some.1 in (k.0, k.1.0)
 

@@ -1,6 +1,6 @@
 -- Steps of a player that are halts.
-use Rattle.std.proofs.Common.{◌≡◌, ℕ, Bool, true, false, List, Some, ap, ◌∙◌, subst}
-use Rattle.paw_base.specs.Bytes.{Texts}
+use Rattle.std.proofs.Common.{◌≡◌, Bool, true, false, List, Some, ap, ◌∙◌, subst}
+use Rattle.paw_base.specs.Bytes.{Texts, Lines}
 use Rattle.paw_effects.specs.Story.{Story}
 use Rattle.paw_reading.specs.Run.{Step as Read}
 use Rattle.paw_reading.specs.declared.halt.Halt.{Halt}
@@ -12,7 +12,7 @@ use Rattle.paw_turn.specs.declared.Step.TheVariants as step
 use Rattle.paw_turn.specs.inner.Player.{PlayerView, PlaysTo, PlayHalts, IsStanding, step_halt}
 
 -- Where play ended before a piece was closed, there is no further piece and none to show.
-pub plays_halted : {F : Type 0} (g : Story) (whole : List (List ℕ) → Ending) (s : Step) (new : PlayerView F) (pieces : Texts)
+pub plays_halted : {F : Type 0} (g : Story) (whole : Lines → Ending) (s : Step) (new : PlayerView F) (pieces : Texts)
     (traces : List (List Read)) (h : Halt) → step_halt s ≡ Some h → closes_piece h ≡ false → PlaysTo g whole s new pieces traces →
     PlayHalts whole h new pieces traces
 plays_halted g whole (step.Waits p) new pieces traces h e unclosed plays = cc

@@ -21,7 +21,7 @@ use Rattle.paw_turn.specs.inner.Phases.{Past, run_now, at_phase, GoesOnAs, Moves
 use Rattle.paw_turn.specs.inner.Phases.{with_world_and_line}
 
 -- Where the whole is what moves on, and no condact is read.
-pub moves_play : (g : Story) (whole : ℕ → Past → List (List ℕ) → Ending) (x : ℕ → Run → Ending) (old mid new : PlayState) (nx : Next)
+pub moves_play : (g : Story) (whole : ℕ → Past → Lines → Ending) (x : ℕ → Run → Ending) (old mid new : PlayState) (nx : Next)
     → ((m : ℕ) (past : Past) (lines : Lines) → whole m past lines ≡ x m (run_now mid past lines))
     → Moves g x mid nx new → ReadsNone old.machine new.machine → PlaysAs g whole old nx new
 moves_play g whole x old mid new nx same moves none past has = (

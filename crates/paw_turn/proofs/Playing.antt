@@ -1,5 +1,6 @@
 -- One phase after the other.
-use Rattle.std.proofs.Common.{ℕ, suc, List, refl, sym, subst}
+use Rattle.std.proofs.Common.{ℕ, suc, refl, sym, subst}
+use Rattle.paw_base.specs.Bytes.{Lines}
 use Rattle.paw_effects.specs.Story.{Story}
 use Rattle.paw_reading.specs.Turn.{Ending, turn}
 use Rattle.paw_turn.specs.declared.phase.Phase.{Phase}
@@ -14,7 +15,7 @@ pub plays_none : (g : Story) (first : Phase) (old : PlayState) → Plays g first
 plays_none g first old past has = (past.read, (has, λ n lines. (n, refl)))
 
 -- A reading that leads to a phase, and then what is played from there.
-pub plays_then : (g : Story) (whole : ℕ → Past → List (List ℕ) → Ending) (s : Phase) (old mid new : PlayState) (nx : Next)
+pub plays_then : (g : Story) (whole : ℕ → Past → Lines → Ending) (s : Phase) (old mid new : PlayState) (nx : Next)
     → PlaysAs g whole old (next.Go s) mid → Plays g s mid nx new → PlaysAs g whole old nx new
 plays_then g whole s old mid new nx first plays past has =
     let a = first past has in

@@ -31,11 +31,11 @@ use Rattle.paw_turn.specs.inner.Phases.{Past, run_from, run_now, having_read, Tu
 use Rattle.paw_turn.specs.inner.Phases.{Plays, from_phase, from_prompt, seat_of, state_settled, opened_piece}
 
 -- An ending that comes once is the whole's.
-abbrev Once : (ℕ → List (List ℕ) → Ending) → (List (List ℕ) → Ending) → Type 0
+abbrev Once : (ℕ → Lines → Ending) → (Lines → Ending) → Type 0
 Once whole total = (m : ℕ) (lines : Lines) → whole m lines ≢ Unended → whole m lines ≡ total lines
 
 -- Where some phases of the whole end it for good, with no piece to show, it ends so.
-halts : {F : Type 0} (whole : ℕ → List (List ℕ) → Ending) (total : List (List ℕ) → Ending) → Once whole total
+halts : {F : Type 0} (whole : ℕ → Lines → Ending) (total : Lines → Ending) → Once whole total
     → (halt : Halt) (p : PlayerView F) (new : PlayState) (past : Past) → p.piece ≡ []
     → ((n : ℕ) (lines : Lines) → (m : ℕ) × TurnHalts halt (run_now new past lines) (whole m lines))
     → PlayHalts total halt p past.pieces past.traces
@@ -48,7 +48,7 @@ halts whole total once halt p new past none stops = (
 )
 
 -- Where some phases of the whole stop, it stops.
-settles : {F : Type 0} (g : Story) (routines : Routines F) (whole : ℕ → List (List ℕ) → Ending) (total : List (List ℕ) → Ending) → Once whole total
+settles : {F : Type 0} (g : Story) (routines : Routines F) (whole : ℕ → Lines → Ending) (total : Lines → Ending) → Once whole total
     → (s : TurnStop) (last : Step) (new : PlayState) (past : Past) → HasRead past.read new.machine
     → ((n : ℕ) (lines : Lines) → (m : ℕ) × StopsAs g n s new.machine.frames (run_now new past lines) (whole m lines))
     → PlaysTo g total (step_of s) (seat_of g.game routines (state_settled (step_of s) new) last) past.pieces past.traces
@@ -78,7 +78,7 @@ settles g routines whole total once (stop.Halted (halt.TooDeep u)) last new past
     halts whole total once (halt.TooDeep u) (seat_of g.game routines (state_settled (step.TooDeep u) new) last) new past refl stops
 
 -- The past of a player with these pieces, at the start of a piece.
-abbrev before : List (List ℕ) → List (List Read) → Past
+abbrev before : Texts → List (List Read) → Past
 before pieces traces = record { read = []; pieces = pieces; traces = traces }
 
 -- A new player's first piece is that of the reading.

@@ -5,7 +5,7 @@ use Rattle.std.specs.Prelude.{All}
 use Rattle.std.specs.Fn.{Shared}
 use Rattle.std.proofs.Math.ListN.{get_or}
 use Rattle.std.proofs.lemmas.List.{length-reverse}
-use Rattle.paw_base.specs.Bytes.{Bytes, Line, Texts, RoutineAnswers, Seed}
+use Rattle.paw_base.specs.Bytes.{Bytes, Line, Texts, RoutineAnswers, Seed, Lines}
 use Rattle.paw_game.specs.Game.{GameLists}
 use Rattle.paw_game.specs.Valid.{Valid}
 use Rattle.paw_world.specs.World.{World}
@@ -63,7 +63,7 @@ may_wait prompt.Over m none = none
 
 -- What was closed before, and the lines to come, change nothing of how a run stands.
 pub stands_alike : (g : GameLists) (at : Prompt) (path : List Frame) (w : World) (m : OpenTables) (p : PendingLine)
-    (pieces pieces' : List (List ℕ)) (traces traces' : List (List Read)) (lines lines' : List (List ℕ))
+    (pieces pieces' : Texts) (traces traces' : List (List Read)) (lines lines' : Lines)
     → StandsRightly g at path (run_with w m p pieces traces lines) → StandsRightly g at path (run_with w m p pieces' traces' lines')
 stands_alike g at path w m p pieces pieces' traces traces' lines lines' k =
     record { world = k.world; places = k.places; line = k.line; pending = k.pending; earlier = k.earlier; piece = refl; read = refl }
@@ -82,7 +82,7 @@ stands_over g w m p pieces traces closed k =
       read = refl;
     }
 
-stands_at : {F : Type 0} (g : Story) (whole : List (List ℕ) → Ending) (s : Step) (p : PlayerView F) (pieces : Texts) (traces : List (List Read))
+stands_at : {F : Type 0} (g : Story) (whole : Lines → Ending) (s : Step) (p : PlayerView F) (pieces : Texts) (traces : List (List Read))
     → StandsClosed s p.machine
     → PlaysTo g whole s p pieces traces → StopsRightly g.game (whole []) → IsStanding s → StandRightly g.game (prompt_at s) p.world p.machine p.pending
 stands_at g whole (step.Waits q) p pieces traces stands plays rightly standing =

@@ -1,6 +1,7 @@
 -- Where a machine waits.
 use Rattle.std.proofs.Common.{◌≡◌, ℕ, ◌<◌, List, [], ◌++◌, length, reverse, refl, sym, ◌∙◌, subst, arith}
 use Rattle.std.proofs.lemmas.List.{length-reverse}
+use Rattle.paw_base.specs.Bytes.{Lines}
 use Rattle.paw_effects.specs.Story.{Story}
 use Rattle.paw_effects.specs.declared.act.Prompt.{Prompt}
 use Rattle.paw_effects.specs.declared.act.Prompt.TheVariants as prompt
@@ -31,7 +32,7 @@ waits_in prompt.Key t m waits there =
 waits_in prompt.Over t m waits there = there.inner
 
 -- Where a machine stopped in a table, if what it read waits there.
-pub stops_in : (g : Story) (t : ℕ) (x : Past → List (List ℕ) → Out) (old mid : PlayState) (turned : Turned) → HasReadSome old.machine
+pub stops_in : (g : Story) (t : ℕ) (x : Past → Lines → Out) (old mid : PlayState) (turned : Turned) → HasReadSome old.machine
     → ((past : Past) (p : Prompt) (path : List Frame) (s : Run) → x past [] ≡ Waits p path s → WaitsThere t 0 p path s.turning)
     → RunsAs g x old turned mid → IsStopped turned mid.machine → StopsInTable t turned mid.machine
 stops_in g t x old mid (turned.Waits p) budget there runs stopped =

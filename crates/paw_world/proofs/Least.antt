@@ -1,5 +1,5 @@
 -- The least object at a place.
-use Rattle.std.proofs.Common.{◌≡◌, ◌≢◌, ℕ, zero, suc, ◌+◌, ◌-◌, ◌<◌, ◌≤◌, inl, inr, List, [], length, take, Some, None}
+use Rattle.std.proofs.Common.{◌≡◌, ◌≢◌, ℕ, zero, suc, ◌+◌, ◌-◌, ◌<◌, ◌≤◌, inl, inr, [], length, take, Some, None}
 use Rattle.std.proofs.Common.{Option, refl, sym, ap, ◌∙◌}
 use Rattle.std.proofs.Common.{arith, get_or, add-zero}
 use Rattle.std.specs.Prelude.{if◌then◌else◌, ◌==◌}
@@ -7,7 +7,7 @@ use Rattle.std.proofs.lemmas.Bool.{cases_eq, cases_lt}
 use Rattle.std.proofs.lemmas.Bool.Decides.{nat_tests}
 use Rattle.paw_base.specs.Bytes.{ObjectPlaces}
 use Rattle.paw_world.specs.inner.ObjectSet.{IsLeastFrom, found, none}
-use Rattle.paw_world.specs.inner.PlaceSets.{stands_in, AreSetsOf}
+use Rattle.paw_world.specs.inner.PlaceSets.{stands_in, AreSetsOf, ObjectSets}
 use Rattle.paw_world.specs.inner.Places.{least_at, left_above}
 use Rattle.paw_world.proofs.Listed.{count_is, place_is}
 use Rattle.paw_world.proofs.Sets.{at_place_same, at_place_other}
@@ -68,7 +68,7 @@ least_at_nowhere places p from others = elim (cases_lt from (length places)) [
   | inr past ↦ least_at_end places p from past
 ]
 
-module _ (sets : List (List ℕ)) (n : ℕ) (all places : List ℕ) (sound : AreSetsOf sets n all) (taken : take n all ≡ places) (p : ℕ) (small : p < 256) where
+module _ (sets : ObjectSets) (n : ℕ) (all places : ObjectPlaces) (sound : AreSetsOf sets n all) (taken : take n all ≡ places) (p : ℕ) (small : p < 256) where
   count : length places ≡ n
   count = count_is n all places taken (omega (arith, sound.few, sound.room))
 

@@ -11,7 +11,7 @@ use Rattle.std.proofs.lemmas.Nat.Bits.{bit_at-zero}
 use Rattle.paw_base.specs.Bytes.{ObjectPlaces}
 use Rattle.paw_base.specs.declared.limits.TheConstants.{OBJECT_LIMIT}
 use Rattle.paw_world.specs.inner.ObjectSet.{member, Inserts, Removes}
-use Rattle.paw_world.specs.inner.PlaceSets.{stands_in, AreSetsOf}
+use Rattle.paw_world.specs.inner.PlaceSets.{stands_in, AreSetsOf, ObjectSets}
 
 -- 1 at the object's place, and 0 at every other.
 abbrev pub at_place : ℕ → ℕ → ℕ
@@ -24,16 +24,16 @@ pub at_place_other : (q p : ℕ) → q ≢ p → at_place q p ≡ 0
 at_place_other q p e = grind (arith, nat_tests)
 
 -- A set is written, and the others stay.
-written_same : (sets : List (List ℕ)) (p q : ℕ) (words : List ℕ) (o : ℕ) → p < length sets → q ≡ p
+written_same : (sets : ObjectSets) (p q : ℕ) (words : List ℕ) (o : ℕ) → p < length sets → q ≡ p
     → stands_in (set sets p words) q o ≡ member words o
 written_same sets p q words o within same =
     ap (λ (ws : List ℕ). member ws o) (ap (λ (j : ℕ). get_or (set sets p words) j []) same ∙ get_or-set_same sets p words [] within)
 
-written_other : (sets : List (List ℕ)) (p q : ℕ) (words : List ℕ) (o : ℕ) → q ≢ p
+written_other : (sets : ObjectSets) (p q : ℕ) (words : List ℕ) (o : ℕ) → q ≢ p
     → stands_in (set sets p words) q o ≡ stands_in sets q o
 written_other sets p q words o other = ap (λ (ws : List ℕ). member ws o) (get_or-set_other sets p q words [] other)
 
-module _ (sets : List (List ℕ)) (n : ℕ) (places : ObjectPlaces) (sound : AreSetsOf sets n places) where
+module _ (sets : ObjectSets) (n : ℕ) (places : ObjectPlaces) (sound : AreSetsOf sets n places) where
   -- One object more, number n, at place p.
   module _ (p : ℕ) (words : List ℕ) (small : p < 256) (more : n < OBJECT_LIMIT) (inserted : Inserts n (get_or sets p []) words) where
     here : n < length places
@@ -135,13 +135,13 @@ no_sets places room = record {
 }
 
 -- The same where the set that is read comes at any default.
-pub added_at : (sets : List (List ℕ)) (n : ℕ) (places : ObjectPlaces) (p : ℕ) (d words : List ℕ) → AreSetsOf sets n places → p < 256 → n < OBJECT_LIMIT
+pub added_at : (sets : ObjectSets) (n : ℕ) (places : ObjectPlaces) (p : ℕ) (d words : List ℕ) → AreSetsOf sets n places → p < 256 → n < OBJECT_LIMIT
     → Inserts n (get_or sets p d) words → AreSetsOf (set sets p words) (n + 1) (set places n p)
 added_at sets n places p d words sound small more inserted =
     let P : List ℕ → Type 0 = λ old. Inserts n old words in
     added sets n places sound p words small more (subst P (get_or_default sets p d [] (omega (arith, sound.for_each))) inserted)
 
-pub relocated_at : (sets : List (List ℕ)) (n : ℕ) (places : ObjectPlaces) (o p : ℕ) (d e without moved : List ℕ) → AreSetsOf sets n places
+pub relocated_at : (sets : ObjectSets) (n : ℕ) (places : ObjectPlaces) (o p : ℕ) (d e without moved : List ℕ) → AreSetsOf sets n places
     → p < 256 → get_or places o 0 < 256 → o < n → Removes o (get_or sets (get_or places o 0) d) without
     → Inserts o (get_or (set sets (get_or places o 0) without) p e) moved
     → AreSetsOf (set (set sets (get_or places o 0) without) p moved) n (set places o p)

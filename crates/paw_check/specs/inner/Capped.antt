@@ -22,8 +22,12 @@ pub record HoldsCapped (row : List ℕ) (f : ℕ → ℕ) : Type 0 where
   pub long : length row ≡ 256
   pub each : (v : ℕ) → v < 256 → slice_index_or row v 0 ≡ in_32_bits (f v)
 
+-- What reading the tables takes: a row of numbers for each table, with one number for each verb.
+abbrev pub VerbCosts : Type 0
+VerbCosts = List (List ℕ)
+
 -- The number in these rows at a table and a verb; 0 past their end.
-abbrev pub cell_at : List (List ℕ) → ℕ → ℕ → ℕ
+abbrev pub cell_at : VerbCosts → ℕ → ℕ → ℕ
 cell_at rows t v = slice_index_or (unwrap_or (slice_get rows t) []) v 0
 
 -- ---- flags ----
@@ -66,7 +70,7 @@ over_verb changing v f es =
     sum_by (λ e. if is_for_every changing e then 0 else (if e.verb == v then f e.condacts else 0)) es
 
 -- What the tables take for a verb, each called this many times.
-abbrev pub dot : List ℕ → List (List ℕ) → ℕ → ℕ
+abbrev pub dot : List ℕ → VerbCosts → ℕ → ℕ
 dot counts called v =
     sum_by (λ u. slice_index_or counts u 0 * cell_at called u v) (range_with_len 0 (length called))
 

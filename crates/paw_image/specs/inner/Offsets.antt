@@ -19,8 +19,12 @@ abbrev pub offsets : {A : Type 0} → (A → Bytes) → ℕ → List A → List 
 offsets image at [] = []
 offsets image at (x ∷ xs) = at ∷ offsets image (at + length (image x)) xs
 
+-- Where the entries begin, by table.
+abbrev pub TableOffsets : Type 0
+TableOffsets = List (List ℕ)
+
 -- Where the entries of each table begin, the first table at this offset; a table begins with a number of two bytes.
-abbrev pub entry_offsets : ℕ → List (List Entry) → List (List ℕ)
+abbrev pub entry_offsets : ℕ → List (List Entry) → TableOffsets
 entry_offsets at [] = []
 entry_offsets at (es ∷ ess) = offsets entry_image (at + 2) es ∷ entry_offsets (at + length (table_image es)) ess
 
@@ -46,7 +50,7 @@ unfoldable pub entries_begin : ImagePreface → ℕ → Bytes → List ℕ
 entries_begin d total bytes = entries_after d total (checked_number 0 ENTRY_LIMIT bytes)
 
 -- The same for a number of tables.
-unfoldable pub tables_begin : ImagePreface → ℕ → ℕ → Bytes → List (List ℕ)
+unfoldable pub tables_begin : ImagePreface → ℕ → ℕ → Bytes → TableOffsets
 tables_begin d total zero bytes = []
 tables_begin d total (suc n) bytes =
     entries_begin d total bytes ∷ on_rest (tables_begin d total n) (after_table d bytes)
@@ -72,7 +76,7 @@ abbrev pub to_tables : ImagePreface → Bytes → Passing
 to_tables d bytes = to_exits d bytes >>= each (after_exits d) d.counts.locations
 
 -- Where the entries of each table begin, as the index has it.
-abbrev pub entries_of : List TableIndex → List (List ℕ)
+abbrev pub entries_of : List TableIndex → TableOffsets
 entries_of ts = map (λ t. t.entries.items) ts
 
 -- Where the rows of each list begin, as the lists after the words are passed over.

@@ -1,4 +1,5 @@
-use Rattle.std.proofs.Common.{◌≤◌, ◌∙◌, List, ℕ, length, arith, sym, ap}
+use Rattle.std.proofs.Common.{◌≤◌, ◌∙◌, length, arith, sym, ap}
+use Rattle.paw_base.specs.Bytes.{Texts}
 use Rattle.paw_base.specs.declared.limits.TheConstants.{LOCATION_LIMIT}
 use Rattle.paw_game.specs.Game.{GameLists}
 use Rattle.paw_game.specs.declared.parts.GamePart.TheVariants as part
@@ -15,7 +16,7 @@ exits_fault-requires c =
       locations = omega (
         arith,
         few,
-        ap (λ (ts : List (List ℕ)). length ts) c.as_slice-3.ensures.value,
+        ap (λ (ts : Texts). length ts) c.as_slice-3.ensures.value,
         ap locations c.parts.view_is,
         ap locations c.new-inspector.ensures.value,
       );
