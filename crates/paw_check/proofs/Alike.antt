@@ -37,7 +37,7 @@ use Rattle.paw_reading.specs.Reading.{coming_phrase, carried_out, acts, reads_on
 use Rattle.paw_reading.specs.Reading.{from_condact, rest_of_loop, read_at_level}
 use Rattle.paw_reading.specs.Reading.{game_over}
 use Rattle.paw_reading.specs.inner.Parts.{goodbye, quit_question}
-use Rattle.paw_reading.proofs.Keeps.{either, prints, Keeps, IsOrNone, CallsKeeping, plain_keeps}
+use Rattle.paw_reading.proofs.LeavesLoop.{either, prints, LeavesLoop, IsOrNone, CallsLeavingLoop, plain_leaves_loop}
 
 -- The loop that is open is at this level or above it.
 abbrev pub AtMost : ℕ → Option OpenLoop → Type 0
@@ -245,24 +245,24 @@ kept_away lv o q none (inl e) = subst (λ z. at_level lv z ≡ None) (sym e) non
 kept_away lv o q none (inr e) = subst (λ z. at_level lv z ≡ None) (sym e) refl
 
 -- With no loop open at its level before it, a table that is left is left.
-none_again : (lv : ℕ) (next : OpenLoop → Run → Out) (o : Option OpenLoop) (x : Out) → at_level lv o ≡ None → Keeps o x → next_object_or lv next x ≡ x
+none_again : (lv : ℕ) (next : OpenLoop → Run → Out) (o : Option OpenLoop) (x : Out) → at_level lv o ≡ None → LeavesLoop o x → next_object_or lv next x ≡ x
 none_again lv next o (Left a r) none k =
     ap (λ (z : Option OpenLoop). option_map_or (λ l. next l r) z (Left a r)) (kept_away lv o r.turning none k)
 none_again lv next o (Waits p path r) none k = refl
 none_again lv next o (Stopped stop r) none k = refl
 
 -- So it is read once, from its start.
-read_once : (g : Story) (sub : ℕ → Run → Out) → CallsKeeping sub → (lv t : ℕ) (r : Run) → at_level lv r.turning ≡ None →
+read_once : (g : Story) (sub : ℕ → Run → Out) → CallsLeavingLoop sub → (lv t : ℕ) (r : Run) → at_level lv r.turning ≡ None →
     read_at_level g sub lv t 0 0 false r ≡ from_condact g sub lv t 0 0 false r
 read_once g sub calls lv t r none =
-    none_again lv (rest_of_loop g sub lv) r.turning (from_condact g sub lv t 0 0 false r) none (plain_keeps g sub lv calls t 0 0 false r)
+    none_again lv (rest_of_loop g sub lv) r.turning (from_condact g sub lv t 0 0 false r) none (plain_leaves_loop g sub lv calls t 0 0 false r)
 
 -- And leaves no loop open that wasn't.
 kept_most : (lv : ℕ) (o q : Option OpenLoop) → AtMost lv o → IsOrNone o q → AtMost lv q
 kept_most lv o q low (inl e) = subst (AtMost lv) (sym e) low
 kept_most lv o q low (inr e) = subst (AtMost lv) (sym e) tt
 
-settled_below : (Describes : Type 0) (lv high : ℕ) (o : Option OpenLoop) (x : Out) → AtMost lv o → Keeps o x → Settled Describes high x →
+settled_below : (Describes : Type 0) (lv high : ℕ) (o : Option OpenLoop) (x : Out) → AtMost lv o → LeavesLoop o x → Settled Describes high x →
     Settled Describes lv x
 settled_below Describes lv high o (Left a r) low k h = kept_most lv o r.turning low k
 settled_below Describes lv high o (Waits p path r) low k h = tt
@@ -271,12 +271,12 @@ settled_below Describes lv high o (Stopped Restarts r) low k h = tt
 settled_below Describes lv high o (Stopped (Halts halt) r) low k h = tt
 
 -- What is alike from the start of a table to its end is alike for the whole table.
-pub reads_alike : (g : Story) (Describes : Type 0) (lv high t : ℕ) (sub over_sub : ℕ → Run → Out) → CallsKeeping sub → CallsKeeping over_sub → (r : Run) →
+pub reads_alike : (g : Story) (Describes : Type 0) (lv high t : ℕ) (sub over_sub : ℕ → Run → Out) → CallsLeavingLoop sub → CallsLeavingLoop over_sub → (r : Run) →
     AtMost lv r.turning → at_level high r.turning ≡ None →
     Alike Describes high (from_condact g sub high t 0 0 false r) (from_condact g over_sub high t 0 0 false r) →
     Alike Describes lv (read_at_level g sub high t 0 0 false r) (read_at_level g over_sub high t 0 0 false r)
 reads_alike g Describes lv high t sub over_sub calls over_calls r low none h =
     let one = read_once g sub calls high t r none in
     let other = read_once g over_sub over_calls high t r none in
-    let settled = settled_below Describes lv high r.turning (from_condact g sub high t 0 0 false r) low (plain_keeps g sub high calls t 0 0 false r) h.1 in
+    let settled = settled_below Describes lv high r.turning (from_condact g sub high t 0 0 false r) low (plain_leaves_loop g sub high calls t 0 0 false r) h.1 in
     (one ∙ (h.0 ∙ sym other), subst (Settled Describes lv) (sym one) settled)

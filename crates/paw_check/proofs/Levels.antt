@@ -26,7 +26,7 @@ use Rattle.paw_reading.specs.Bounds.{ValidStory}
 use Rattle.paw_reading.specs.Run.{Run}
 use Rattle.paw_reading.specs.Reading.{Redescribes, Restarts, Halts, Out, Left, Waits, Stopped, at_level, read_at_level}
 use Rattle.paw_reading.specs.Reading.{table_called, table_read}
-use Rattle.paw_reading.proofs.Keeps.{called_keeps}
+use Rattle.paw_reading.proofs.LeavesLoop.{called_leaves_loop}
 use Rattle.paw_check.specs.Calls.{turn_tables, table_condacts, called_below, most_levels}
 use Rattle.paw_check.specs.Verdicts.{call_too_deep, redescribes}
 use Rattle.paw_check.specs.Promise.{CallsWithin}
@@ -98,8 +98,8 @@ module _ (s : Story) (v : Valid s.game) (ts : List ℕ) (few : (t : ℕ) → In 
   called_alike (suc n) zero lv ten (inl e) u at r low = absurd (omega arith)
   called_alike (suc n) zero lv ten (inr none) u at r low = absurd (not_enough lv u at none.1)
   called_alike (suc n) (suc m) lv ten enough u at r low =
-      reads_alike s Describes lv (suc lv) u (table_called s n (suc lv)) (table_called s m (suc lv)) (called_keeps s n (suc lv))
-      (called_keeps s m (suc lv)) r low
+      reads_alike s Describes lv (suc lv) u (table_called s n (suc lv)) (table_called s m (suc lv)) (called_leaves_loop s n (suc lv))
+      (called_leaves_loop s m (suc lv)) r low
       (none_at lv r.turning low)
       (plain_alike s Describes (suc lv) (table_called s n (suc lv)) (table_called s m (suc lv)) (TablesAt (suc (suc lv)))
       (called_alike n m (suc lv) (omega arith) (fewer n m lv enough)) (OnLevel (suc lv)) (leads_on (suc lv)) u
@@ -124,7 +124,7 @@ module _ (s : Story) (v : Valid s.game) (ts : List ℕ) (few : (t : ℕ) → In 
       Alike Describes 0 (read_at_level s (table_called s n 0) 0 t 0 0 false r) (table_read s t r)
   unfolding called_below
   table_alike n t enough at r none =
-      reads_alike s Describes 0 0 t (table_called s n 0) (table_called s LEVEL_LIMIT 0) (called_keeps s n 0) (called_keeps s LEVEL_LIMIT 0) r
+      reads_alike s Describes 0 0 t (table_called s n 0) (table_called s LEVEL_LIMIT 0) (called_leaves_loop s n 0) (called_leaves_loop s LEVEL_LIMIT 0) r
       (none_open 0 r.turning none) (none_there 0 r.turning none)
       (plain_alike s Describes 0 (table_called s n 0) (table_called s LEVEL_LIMIT 0) (TablesAt 1) (called_alike n LEVEL_LIMIT 0 refl (from_start n enough))
       (OnLevel 0) (leads_on 0) t

@@ -52,7 +52,7 @@ use Rattle.paw_reading.specs.Reading.{reads_one, condacts, is_for_now}
 use Rattle.paw_reading.specs.Reading.{entries, from_condact, rest_of_loop, read_at_level, game_over}
 use Rattle.paw_reading.specs.inner.Parts.{goodbye, quit_question}
 use Rattle.paw_reading.proofs.EachCondact.{by_test}
-use Rattle.paw_reading.proofs.Keeps.{Keeps, CallsKeeping, IsOrNone, either, open_or_not, plain_keeps}
+use Rattle.paw_reading.proofs.LeavesLoop.{LeavesLoop, CallsLeavingLoop, IsOrNone, either, open_or_not, plain_leaves_loop}
 use Rattle.paw_check.specs.Verbs.{may_write_verb}
 use Rattle.paw_check.proofs.PrintsWithin.{actions_print_within, questions_print_within}
 use Rattle.paw_check.proofs.VerbKept.{conditions_keep_verb, actions_keep_verb}
@@ -617,12 +617,12 @@ module _ (g : Story) (valid : ValidStory g) (kind : SpentKind) (limit pending : 
           (goes_up c d a b p q (entries g sub lv t (suc e) es) later acted m r k u fits)
 
       -- Once the table is left no loop of its level is open.
-      module _ (keeps : CallsKeeping sub) where
+      module _ (leaves_loop : CallsLeavingLoop sub) where
         stays : (o q : Option OpenLoop) → at_level lv o ≡ None → IsOrNone o q → at_level lv q ≡ None
         stays o q none (inl e) = rw e none
         stays o q none (inr e) = rw e refl
 
-        last_ends : (next : OpenLoop → Run → Out) (a b : ℕ) (o : Option OpenLoop) (x : Out) → at_level lv o ≡ None → Keeps o x →
+        last_ends : (next : OpenLoop → Run → Out) (a b : ℕ) (o : Option OpenLoop) (x : Out) → at_level lv o ≡ None → LeavesLoop o x →
             Ends (Inside lv a b) b x → Ends (Outside lv b) b (next_object_or lv next x)
         last_ends next a b o (Left acted r) none keep k =
             let shut : at_level lv r.turning ≡ None = stays o r.turning none keep in
@@ -646,5 +646,5 @@ module _ (g : Story) (valid : ValidStory g) (kind : SpentKind) (limit pending : 
             let goes : Goes a b (from_condact g sub lv t 0 0) =
             subst (λ es. Goes a b (entries g sub lv t 0 es)) (sym (all_left (table_at g.game t))) (entries_end t 0 (table_at g.game t) has short) in
             last_ends (rest_of_loop g sub lv) (m + a) (m + (a + b)) r.turning (from_condact g sub lv t 0 0 false r) none
-            (plain_keeps g sub lv keeps t 0 0 false r)
+            (plain_leaves_loop g sub lv leaves_loop t 0 0 false r)
             (goes false m r k u fits)

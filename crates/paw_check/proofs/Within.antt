@@ -26,7 +26,7 @@ use Rattle.paw_reading.specs.Run.{Run}
 use Rattle.paw_reading.specs.declared.halt.Halt.TheVariants as halt
 use Rattle.paw_reading.specs.Reading.{Redescribes, Restarts, Halts, Out, Left, Waits, Stopped, at_level}
 use Rattle.paw_reading.specs.Reading.{read_at_level, table_called, table_read}
-use Rattle.paw_reading.proofs.Keeps.{called_keeps}
+use Rattle.paw_reading.proofs.LeavesLoop.{called_leaves_loop}
 use Rattle.paw_check.specs.Prints.{most_text}
 use Rattle.paw_check.specs.Verbs.{may_write_verb}
 use Rattle.paw_check.specs.Calls.{turn_tables, calls_table, table_condacts, called_below, reached_from}
@@ -135,7 +135,7 @@ module _ (g : Story) (valid : ValidStory g) (flat : call_too_deep g.game ≡ Non
       reads_end g valid kind limit pending changing verb low bye lv (Stands t)
       (λ c stands. stands.1) (quiet lv t few at) (takes_at g.game own count n) (if_opens (length g.game.objects * all))
       (own_takes g.game own count n) all (length g.game.objects * all) (loops_take (length g.game.objects * all))
-      (λ once more h. turned_most all once more (length g.game.objects) h) (table_called g n lv) calls (called_keeps g n lv) t
+      (λ once more h. turned_most all once more (length g.game.objects) h) (table_called g n lv) calls (called_leaves_loop g n lv) t
       (each_of_table g.game valid.game t (Stands t) (λ c member kept. (member, kept))) (omega arith) m r k none u (omega (arith, is, fits)) in
       subst (λ x. EndsSo (Shut lv (m + x)) (m + x) (read_at_level g (table_called g n lv) lv t 0 0 false r)) (sym is) ends
 

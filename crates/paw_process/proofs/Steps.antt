@@ -22,7 +22,7 @@ use Rattle.paw_reading.specs.Reading.{rest_of_table, reads_one}
 use Rattle.paw_reading.specs.GoingOn.{on_path}
 use Rattle.paw_reading.specs.inner.GoingOn.{along}
 use Rattle.paw_reading.proofs.Onward.{taken_again}
-use Rattle.paw_reading.proofs.Keeps.{at_level_own, plain_keeps, turns_closes, deeper_keeps}
+use Rattle.paw_reading.proofs.LeavesLoop.{at_level_own, plain_leaves_loop, turns_closes, deeper_leaves_loop}
 use Rattle.paw_reading.proofs.Rules.{within_budget, within_none, inside_end, inside_condact, plain_left}
 use Rattle.paw_reading.proofs.Rules.{plain_match, plain_inside, again_closed, after_call_again}
 use Rattle.paw_reading.proofs.Along.{along_stopped, on_path_reverse}
@@ -81,7 +81,7 @@ pub turning_some : (g : Story) (fs : List Frame) (l : OpenLoop) (n : ℕ) (r : R
 turning_some g fs l n r o own low h =
     ap (along g fs) (turns_some g (length fs) l _ n r o low h
     ∙ taken_again g (deeper g (length fs)) (length fs) l o _ own
-    (plain_keeps g (deeper g (length fs)) (length fs) (deeper_keeps g (length fs)) l.table l.entry (suc l.at) true (object_taken g.game l o r)))
+    (plain_leaves_loop g (deeper g (length fs)) (length fs) (deeper_leaves_loop g (length fs)) l.table l.entry (suc l.at) true (object_taken g.game l o r)))
 
 -- ---- a table is left ----
 
@@ -111,7 +111,7 @@ acted_loop g fs f p r =
     let sub : ℕ → Run → Out = deeper g (length fs) in
     ap (along g fs) (again_closed g sub (length fs) (rest_of_loop g sub (length fs)) _
     (turns_closes g (length fs) (loop_of (length fs) f p) (past_of g fs f true) refl
-    (plain_keeps g sub (length fs) (deeper_keeps g (length fs)) f.table f.entry (suc f.at) true) (length g.game.objects) r))
+    (plain_leaves_loop g sub (length fs) (deeper_leaves_loop g (length fs)) f.table f.entry (suc f.at) true) (length g.game.objects) r))
 
 pub acted_redescribes : (g : Story) (fs : List Frame) (f : Frame) (r : Run) →
     acted_at g fs f effect.Redescribe r ≡ Stopped Redescribes (without_loop r)

@@ -40,7 +40,7 @@ use Rattle.paw_reading.specs.Turn.{after_left}
 use Rattle.paw_reading.specs.Turn.{table_done, turn, phases_left, opening, timeout_text}
 use Rattle.paw_reading.specs.inner.Parts.{goodbye, quit_question, line_set, unknown_text}
 use Rattle.paw_reading.specs.inner.Pieces.{count, Counted, PiecesOfLines}
-use Rattle.paw_reading.proofs.Keeps.{either, open_or_not, prints}
+use Rattle.paw_reading.proofs.LeavesLoop.{either, open_or_not, prints}
 use Rattle.paw_reading.proofs.EachCondact.{plain_goes}
 
 -- How reading tables ends where there were v pieces and lines.

@@ -35,8 +35,8 @@ use Rattle.paw_reading.specs.Reading.{rest_of_entry, from_condact, rest_of_loop,
 use Rattle.paw_reading.specs.Reading.{rest_of_table, coming_phrase, game_over}
 use Rattle.paw_reading.specs.inner.Parts.{goodbye, quit_question}
 use Rattle.paw_reading.specs.GoingOn.{on_path}
-use Rattle.paw_reading.proofs.Keeps.{Keeps, at_level_own, at_level_is, turns_closes, plain_keeps, looped_closes}
-use Rattle.paw_reading.proofs.Keeps.{deeper_keeps}
+use Rattle.paw_reading.proofs.LeavesLoop.{LeavesLoop, at_level_own, at_level_is, turns_closes, plain_leaves_loop, looped_closes}
+use Rattle.paw_reading.proofs.LeavesLoop.{deeper_leaves_loop}
 use Rattle.paw_reading.proofs.Rules.{inside_end, inside_condact, again_closed, again_again, after_call_again}
 use Rattle.paw_reading.proofs.Rules.{deeper_rest, deeper_none}
 use Rattle.paw_reading.proofs.Onward.{plain_end, plain_entry, taken_again}
@@ -160,16 +160,16 @@ module _ (g : Story) (ps : Texts) (ts : List (List Step)) (lines : Lines) where
         more : Run → Out
         more = over_objects g lv (record l { last = 0 }) body n
 
-        keeps : (o : ℕ) (s : Run) → Keeps (Some (record l { last = o })) (body (object_taken g.game l o s))
-        keeps o s = plain_keeps g (deeper g lv) lv (deeper_keeps g lv) l.table l.entry (suc l.at) true (object_taken g.game l o s)
+        leaves_loop : (o : ℕ) (s : Run) → LeavesLoop (Some (record l { last = o })) (body (object_taken g.game l o s))
+        leaves_loop o s = plain_leaves_loop g (deeper g lv) lv (deeper_leaves_loop g lv) l.table l.entry (suc l.at) true (object_taken g.game l o s)
 
-        after : (o : ℕ) → length g.game.objects - suc o ≡ n → IsSettling lv more → (y : Out) → Keeps (Some (record l { last = o })) y →
+        after : (o : ℕ) → length g.game.objects - suc o ≡ n → IsSettling lv more → (y : Out) → LeavesLoop (Some (record l { last = o })) y →
             settles lv y ≡ settles lv (next_object_or lv (λ _. more) y)
         after o e ih (Left a s) (inl k) =
             let q : at_level lv s.turning ≡ Some (record l { last = o }) = rw k (at_level_own lv (record l { last = o }) own) in
             rw (q, e)
             (sym (again_closed g (deeper g lv) lv (rest_of_loop g (deeper g lv) lv) (more (around ps ts lines s))
-            (turns_closes g lv (record l { last = 0 }) body own (plain_keeps g (deeper g lv) lv (deeper_keeps g lv) l.table l.entry (suc l.at) true) n
+            (turns_closes g lv (record l { last = 0 }) body own (plain_leaves_loop g (deeper g lv) lv (deeper_leaves_loop g lv) l.table l.entry (suc l.at) true) n
             (around ps ts lines s)))
             ∙ ih s)
         after o e ih (Left a s) (inr k) = rw k refl
@@ -183,13 +183,13 @@ module _ (g : Story) (ps : Texts) (ts : List (List Step)) (lines : Lines) where
             let p : next_object_or lv (λ _. over_objects g lv (record l { last = 0 }) body (length g.game.objects - suc o))
             (body (object_taken g.game l o (around ps ts lines r)))
             ≡ loops lv (body (object_taken g.game l o (around ps ts lines r))) =
-            taken_again g (deeper g lv) lv l o _ own (keeps o (around ps ts lines r)) in
+            taken_again g (deeper g lv) lv l o _ own (leaves_loop o (around ps ts lines r)) in
             let q : next_object_or lv (λ _. more) (body (object_taken g.game l o (around ps ts lines r)))
             ≡ loops lv (body (object_taken g.game l o (around ps ts lines r))) =
             rw e at p in
-            ap (λ x. loops lv x) q ∙ again_again g (deeper g lv) lv (deeper_keeps g lv) (body (object_taken g.game l o (around ps ts lines r)))
+            ap (λ x. loops lv x) q ∙ again_again g (deeper g lv) lv (deeper_leaves_loop g lv) (body (object_taken g.game l o (around ps ts lines r)))
             ∙ hb (object_taken g.game l o r)
-            ∙ after o e ih (body (object_taken g.game l o r)) (keeps o r)
+            ∙ after o e ih (body (object_taken g.game l o r)) (leaves_loop o r)
 
     -- ---- one condact ----
 
@@ -269,7 +269,7 @@ module _ (g : Story) (ps : Texts) (ts : List (List Step)) (lines : Lines) where
           settles_inside t e (settles_entries t (length (table_at g.game t)) (suc e) (omega arith)) (length (condacts_of (entry_at g.game t e))) (suc k)
           (omega arith) a
 
-      settles_closed : (x : Out) → Keeps None x → settles lv x ≡ extends lv x
+      settles_closed : (x : Out) → LeavesLoop None x → settles lv x ≡ extends lv x
       settles_closed (Left a r) (inl k) = rw k refl
       settles_closed (Left a r) (inr k) = rw k refl
       settles_closed (Waits p path r) k = refl
@@ -286,9 +286,9 @@ module _ (g : Story) (ps : Texts) (ts : List (List Step)) (lines : Lines) where
               let own : l.level ≡ lv = (at_level_is lv r.turning l e).0 in
               rw e
               (sym (again_closed g (deeper g lv) lv (rest_of_loop g (deeper g lv) lv) (rest_of_loop g (deeper g lv) lv l (around ps ts lines r))
-              (looped_closes g (deeper g lv) lv (deeper_keeps g lv) l (around ps ts lines r) own))
+              (looped_closes g (deeper g lv) lv (deeper_leaves_loop g lv) l (around ps ts lines r) own))
               ∙ settles_turns l own (settles_plain l.table l.entry (suc l.at) true) (length g.game.objects - suc l.last) (omega arith) r
-              ∙ settles_closed (rest_of_loop g (deeper g lv) lv l r) (looped_closes g (deeper g lv) lv (deeper_keeps g lv) l r own))
+              ∙ settles_closed (rest_of_loop g (deeper g lv) lv l r) (looped_closes g (deeper g lv) lv (deeper_leaves_loop g lv) l r own))
       settles_extends (Waits p path r) = refl
       settles_extends (Stopped stop r) = refl
 

@@ -30,7 +30,7 @@ use Rattle.paw_reading.specs.inner.Parts.{line_set, unknown_text}
 use Rattle.paw_reading.specs.inner.Turn.{ending_followed, GoingOnIsReading}
 use Rattle.paw_reading.specs.inner.Longer.{TurnsGoOn}
 use Rattle.paw_reading.specs.inner.Waits.{IsLoopOf}
-use Rattle.paw_reading.proofs.Keeps.{Keeps, reads_keeps, deeper_keeps}
+use Rattle.paw_reading.proofs.LeavesLoop.{LeavesLoop, reads_leaves_loop, deeper_leaves_loop}
 use Rattle.paw_reading.proofs.Stops.{Stops, rest_stops}
 use Rattle.paw_reading.proofs.Stays.{IsInner, Stays, rest_stays}
 use Rattle.paw_reading.proofs.Longer.{tables_go_on}
@@ -38,7 +38,7 @@ use Rattle.paw_reading.proofs.Ends.{Refines, table_done_more, at_main_more, turn
 use Rattle.paw_reading.proofs.Ends.{going_on_ends}
 
 -- No loop is open where a table was left that was begun with none.
-left_none : (a : Bool) (r : Run) → Keeps None (Left a r) → r.turning ≡ None
+left_none : (a : Bool) (r : Run) → LeavesLoop None (Left a r) → r.turning ≡ None
 left_none a r (inl h) = h
 left_none a r (inr h) = h
 
@@ -97,13 +97,13 @@ module _ (g : Story) (lines : Lines) where
         (table_done_more g (turn g m) more refines (first_table path) (on_path g prompt.Key 0 path (with_lines lines r)) k)
     waits_follow t prompt.Over path r inner e k = absurd inner
 
-    table_done_follows : (t : ℕ) (x : Out) → Keeps None x → Stops x → Stays t 0 x →
+    table_done_follows : (t : ℕ) (x : Out) → LeavesLoop None x → Stops x → Stays t 0 x →
         Follows m (table_done g go t x) (table_done g more t (out_followed g lines 0 x))
-    table_done_follows t (Left a r) keeps stops stays k = after_left_follows t a r (left_none a r keeps) k
-    table_done_follows t (Waits p path r) keeps stops stays k = waits_follow t p path r stays.inner (stays.first refl) k
-    table_done_follows t (Stopped Redescribes r) keeps stops stays k = follows AtDescribe r stops k
-    table_done_follows t (Stopped Restarts r) keeps stops stays k = follows AtDescribe r stops k
-    table_done_follows t (Stopped (Halts halt) r) keeps stops stays k = refl
+    table_done_follows t (Left a r) leaves_loop stops stays k = after_left_follows t a r (left_none a r leaves_loop) k
+    table_done_follows t (Waits p path r) leaves_loop stops stays k = waits_follow t p path r stays.inner (stays.first refl) k
+    table_done_follows t (Stopped Redescribes r) leaves_loop stops stays k = follows AtDescribe r stops k
+    table_done_follows t (Stopped Restarts r) leaves_loop stops stays k = follows AtDescribe r stops k
+    table_done_follows t (Stopped (Halts halt) r) leaves_loop stops stays k = refl
 
     -- A table that is read from its start.
     read_follows : (t : ℕ) (r : Run) → r.turning ≡ None →
@@ -111,7 +111,7 @@ module _ (g : Story) (lines : Lines) where
     read_follows t r none =
         rw (tables_go_on g lines 0 t 0 0 false r)
         (table_done_follows t (table_read g t r)
-        (subst (λ o. Keeps o (table_read g t r)) none (reads_keeps g (deeper g 0) 0 (deeper_keeps g 0) t 0 0 false r))
+        (subst (λ o. LeavesLoop o (table_read g t r)) none (reads_leaves_loop g (deeper g 0) 0 (deeper_leaves_loop g 0) t 0 0 false r))
         (rest_stops g 0 t 0 0 false r)
         (rest_stays t g 0 t 0 0 (λ z. refl) false r (subst (IsLoopOf t) (sym none) tt)))
 

@@ -47,7 +47,7 @@ use Rattle.paw_reading.specs.Turn.{first_table}
 use Rattle.paw_reading.specs.inner.Parts.{goodbye, quit_question}
 use Rattle.paw_reading.specs.inner.Waits.{IsAt, LeadsTo, tables_of, IsLoopIn}
 use Rattle.paw_reading.proofs.Lists.{drop_more}
-use Rattle.paw_reading.proofs.Keeps.{either, open_or_not, at_level_is, prints}
+use Rattle.paw_reading.proofs.LeavesLoop.{either, open_or_not, at_level_is, prints}
 
 -- ---- lists ----
 

@@ -1,6 +1,6 @@
 pub mod Lists
 pub mod EachCondact
-pub mod Keeps
+pub mod LeavesLoop
 pub mod Rules
 pub mod Onward
 pub mod Stops

@@ -21,7 +21,7 @@ use Rattle.paw_reading.specs.inner.Rules.{past, at_frame, leaves, looks, goes, M
 use Rattle.paw_reading.specs.inner.Rules.{FollowsActions}
 use Rattle.paw_reading.specs.inner.Rules.{LoopRules, AnswersPrompts, ReadingOn}
 use Rattle.paw_reading.proofs.Lists.{drop_none, drop_some}
-use Rattle.paw_reading.proofs.Keeps.{Keeps, prints, at_level_own, turns_closes, plain_keeps, deeper_keeps}
+use Rattle.paw_reading.proofs.LeavesLoop.{LeavesLoop, prints, at_level_own, turns_closes, plain_leaves_loop, deeper_leaves_loop}
 use Rattle.paw_reading.proofs.Rules.{within_budget, within_none, inside_end, inside_condact, again_closed}
 use Rattle.paw_reading.proofs.Rules.{after_call_again, deeper_rest, deeper_none}
 
@@ -42,7 +42,7 @@ module _ (g : Story) (sub : ℕ → Run → Out) (lv : ℕ) where
 -- ---- the loop ----
 
 -- The loop of which an object was taken is the one that is open.
-pub taken_again : (g : Story) (sub : ℕ → Run → Out) (lv : ℕ) (l : OpenLoop) (o : ℕ) (x : Out) → l.level ≡ lv → Keeps (Some (record l { last = o })) x →
+pub taken_again : (g : Story) (sub : ℕ → Run → Out) (lv : ℕ) (l : OpenLoop) (o : ℕ) (x : Out) → l.level ≡ lv → LeavesLoop (Some (record l { last = o })) x →
     next_object_or lv (λ _. over_objects g lv (record l { last = 0 }) (from_condact g sub lv l.table l.entry (suc l.at) true) (length g.game.objects - suc o)) x
     ≡ next_object_or lv (rest_of_loop g sub lv) x
 taken_again g sub lv l o (Left a r) own (inl k) =
@@ -90,7 +90,7 @@ module _ (g : Story) (lv : ℕ) where
   begins f p r =
       let all : length g.game.objects - 0 ≡ length g.game.objects = omega arith in
       rw all (again_closed g (deeper g lv) lv _ _
-      (turns_closes g lv (loop_of lv f p) _ refl (plain_keeps g (deeper g lv) lv (deeper_keeps g lv) f.table f.entry (suc f.at) true)
+      (turns_closes g lv (loop_of lv f p) _ refl (plain_leaves_loop g (deeper g lv) lv (deeper_leaves_loop g lv) f.table f.entry (suc f.at) true)
       (length g.game.objects) r))
 
   follows_actions : FollowsActions g lv
@@ -123,7 +123,7 @@ module _ (g : Story) (lv : ℕ) where
   unfolding over_objects
   takes_one l n o r own e n_is h =
       rw (e, h) (rw n_is at (taken_again g (deeper g lv) lv l o _ own
-      (plain_keeps g (deeper g lv) lv (deeper_keeps g lv) l.table l.entry (suc l.at) true (object_taken g.game l o r))))
+      (plain_leaves_loop g (deeper g lv) lv (deeper_leaves_loop g lv) l.table l.entry (suc l.at) true (object_taken g.game l o r))))
 
   none_more : (l : OpenLoop) (n : ℕ) (r : Run) → n ≡ 0 →
       over_objects g lv (record l { last = 0 }) (from_condact g (deeper g lv) lv l.table l.entry (suc l.at) true) n r ≡ Left true (without_loop r)

@@ -46,7 +46,7 @@ use Rattle.paw_reading.specs.inner.Waits.{StopsRightly, StopsBounded}
 use Rattle.paw_reading.specs.inner.Waits.{ReadingsStopRightly, GoingOnStopsRightly, ReadingsAreBounded}
 use Rattle.paw_reading.specs.inner.Waits.{GoingOnIsBounded}
 use Rattle.paw_reading.proofs.Held.{Sound, Held, none_open, table_held, path_held}
-use Rattle.paw_reading.proofs.Keeps.{either}
+use Rattle.paw_reading.proofs.LeavesLoop.{either}
 use Rattle.paw_reading.proofs.Past.{past_stays}
 use Rattle.paw_effects.proofs.Worlds.{world_at, world_is}
 use Rattle.paw_reading.proofs.Sounding.{IsResting, EndsSound, are_lines, reading_sounds, going_on_sounds}

@@ -25,7 +25,7 @@ use Rattle.paw_reading.specs.Reading.{reads_one, condacts, is_for_now, entries, 
 use Rattle.paw_reading.specs.Reading.{rest_of_loop}
 use Rattle.paw_reading.specs.Reading.{table_called, deeper, rest_of_table}
 use Rattle.paw_reading.proofs.Lists.{drop_none, drop_some, drop_more}
-use Rattle.paw_reading.proofs.Keeps.{Keeps, CallsKeeping, at_level_is, looped_closes}
+use Rattle.paw_reading.proofs.LeavesLoop.{LeavesLoop, CallsLeavingLoop, at_level_is, looped_closes}
 
 -- The budget holds, or is used up.
 pub within_budget : (r : Run) (x : Out) → length r.read < READ_LIMIT → within r x ≡ x
@@ -111,14 +111,14 @@ module _ (g : Story) (sub : ℕ → Run → Out) (lv : ℕ) where
   -- ---- the loop of the level ----
 
   -- What is closed already stays.
-  pub again_closed : (next : OpenLoop → Run → Out) (x : Out) → Keeps None x → next_object_or lv next x ≡ x
+  pub again_closed : (next : OpenLoop → Run → Out) (x : Out) → LeavesLoop None x → next_object_or lv next x ≡ x
   again_closed next (Left a r) (inl k) = rw k refl
   again_closed next (Left a r) (inr k) = rw k refl
   again_closed next (Waits p path r) k = refl
   again_closed next (Stopped stop r) k = refl
 
   -- Once is as good as twice.
-  pub again_again : CallsKeeping sub → (x : Out) → next_object_or lv (rest_of_loop g sub lv) (next_object_or lv (rest_of_loop g sub lv) x)
+  pub again_again : CallsLeavingLoop sub → (x : Out) → next_object_or lv (rest_of_loop g sub lv) (next_object_or lv (rest_of_loop g sub lv) x)
       ≡ next_object_or lv (rest_of_loop g sub lv) x
   again_again calls (Left a r) = go (at_level lv r.turning) refl
     where

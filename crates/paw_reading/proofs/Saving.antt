@@ -48,7 +48,7 @@ use Rattle.paw_reading.specs.Saving.{NeverSaves}
 use Rattle.paw_reading.specs.inner.Saving.{no_positions, EndsKeeping, ReadingsKeepNoPosition, GoingOnKeepsPositions}
 use Rattle.paw_reading.specs.inner.Parts.{goodbye, quit_question, line_set, unknown_text, in_table}
 use Rattle.paw_reading.proofs.Lists.{drop_more}
-use Rattle.paw_reading.proofs.Keeps.{either, open_or_not, prints}
+use Rattle.paw_reading.proofs.LeavesLoop.{either, open_or_not, prints}
 
 all_left : {A : Type 0} (xs : List A) → drop 0 xs ≡ xs
 all_left [] = refl

@@ -64,7 +64,7 @@ use Rattle.paw_reading.specs.Turn.{table_done, turn, phases_left, opening, readi
 use Rattle.paw_reading.specs.Turn.{timeout_text}
 use Rattle.paw_reading.specs.inner.Parts.{goodbye, quit_question, line_set, in_table, unknown_text}
 use Rattle.paw_reading.proofs.EachCondact.{by_test}
-use Rattle.paw_reading.proofs.Keeps.{either, open_or_not}
+use Rattle.paw_reading.proofs.LeavesLoop.{either, open_or_not}
 use Rattle.paw_reading.specs.Bounds.{IsLine, ValidStory}
 use Rattle.paw_effects.proofs.Worlds.{IsWorldAt, few_locations, few_objects, facts_small, later, flag_small, flagged}
 use Rattle.paw_effects.proofs.Worlds.{start_so, anew_so}

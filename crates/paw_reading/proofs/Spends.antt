@@ -36,7 +36,7 @@ use Rattle.paw_reading.specs.Reading.{game_over, waits}
 use Rattle.paw_reading.specs.GoingOn.{on_path}
 use Rattle.paw_reading.specs.Turn.{left_to_read}
 use Rattle.paw_reading.specs.inner.Parts.{goodbye, quit_question}
-use Rattle.paw_reading.proofs.Keeps.{either, open_or_not, prints}
+use Rattle.paw_reading.proofs.LeavesLoop.{either, open_or_not, prints}
 use Rattle.paw_reading.proofs.EachCondact.{plain_goes}
 
 -- What lines bring.

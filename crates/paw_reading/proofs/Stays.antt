@@ -35,7 +35,7 @@ use Rattle.paw_reading.specs.GoingOn.{on_path}
 use Rattle.paw_reading.specs.Turn.{first_table}
 use Rattle.paw_reading.specs.inner.Parts.{goodbye, quit_question}
 use Rattle.paw_reading.specs.inner.Waits.{IsLoopOf}
-use Rattle.paw_reading.proofs.Keeps.{either, open_or_not, at_level_is, prints}
+use Rattle.paw_reading.proofs.LeavesLoop.{either, open_or_not, at_level_is, prints}
 use Rattle.paw_reading.proofs.EachCondact.{plain_goes}
 
 -- A wait at this level, where table t is the one at level 0.

@@ -29,7 +29,7 @@ use Rattle.paw_reading.specs.Reading.{deeper, rest_of_table, game_over}
 use Rattle.paw_reading.specs.Reading.{waits}
 use Rattle.paw_reading.specs.inner.Parts.{goodbye, quit_question}
 use Rattle.paw_reading.specs.GoingOn.{on_path}
-use Rattle.paw_reading.proofs.Keeps.{either, open_or_not, prints}
+use Rattle.paw_reading.proofs.LeavesLoop.{either, open_or_not, prints}
 use Rattle.paw_reading.proofs.EachCondact.{plain_goes}
 
 -- A wait.
