@@ -42,12 +42,12 @@ use Rattle.paw_source.proofs.RowLaws.{Has, voc_row_ok, exit_row_ok, object_row_o
 
 -- ---- the rules
 
-pub record RowsKept {A : Type 0} (rule : A → Bool) (limit : ℕ) (rows : List A) : Type 0 where
+pub record LawfulRows {A : Type 0} (rule : A → Bool) (limit : ℕ) (rows : List A) : Type 0 where
   pub all : list_all rule rows ≡ true
   pub few : length rows ≤ limit
 
-abbrev pub TextsKept : ℕ → Texts → Type 0
-TextsKept limit ts = RowsKept is_text limit ts
+abbrev pub LawfulTexts : ℕ → Texts → Type 0
+LawfulTexts limit ts = LawfulRows is_text limit ts
 
 -- No section of rows was reached.
 pub record AreNone (es : List (List Exit)) (fs : List ObjectFacts) (ts : List (List Entry)) : Type 0 where
@@ -100,25 +100,25 @@ from_section : (s : Section) (d : Spelt) → d.section ≡ s → InOrder s d →
 from_section s d here h = subst (λ (t : Section). InOrder t d) (sym here) h
 
 -- Words and texts have rules of their own.
-pub record HeadsKept (ws : List Word) (ss ms ns ls : Texts) : Type 0 where
+pub record LawfulHeads (ws : List Word) (ss ms ns ls : Texts) : Type 0 where
   pub words : words_are_valid ws ≡ true
-  pub system : TextsKept SYSTEM_LIMIT ss
-  pub messages : TextsKept MESSAGE_LIMIT ms
-  pub names : TextsKept OBJECT_LIMIT ns
-  pub locations : TextsKept LOCATION_LIMIT ls
+  pub system : LawfulTexts SYSTEM_LIMIT ss
+  pub messages : LawfulTexts MESSAGE_LIMIT ms
+  pub names : LawfulTexts OBJECT_LIMIT ns
+  pub locations : LawfulTexts LOCATION_LIMIT ls
 
 abbrev pub Heads : Spelt → Type 0
-Heads d = HeadsKept d.words d.system d.messages d.names d.locations
+Heads d = LawfulHeads d.words d.system d.messages d.names d.locations
 
-pub record Keeps (p : ℕ) (d : Spelt) : Type 0 where
+pub record IsLawful (p : ℕ) (d : Spelt) : Type 0 where
   pub heads : Heads d
-  pub exits : RowsKept (exits_are_valid d.words (length d.locations)) (length d.locations) d.exits
-  pub facts : RowsKept (facts_are_valid d.words (length d.locations)) (length d.names) d.facts
+  pub exits : LawfulRows (exits_are_valid d.words (length d.locations)) (length d.locations) d.exits
+  pub facts : LawfulRows (facts_are_valid d.words (length d.locations)) (length d.names) d.facts
   pub tables : (g : GameLists) → Has (bounds_of p d) d.words g → list_all (is_table g) d.tables ≡ true
   pub few_tables : length d.tables ≤ TABLE_LIMIT
   pub order : InOrder d.section d
 
-no_rows : (p : ℕ) (d : Spelt) → Heads d → NoRows d → InOrder d.section d → Keeps p d
+no_rows : (p : ℕ) (d : Spelt) → Heads d → NoRows d → InOrder d.section d → IsLawful p d
 no_rows p d heads none order =
     let no_exits = ap length none.exits in
     let no_facts = ap length none.facts in
@@ -140,42 +140,42 @@ no_rows p d heads none order =
 
 -- ---- texts
 
-texts_keep : (p : ℕ) (s : Section) (begun : Bool) (ts : Texts) (d : Spelt) → d.section ≡ s → Keeps p d
-    → TextsKept (text_limit s) ts → Keeps p (with_texts s begun ts d)
-texts_keep p section.Before begun ts d e k new = k
-texts_keep p section.Voc begun ts d e k new = k
-texts_keep p section.Stx begun ts d e k new =
+texts_lawful : (p : ℕ) (s : Section) (begun : Bool) (ts : Texts) (d : Spelt) → d.section ≡ s → IsLawful p d
+    → LawfulTexts (text_limit s) ts → IsLawful p (with_texts s begun ts d)
+texts_lawful p section.Before begun ts d e k new = k
+texts_lawful p section.Voc begun ts d e k new = k
+texts_lawful p section.Stx begun ts d e k new =
     let h = k.heads in
     let none = at_section section.Stx d e k.order in
     let made : Spelt = record d { system = ts; begun = begun } in
     let heads : Heads made = record { words = h.words; system = new; messages = h.messages; names = h.names; locations = h.locations } in
     no_rows p made heads none (from_section section.Stx made e none)
-texts_keep p section.Mtx begun ts d e k new =
+texts_lawful p section.Mtx begun ts d e k new =
     let h = k.heads in
     let none = at_section section.Mtx d e k.order in
     let made : Spelt = record d { messages = ts; begun = begun } in
     let heads : Heads made = record { words = h.words; system = h.system; messages = new; names = h.names; locations = h.locations } in
     no_rows p made heads none (from_section section.Mtx made e none)
-texts_keep p section.Otx begun ts d e k new =
+texts_lawful p section.Otx begun ts d e k new =
     let h = k.heads in
     let none = at_section section.Otx d e k.order in
     let made : Spelt = record d { names = ts; begun = begun } in
     let heads : Heads made = record { words = h.words; system = h.system; messages = h.messages; names = new; locations = h.locations } in
     no_rows p made heads none (from_section section.Otx made e none)
-texts_keep p section.Ltx begun ts d e k new =
+texts_lawful p section.Ltx begun ts d e k new =
     let h = k.heads in
     let none = at_section section.Ltx d e k.order in
     let made : Spelt = record d { locations = ts; begun = begun } in
     let heads : Heads made = record { words = h.words; system = h.system; messages = h.messages; names = h.names; locations = new } in
     no_rows p made heads none (from_section section.Ltx made e none)
-texts_keep p section.Con begun ts d e k new = k
-texts_keep p section.Obj begun ts d e k new = k
-texts_keep p section.Pro begun ts d e k new = k
+texts_lawful p section.Con begun ts d e k new = k
+texts_lawful p section.Obj begun ts d e k new = k
+texts_lawful p section.Pro begun ts d e k new = k
 
-none_kept : (limit : ℕ) → TextsKept limit []
+none_kept : (limit : ℕ) → LawfulTexts limit []
 none_kept limit = record { all = refl; few = omega arith }
 
-texts_kept_in : (p : ℕ) (s : Section) (d : Spelt) → Keeps p d → TextsKept (text_limit s) (texts_of s d)
+texts_kept_in : (p : ℕ) (s : Section) (d : Spelt) → IsLawful p d → LawfulTexts (text_limit s) (texts_of s d)
 texts_kept_in p section.Before d k = none_kept 0
 texts_kept_in p section.Voc d k = none_kept 0
 texts_kept_in p section.Stx d k = k.heads.system
@@ -186,25 +186,25 @@ texts_kept_in p section.Con d k = none_kept 0
 texts_kept_in p section.Obj d k = none_kept 0
 texts_kept_in p section.Pro d k = none_kept 0
 
-text_keeps : (p : ℕ) (d e : Spelt) (l : List ℕ) → Keeps p d → is_comment l ≡ false → begins_with_slash l ≡ false
-    → has_forbidden_byte true l ≡ false → text_added d l ≡ Ok e → Keeps p e
-text_keeps p d e l k comment slash bytes h =
+text_lawful : (p : ℕ) (d e : Spelt) (l : List ℕ) → IsLawful p d → is_comment l ≡ false → begins_with_slash l ≡ false
+    → has_forbidden_byte true l ≡ false → text_added d l ≡ Ok e → IsLawful p e
+text_lawful p d e l k comment slash bytes h =
     let b = bound (text_line d.begun l (texts_of d.section d)) (λ ts. Ok (with_texts d.section true ts d)) e h in
     let old = texts_kept_in p d.section d k in
     let new = text_line_ok d.begun l (texts_of d.section d) b.0 old.all comment slash bytes b.1 in
     let few = old.few in
     let same = new.1 in
-    subst (Keeps p) (ok_is (with_texts d.section true b.0 d) e b.2)
-    (texts_keep p d.section true b.0 d refl k (record { all = new.0; few = omega (arith, few, same) }))
+    subst (IsLawful p) (ok_is (with_texts d.section true b.0 d) e b.2)
+    (texts_lawful p d.section true b.0 d refl k (record { all = new.0; few = omega (arith, few, same) }))
 
 -- ---- items
 
-new_text_keeps : (p : ℕ) (s : Section) (n : ℕ) (d e : Spelt) → d.section ≡ s → Keeps p d → new_text s d n ≡ Ok e → Keeps p e
-new_text_keeps p s n d e here k h =
+new_text_lawful : (p : ℕ) (s : Section) (n : ℕ) (d e : Spelt) → d.section ≡ s → IsLawful p d → new_text s d n ≡ Ok e → IsLawful p e
+new_text_lawful p s n d e here k h =
     let b = bound (text_item (text_limit s) n (texts_of s d)) (λ ts. Ok (with_texts s false ts d)) e h in
     let old = texts_kept_in p s d k in
     let new = text_item_ok (text_limit s) n (texts_of s d) b.0 old.all b.1 in
-    subst (Keeps p) (ok_is (with_texts s false b.0 d) e b.2) (texts_keep p s false b.0 d here k (record { all = new.0; few = new.1 }))
+    subst (IsLawful p) (ok_is (with_texts s false b.0 d) e b.2) (texts_lawful p s false b.0 d here k (record { all = new.0; few = new.1 }))
 
 empty_exits : (ws : List Word) (locations n : ℕ) → list_all (exits_are_valid ws locations) (replicate n []) ≡ true
 empty_exits ws locations zero = refl
@@ -225,9 +225,9 @@ or_false true b h = absurd cc
 or_false false b h = (refl, h)
 
 -- Other exits, that follow the rules too.
-exits_keep : (p : ℕ) (d : Spelt) (es : List (List Exit)) → d.section ≡ section.Con → Keeps p d
-    → RowsKept (exits_are_valid d.words (length d.locations)) (length d.locations) es → Keeps p (record d { exits = es })
-exits_keep p d es here k exits = record {
+exits_lawful : (p : ℕ) (d : Spelt) (es : List (List Exit)) → d.section ≡ section.Con → IsLawful p d
+    → LawfulRows (exits_are_valid d.words (length d.locations)) (length d.locations) es → IsLawful p (record d { exits = es })
+exits_lawful p d es here k exits = record {
   heads = k.heads;
   exits = exits;
   facts = k.facts;
@@ -236,8 +236,8 @@ exits_keep p d es here k exits = record {
   order = from_section section.Con (record d { exits = es }) here (at_section section.Con d here k.order);
 }
 
-new_exits_keep : (p n : ℕ) (d e : Spelt) → d.section ≡ section.Con → Keeps p d → new_exits d n ≡ Ok e → Keeps p e
-new_exits_keep p n d e here k h =
+new_exits_lawful : (p n : ℕ) (d e : Spelt) → d.section ≡ section.Con → IsLawful p d → new_exits d n ≡ Ok e → IsLawful p e
+new_exits_lawful p n d e here k h =
     let made : Spelt = record d { exits = d.exits ++ replicate (suc n - length d.exits) [] } in
     let a = passes (nat_lt n (length d.exits) || not (nat_lt n (length d.locations))) kind.Range (Ok made) e h in
     let o = or_false (nat_lt n (length d.exits)) (not (nat_lt n (length d.locations))) a.0 in
@@ -245,28 +245,28 @@ new_exits_keep p n d e here k h =
     let long = filled_length (suc n - length d.exits) d.exits in
     let few = k.exits.few in
     let all = filled_exits d.words (length d.locations) (suc n - length d.exits) d.exits k.exits.all in
-    subst (Keeps p) (ok_is made e a.1)
-    (exits_keep p d made.exits here k (record { all = all; few = omega (arith, long, low, few) }))
+    subst (IsLawful p) (ok_is made e a.1)
+    (exits_lawful p d made.exits here k (record { all = all; few = omega (arith, long, low, few) }))
 
-item_keeps : (p : ℕ) (s : Section) (n : ℕ) (d e : Spelt) → d.section ≡ s → Keeps p d → item_in s d n ≡ Ok e → Keeps p e
-item_keeps p section.Before n d e here k h = absurd cc
-item_keeps p section.Voc n d e here k h = absurd cc
-item_keeps p section.Stx n d e here k h = new_text_keeps p section.Stx n d e here k h
-item_keeps p section.Mtx n d e here k h = new_text_keeps p section.Mtx n d e here k h
-item_keeps p section.Otx n d e here k h = new_text_keeps p section.Otx n d e here k h
-item_keeps p section.Ltx n d e here k h = new_text_keeps p section.Ltx n d e here k h
-item_keeps p section.Con n d e here k h = new_exits_keep p n d e here k h
-item_keeps p section.Obj n d e here k h = absurd cc
-item_keeps p section.Pro n d e here k h = absurd cc
+item_lawful : (p : ℕ) (s : Section) (n : ℕ) (d e : Spelt) → d.section ≡ s → IsLawful p d → item_in s d n ≡ Ok e → IsLawful p e
+item_lawful p section.Before n d e here k h = absurd cc
+item_lawful p section.Voc n d e here k h = absurd cc
+item_lawful p section.Stx n d e here k h = new_text_lawful p section.Stx n d e here k h
+item_lawful p section.Mtx n d e here k h = new_text_lawful p section.Mtx n d e here k h
+item_lawful p section.Otx n d e here k h = new_text_lawful p section.Otx n d e here k h
+item_lawful p section.Ltx n d e here k h = new_text_lawful p section.Ltx n d e here k h
+item_lawful p section.Con n d e here k h = new_exits_lawful p n d e here k h
+item_lawful p section.Obj n d e here k h = absurd cc
+item_lawful p section.Pro n d e here k h = absurd cc
 
 -- ---- headers
 
 -- Another section opens, and the tables are others that follow the rules too.
-tables_keep : (p : ℕ) (s : Section) (begun : Bool) (ts : List (List Entry)) (d : Spelt) → Keeps p d
+tables_lawful : (p : ℕ) (s : Section) (begun : Bool) (ts : List (List Entry)) (d : Spelt) → IsLawful p d
     → ((g : GameLists) → Has (bounds_of p d) d.words g → list_all (is_table g) ts ≡ true) → length ts ≤ TABLE_LIMIT
     → InOrder s (record d { section = s; begun = begun; tables = ts })
-    → Keeps p (record d { section = s; begun = begun; tables = ts })
-tables_keep p s begun ts d k all few order = record {
+    → IsLawful p (record d { section = s; begun = begun; tables = ts })
+tables_lawful p s begun ts d k all few order = record {
   heads = k.heads;
   exits = k.exits;
   facts = k.facts;
@@ -276,35 +276,35 @@ tables_keep p s begun ts d k all few order = record {
 }
 
 -- A section that opens adds no row.
-open_keeps : (p : ℕ) (s : Section) (d : Spelt) → Keeps p d → InOrder s (section_opened s d) → Keeps p (section_opened s d)
-open_keeps p s d k order = tables_keep p s false d.tables d k k.tables k.few_tables order
+open_lawful : (p : ℕ) (s : Section) (d : Spelt) → IsLawful p d → InOrder s (section_opened s d) → IsLawful p (section_opened s d)
+open_lawful p s d k order = tables_lawful p s false d.tables d k k.tables k.few_tables order
 
-plain_keeps : (p : ℕ) (s : Section) (d e : Spelt) (ts : Tokens) → Keeps p d → InOrder s (section_opened s d) → plain_header s d ts ≡ Ok e → Keeps p e
-plain_keeps p s d e ts k order h =
-    subst (Keeps p) (ok_is (section_opened s d) e (at_end ts (Ok (section_opened s d)) e h)) (open_keeps p s d k order)
+plain_lawful : (p : ℕ) (s : Section) (d e : Spelt) (ts : Tokens) → IsLawful p d → InOrder s (section_opened s d) → plain_header s d ts ≡ Ok e → IsLawful p e
+plain_lawful p s d e ts k order h =
+    subst (IsLawful p) (ok_is (section_opened s d) e (at_end ts (Ok (section_opened s d)) e h)) (open_lawful p s d k order)
 
-con_keeps : (p : ℕ) (d e : Spelt) (ts : Tokens) → Keeps p d → NoRows d → con_header d ts ≡ Ok e → Keeps p e
-con_keeps p d e ts k none h =
+con_lawful : (p : ℕ) (d e : Spelt) (ts : Tokens) → IsLawful p d → NoRows d → con_header d ts ≡ Ok e → IsLawful p e
+con_lawful p d e ts k none h =
     let a = at_end ts (cond (eqb (length d.locations) 0) (Err kind.Missing) (Ok (section_opened section.Con d))) e h in
     let b = passes (eqb (length d.locations) 0) kind.Missing (Ok (section_opened section.Con d)) e a in
     let some = eqb-false (length d.locations) 0 b.0 in
     let order : AtExits (section_opened section.Con d) = record { facts = none.facts; tables = none.tables; locations = omega (arith, some) } in
-    subst (Keeps p) (ok_is (section_opened section.Con d) e b.1) (open_keeps p section.Con d k order)
+    subst (IsLawful p) (ok_is (section_opened section.Con d) e b.1) (open_lawful p section.Con d k order)
 
 -- What a section has to bring for a table to begin.
 pub record Ready (d : Spelt) : Type 0 where
   pub locations : LOCATION_LEAST ≤ length d.locations
   pub rows : lacks_rows d ≡ false → length d.names ≤ length d.facts
 
-pro_keeps : (p : ℕ) (d e : Spelt) (ts : Tokens) → Keeps p d → Ready d → pro_header d ts ≡ Ok e → Keeps p e
-pro_keeps p d e ts k ready h =
+pro_lawful : (p : ℕ) (d e : Spelt) (ts : Tokens) → IsLawful p d → Ready d → pro_header d ts ≡ Ok e → IsLawful p e
+pro_lawful p d e ts k ready h =
     let t = table_opened d e ts h in
     let made = with_table d in
     let few = t.few in
     let long = length-append d.tables ([] ∷ []) in
     let order : AtTables made = record { locations = ready.locations; rows = ready.rows t.rows } in
-    subst (Keeps p) t.is
-    (tables_keep p section.Pro false made.tables d k
+    subst (IsLawful p) t.is
+    (tables_lawful p section.Pro false made.tables d k
     (λ g has. all_pushed (is_table g) d.tables [] (k.tables g has) refl) (omega (arith, long, few)) order)
 
 first_table : (d : Spelt) → AtObjects d → lacks_rows d ≡ false → length d.names ≤ length d.facts
@@ -314,44 +314,44 @@ first_table d at h =
     let enough : ltb (length d.facts) (length d.names) ≡ false = ap (λ (b : Bool). b && ltb (length d.facts) (length d.names)) (sym first) ∙ h in
     grind (arith, nat_tests, enough)
 
-header_of_keeps : (p : ℕ) (s : Section) (d e : Spelt) (ts : Tokens) → d.section ≡ s → Keeps p d → header_of (next_header s).1 d ts ≡ Ok e → Keeps p e
-header_of_keeps p section.Before d e ts here k h = plain_keeps p section.Voc d e ts k (at_section section.Before d here k.order) h
-header_of_keeps p section.Voc d e ts here k h = plain_keeps p section.Stx d e ts k (at_section section.Voc d here k.order) h
-header_of_keeps p section.Stx d e ts here k h = plain_keeps p section.Mtx d e ts k (at_section section.Stx d here k.order) h
-header_of_keeps p section.Mtx d e ts here k h = plain_keeps p section.Otx d e ts k (at_section section.Mtx d here k.order) h
-header_of_keeps p section.Otx d e ts here k h = plain_keeps p section.Ltx d e ts k (at_section section.Otx d here k.order) h
-header_of_keeps p section.Ltx d e ts here k h = con_keeps p d e ts k (at_section section.Ltx d here k.order) h
-header_of_keeps p section.Con d e ts here k h =
+header_of_lawful : (p : ℕ) (s : Section) (d e : Spelt) (ts : Tokens) → d.section ≡ s → IsLawful p d → header_of (next_header s).1 d ts ≡ Ok e → IsLawful p e
+header_of_lawful p section.Before d e ts here k h = plain_lawful p section.Voc d e ts k (at_section section.Before d here k.order) h
+header_of_lawful p section.Voc d e ts here k h = plain_lawful p section.Stx d e ts k (at_section section.Voc d here k.order) h
+header_of_lawful p section.Stx d e ts here k h = plain_lawful p section.Mtx d e ts k (at_section section.Stx d here k.order) h
+header_of_lawful p section.Mtx d e ts here k h = plain_lawful p section.Otx d e ts k (at_section section.Mtx d here k.order) h
+header_of_lawful p section.Otx d e ts here k h = plain_lawful p section.Ltx d e ts k (at_section section.Otx d here k.order) h
+header_of_lawful p section.Ltx d e ts here k h = con_lawful p d e ts k (at_section section.Ltx d here k.order) h
+header_of_lawful p section.Con d e ts here k h =
     let at = at_section section.Con d here k.order in
-    plain_keeps p section.Obj d e ts k (record { tables = at.tables; locations = at.locations }) h
-header_of_keeps p section.Obj d e ts here k h =
+    plain_lawful p section.Obj d e ts k (record { tables = at.tables; locations = at.locations }) h
+header_of_lawful p section.Obj d e ts here k h =
     let at = at_section section.Obj d here k.order in
-    pro_keeps p d e ts k (record { locations = at.locations; rows = λ f. first_table d at f }) h
-header_of_keeps p section.Pro d e ts here k h =
+    pro_lawful p d e ts k (record { locations = at.locations; rows = λ f. first_table d at f }) h
+header_of_lawful p section.Pro d e ts here k h =
     let at = at_section section.Pro d here k.order in
-    pro_keeps p d e ts k (record { locations = at.locations; rows = λ f. at.rows }) h
+    pro_lawful p d e ts k (record { locations = at.locations; rows = λ f. at.rows }) h
 
-slash_keeps : (p : ℕ) (d e : Spelt) (name : Name) (o : Option ℕ) (ts : Tokens) → Keeps p d → slash_line d name o ts ≡ Ok e → Keeps p e
-slash_keeps p d e name (Some n) ts k h = item_keeps p d.section n d e refl k (at_end ts (item_in d.section d n) e h)
-slash_keeps p d e name None ts k h =
+slash_lawful : (p : ℕ) (d e : Spelt) (name : Name) (o : Option ℕ) (ts : Tokens) → IsLawful p d → slash_line d name o ts ≡ Ok e → IsLawful p e
+slash_lawful p d e name (Some n) ts k h = item_lawful p d.section n d e refl k (at_end ts (item_in d.section d n) e h)
+slash_lawful p d e name None ts k h =
     let b = holds (is_named name (next_header d.section).0) kind.Section (header_of (next_header d.section).1 d ts) e h in
-    header_of_keeps p d.section d e ts refl k b.1
+    header_of_lawful p d.section d e ts refl k b.1
 
 -- ---- rows
 
-voc_keeps : (p : ℕ) (d e : Spelt) (ts : Tokens) → d.section ≡ section.Voc → Keeps p d
-    → (voc_row d.words ts >>= λ ws. Ok (record d { words = ws })) ≡ Ok e → Keeps p e
-voc_keeps p d e ts here k h =
+voc_lawful : (p : ℕ) (d e : Spelt) (ts : Tokens) → d.section ≡ section.Voc → IsLawful p d
+    → (voc_row d.words ts >>= λ ws. Ok (record d { words = ws })) ≡ Ok e → IsLawful p e
+voc_lawful p d e ts here k h =
     let b = bound (voc_row d.words ts) (λ ws. Ok (record d { words = ws })) e h in
     let made : Spelt = record d { words = b.0 } in
     let none = at_section section.Voc d here k.order in
     let h = k.heads in
     let words = voc_row_ok d.words b.0 ts h.words b.1 in
     let heads : Heads made = record { words = words; system = h.system; messages = h.messages; names = h.names; locations = h.locations } in
-    subst (Keeps p) (ok_is made e b.2) (no_rows p made heads none (from_section section.Voc made here none))
+    subst (IsLawful p) (ok_is made e b.2) (no_rows p made heads none (from_section section.Voc made here none))
 
-con_row_keeps : (p : ℕ) (d e : Spelt) (ts : Tokens) → d.section ≡ section.Con → Keeps p d → con_row d ts ≡ Ok e → Keeps p e
-con_row_keeps p d e ts here k h =
+con_row_lawful : (p : ℕ) (d e : Spelt) (ts : Tokens) → d.section ≡ section.Con → IsLawful p d → con_row d ts ≡ Ok e → IsLawful p e
+con_row_lawful p d e ts here k h =
     let a = passes (eqb (length d.exits) 0) kind.Section
     (exit_row d.words (length d.locations) (last_or [] d.exits) ts >>= λ xs.
     Ok (record d { exits = with_last xs d.exits })) e h in
@@ -363,18 +363,18 @@ con_row_keeps p d e ts here k h =
     let long = length-set d.exits (length d.exits - 1) b.0 in
     let few = k.exits.few in
     let all = all_set (exits_are_valid d.words (length d.locations)) d.exits (length d.exits - 1) b.0 k.exits.all new in
-    subst (Keeps p) (ok_is made e b.2)
-    (exits_keep p d made.exits here k (record { all = all; few = omega (arith, long, few) }))
+    subst (IsLawful p) (ok_is made e b.2)
+    (exits_lawful p d made.exits here k (record { all = all; few = omega (arith, long, few) }))
 
-obj_row_keeps : (p : ℕ) (d e : Spelt) (ts : Tokens) → d.section ≡ section.Obj → Keeps p d → obj_row d ts ≡ Ok e → Keeps p e
-obj_row_keeps p d e ts here k h =
+obj_row_lawful : (p : ℕ) (d e : Spelt) (ts : Tokens) → d.section ≡ section.Obj → IsLawful p d → obj_row d ts ≡ Ok e → IsLawful p e
+obj_row_lawful p d e ts here k h =
     let b = bound (object_row d.words (length d.locations) (length d.facts) (length d.names) ts) (λ f. Ok (record d { facts = d.facts ++ f ∷ [] })) e h in
     let made : Spelt = record d { facts = d.facts ++ b.0 ∷ [] } in
     let new = object_row_ok d.words (length d.locations) (length d.facts) (length d.names) ts b.0 b.1 in
     let room = new.room in
     let long = length-append d.facts (b.0 ∷ []) in
     let at = at_section section.Obj d here k.order in
-    let kept : Keeps p made = record {
+    let kept : IsLawful p made = record {
       heads = k.heads;
       exits = k.exits;
       facts = record {
@@ -385,7 +385,7 @@ obj_row_keeps p d e ts here k h =
       few_tables = k.few_tables;
       order = from_section section.Obj made here at;
     } in
-    subst (Keeps p) (ok_is made e b.2) kept
+    subst (IsLawful p) (ok_is made e b.2) kept
 
 table_row_ok : (p : ℕ) (d : Spelt) (more : Bool) (g : GameLists) (es fs : List Entry) (ts : Tokens)
     → Has (bounds_of p d) d.words g → is_table g es ≡ true
@@ -394,8 +394,8 @@ table_row_ok : (p : ℕ) (d : Spelt) (more : Bool) (g : GameLists) (es fs : List
 table_row_ok p d true g es fs ts has kept h = more_row_ok (bounds_of p d) d.words g es fs ts has kept h
 table_row_ok p d false g es fs ts has kept h = entry_row_ok (bounds_of p d) d.words g es fs ts has kept h
 
-pro_row_keeps : (p : ℕ) (d e : Spelt) (more : Bool) (ts : Tokens) → d.section ≡ section.Pro → Keeps p d → pro_row p d more ts ≡ Ok e → Keeps p e
-pro_row_keeps p d e more ts here k h =
+pro_row_lawful : (p : ℕ) (d e : Spelt) (more : Bool) (ts : Tokens) → d.section ≡ section.Pro → IsLawful p d → pro_row p d more ts ≡ Ok e → IsLawful p e
+pro_row_lawful p d e more ts here k h =
     let b = bound
     (cond more (more_row (bounds_of p d) d.words (last_or [] d.tables) ts)
     (entry_row (bounds_of p d) d.words (last_or [] d.tables) ts))
@@ -410,53 +410,53 @@ pro_row_keeps p d e more ts here k h =
     let all = k.tables g has in
     let old_kept = all_get (is_table g) d.tables (length d.tables - 1) [] all refl in
     all_set (is_table g) d.tables (length d.tables - 1) b.0 all (table_row_ok p d more g old b.0 ts has old_kept b.1) in
-    subst (Keeps p) (ok_is made e b.2)
-    (tables_keep p d.section d.begun made.tables d k kept (omega (arith, long, few))
+    subst (IsLawful p) (ok_is made e b.2)
+    (tables_lawful p d.section d.begun made.tables d k kept (omega (arith, long, few))
     (from_section section.Pro made here at))
 
-row_keeps : (p : ℕ) (s : Section) (d e : Spelt) (more : Bool) (ts : Tokens) → d.section ≡ s → Keeps p d → row_in s p d more ts ≡ Ok e → Keeps p e
-row_keeps p section.Before d e more ts here k h = absurd cc
-row_keeps p section.Voc d e more ts here k h = voc_keeps p d e ts here k h
-row_keeps p section.Stx d e more ts here k h = absurd cc
-row_keeps p section.Mtx d e more ts here k h = absurd cc
-row_keeps p section.Otx d e more ts here k h = absurd cc
-row_keeps p section.Ltx d e more ts here k h = absurd cc
-row_keeps p section.Con d e more ts here k h = con_row_keeps p d e ts here k h
-row_keeps p section.Obj d e more ts here k h = obj_row_keeps p d e ts here k h
-row_keeps p section.Pro d e more ts here k h = pro_row_keeps p d e more ts here k h
+row_lawful : (p : ℕ) (s : Section) (d e : Spelt) (more : Bool) (ts : Tokens) → d.section ≡ s → IsLawful p d → row_in s p d more ts ≡ Ok e → IsLawful p e
+row_lawful p section.Before d e more ts here k h = absurd cc
+row_lawful p section.Voc d e more ts here k h = voc_lawful p d e ts here k h
+row_lawful p section.Stx d e more ts here k h = absurd cc
+row_lawful p section.Mtx d e more ts here k h = absurd cc
+row_lawful p section.Otx d e more ts here k h = absurd cc
+row_lawful p section.Ltx d e more ts here k h = absurd cc
+row_lawful p section.Con d e more ts here k h = con_row_lawful p d e ts here k h
+row_lawful p section.Obj d e more ts here k h = obj_row_lawful p d e ts here k h
+row_lawful p section.Pro d e more ts here k h = pro_row_lawful p d e more ts here k h
 
 -- ---- a line
 
-tokens_keep : (p : ℕ) (d e : Spelt) (slash blank : Bool) (ts : Tokens) → Keeps p d → tokens_added p d slash blank ts ≡ Ok e → Keeps p e
-tokens_keep p d e slash blank [] k h = subst (Keeps p) (ok_is d e h) k
-tokens_keep p d e true blank (t ∷ ts) k h = slash_keeps p d e t (number (drop 1 t)) ts k h
-tokens_keep p d e false blank (t ∷ ts) k h = row_keeps p d.section d e blank (t ∷ ts) refl k h
+tokens_lawful : (p : ℕ) (d e : Spelt) (slash blank : Bool) (ts : Tokens) → IsLawful p d → tokens_added p d slash blank ts ≡ Ok e → IsLawful p e
+tokens_lawful p d e slash blank [] k h = subst (IsLawful p) (ok_is d e h) k
+tokens_lawful p d e true blank (t ∷ ts) k h = slash_lawful p d e t (number (drop 1 t)) ts k h
+tokens_lawful p d e false blank (t ∷ ts) k h = row_lawful p d.section d e blank (t ∷ ts) refl k h
 
 no_slash : (a b : Bool) → (a && not b) ≡ true → b ≡ false
 no_slash true true h = absurd cc
 no_slash true false h = refl
 no_slash false b h = absurd cc
 
-pub step_keeps : (p : ℕ) (d e : Spelt) (l : List ℕ) → Keeps p d → after_line p d l ≡ Ok e → Keeps p e
+pub step_lawful : (p : ℕ) (d e : Spelt) (l : List ℕ) → IsLawful p d → after_line p d l ≡ Ok e → IsLawful p e
 unfolding after_line
-step_keeps p d e l k h =
+step_lawful p d e l k h =
     let others : Result Spelt SourceKind = tokens_added p d (begins_with_slash l) (begins_with_blank l) (tokens_of l) in
     elim (is_comment l) as (λ b. is_comment l ≡ b
     → cond b (Ok d)
     (cond (has_forbidden_byte (is_text_line d l) l) (Err kind.Text)
     (cond (is_text_line d l) (text_added d l)
-    (tokens_added p d (begins_with_slash l) (begins_with_blank l) (tokens_of l)))) ≡ Ok e → Keeps p e) [
-      | true ↦ λ c f. subst (Keeps p) (ok_is d e f) k
+    (tokens_added p d (begins_with_slash l) (begins_with_blank l) (tokens_of l)))) ≡ Ok e → IsLawful p e) [
+      | true ↦ λ c f. subst (IsLawful p) (ok_is d e f) k
       | false ↦ λ c f.
           elim (is_text_line d l) as (λ b. is_text_line d l ≡ b
           → cond (has_forbidden_byte b l) (Err kind.Text)
           (cond b (text_added d l) (tokens_added p d (begins_with_slash l) (begins_with_blank l) (tokens_of l)))
-          ≡ Ok e → Keeps p e) [
+          ≡ Ok e → IsLawful p e) [
             | true ↦ λ t g.
                 let a = passes (has_forbidden_byte true l) kind.Text (text_added d l) e g in
-                text_keeps p d e l k c (no_slash (is_in_text d) (begins_with_slash l) t) a.0 a.1
+                text_lawful p d e l k c (no_slash (is_in_text d) (begins_with_slash l) t) a.0 a.1
             | false ↦ λ t g.
                 let a = passes (has_forbidden_byte false l) kind.Text (tokens_added p d (begins_with_slash l) (begins_with_blank l) (tokens_of l)) e g in
-                tokens_keep p d e (begins_with_slash l) (begins_with_blank l) (tokens_of l) k a.1
+                tokens_lawful p d e (begins_with_slash l) (begins_with_blank l) (tokens_of l) k a.1
           ] refl f
     ] refl h

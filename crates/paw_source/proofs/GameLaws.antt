@@ -27,11 +27,11 @@ use Rattle.paw_source.specs.inner.Laws.{after_lines, DraftsAreValid, SpellsValid
 use Rattle.paw_source.proofs.Faultless.{passes, bound, ok_is}
 use Rattle.paw_source.proofs.TextLaws.{both}
 use Rattle.paw_source.proofs.RowLaws.{Has}
-use Rattle.paw_source.proofs.DraftLaws.{TextsKept, NoRows, AtTables, InOrder, Keeps, filled_exits, filled_length}
-use Rattle.paw_source.proofs.DraftLaws.{step_keeps}
+use Rattle.paw_source.proofs.DraftLaws.{LawfulTexts, NoRows, AtTables, InOrder, IsLawful, filled_exits, filled_length}
+use Rattle.paw_source.proofs.DraftLaws.{step_lawful}
 use Rattle.paw_source.proofs.CountLaws.{step_counts, counts_tables}
 
-texts_valid : (limit : ℕ) (ts : Tokens) → TextsKept limit ts → rows_are_valid limit is_text ts ≡ true
+texts_valid : (limit : ℕ) (ts : Tokens) → LawfulTexts limit ts → rows_are_valid limit is_text ts ≡ true
 texts_valid limit ts k =
     let few = k.few in
     both (nat_le (length ts) limit) (list_all is_text ts) (grind (arith, nat_tests, few)) k.all
@@ -70,7 +70,7 @@ no_tables section.Pro d o h = o
 
 -- ---- the whole game
 
-valid_game : (p : ℕ) (d : Spelt) → Keeps p d → TABLE_LEAST ≤ length d.tables → length d.tables ≡ p → Valid (game_of d)
+valid_game : (p : ℕ) (d : Spelt) → IsLawful p d → TABLE_LEAST ≤ length d.tables → length d.tables ≡ p → Valid (game_of d)
 valid_game p d k three counted =
     let at = no_tables d.section d k.order three in
     let rows = at.rows in
@@ -109,7 +109,7 @@ valid_game p d k three counted =
           (grind (arith, nat_tests, three, few_tables)) (k.tables (game_of d) has);
     }
 
-whole_valid : (p n : ℕ) (d : Spelt) (g : GameLists) → Keeps p d → length d.tables ≡ p → whole n d ≡ Ok g → Valid g
+whole_valid : (p n : ℕ) (d : Spelt) (g : GameLists) → IsLawful p d → length d.tables ≡ p → whole n d ≡ Ok g → Valid g
 whole_valid p n d g k counted h =
     let a = passes (nat_lt (length d.tables) TABLE_LEAST) (fault (suc n) kind.Missing)
     (cond (nat_lt IMAGE_LIMIT (length (image (game_of d)))) (Err (fault (suc n) kind.TooBig)) (Ok (game_of d))) g h in
@@ -118,7 +118,7 @@ whole_valid p n d g k counted h =
     let three : TABLE_LEAST ≤ length d.tables = grind (arith, nat_tests, a.0) in
     subst Valid (ok_is (game_of d) g b.1) (valid_game p d k three counted)
 
-reading_valid : (p n : ℕ) (d : Spelt) (ls : Lines) (g : GameLists) → Keeps p d
+reading_valid : (p n : ℕ) (d : Spelt) (ls : Lines) (g : GameLists) → IsLawful p d
     → length d.tables + count_by begins_table ls ≡ p → spelled_after p n d ls ≡ Ok g → Valid g
 unfolding spelled_after
 reading_valid p n d [] g k counted h = whole_valid p n d g k (omega (arith, counted)) h
@@ -127,12 +127,12 @@ reading_valid p n d (l ∷ ls) g k counted h =
       | Ok e ↦ λ s f.
           let one = step_counts p d e l s in
           let more = sum_by-cons (λ x. cond (begins_table x) 1 0) l ls in
-          reading_valid p (suc n) e ls g (step_keeps p d e l k s) (omega (arith, counted, one, more)) f
+          reading_valid p (suc n) e ls g (step_lawful p d e l k s) (omega (arith, counted, one, more)) f
       | Err j ↦ λ s f. absurd cc
     ] refl h
 
-nothing_keeps : (p : ℕ) → Keeps p nothing_yet
-nothing_keeps p =
+nothing_lawful : (p : ℕ) → IsLawful p nothing_yet
+nothing_lawful p =
     let none : NoRows nothing_yet = record { exits = refl; facts = refl; tables = refl } in
     record {
       heads = record {
@@ -149,20 +149,20 @@ nothing_keeps p =
       order = none;
     }
 
-after_keeps : (p : ℕ) (d e : Spelt) (ls : Lines) → Keeps p d → after_lines p d ls ≡ Ok e → Keeps p e
+after_lawful : (p : ℕ) (d e : Spelt) (ls : Lines) → IsLawful p d → after_lines p d ls ≡ Ok e → IsLawful p e
 unfolding after_lines
-after_keeps p d e [] k h = subst (Keeps p) (ok_is d e h) k
-after_keeps p d e (l ∷ ls) k h =
+after_lawful p d e [] k h = subst (IsLawful p) (ok_is d e h) k
+after_lawful p d e (l ∷ ls) k h =
     let a = bound (after_line p d l) (λ x. after_lines p x ls) e h in
-    after_keeps p a.0 e ls (step_keeps p d a.0 l k a.1) a.2
+    after_lawful p a.0 e ls (step_lawful p d a.0 l k a.1) a.2
 
 pub drafts_are_valid : DraftsAreValid
 drafts_are_valid source d h three =
     let p = count_by begins_table (lines_of source) in
     let counted = counts_tables (count_by begins_table (lines_of source)) nothing_yet d (lines_of source) h in
     valid_game (count_by begins_table (lines_of source)) d
-    (after_keeps (count_by begins_table (lines_of source)) nothing_yet d (lines_of source)
-    (nothing_keeps (count_by begins_table (lines_of source))) h) three (omega (arith, counted))
+    (after_lawful (count_by begins_table (lines_of source)) nothing_yet d (lines_of source)
+    (nothing_lawful (count_by begins_table (lines_of source))) h) three (omega (arith, counted))
 
 pub spells_valid_games : SpellsValidGames
 unfolding game_spelled
@@ -170,4 +170,4 @@ spells_valid_games source g h =
     let a = passes (nat_lt SOURCE_LIMIT (length source)) (fault 0 kind.TooBig)
     (spelled_after (count_by begins_table (lines_of source)) 0 nothing_yet (lines_of source)) g h in
     reading_valid (count_by begins_table (lines_of source)) 0 nothing_yet (lines_of source) g
-    (nothing_keeps (count_by begins_table (lines_of source))) (omega arith) a.1
+    (nothing_lawful (count_by begins_table (lines_of source))) (omega arith) a.1

@@ -185,12 +185,12 @@ place_within last named locations ts x h =
 first_place_ok : (locations : ℕ) (ts : Tokens) (x : ℕ × Tokens) → first_place locations ts ≡ Ok x → is_place locations x.0 ≡ true
 first_place_ok locations ts x h = place_within CARRIED_PLACE (index_among place_names) locations ts x h
 
-pub record ObjectRowKept (ws : List Word) (locations next count : ℕ) (f : ObjectFacts) : Type 0 where
+pub record LawfulObjectRow (ws : List Word) (locations next count : ℕ) (f : ObjectFacts) : Type 0 where
   pub room : next < count
   pub facts : facts_are_valid ws locations f ≡ true
 
 pub object_row_ok : (ws : List Word) (locations next count : ℕ) (ts : Tokens) (f : ObjectFacts)
-    → object_row ws locations next count ts ≡ Ok f → ObjectRowKept ws locations next count f
+    → object_row ws locations next count ts ≡ Ok f → LawfulObjectRow ws locations next count f
 unfolding object_row
 object_row_ok ws locations next count ts f h =
     bound_then _ (row_number next count ts) _ f h (λ a a_ok h.
