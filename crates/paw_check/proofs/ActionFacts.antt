@@ -55,14 +55,14 @@ pub record Prints (most : Most) (m : Meaning) : Type 0 where
 -- ---- whether the verb is left ----
 
 -- A condition and an action of this code leave the verb.
-abbrev pub KeepsBy : ℕ → Meaning → Type 0
-KeepsBy code (Tests test) = (n : ℕ) (g : GameLists) (w : World) (c : Condact) → c.code ≡ code → SparesVerb c
+abbrev pub VerbLeftBy : ℕ → Meaning → Type 0
+VerbLeftBy code (Tests test) = (n : ℕ) (g : GameLists) (w : World) (c : Condact) → c.code ≡ code → SparesVerb c
     → HasVerb n w → HasVerb n (test g w c).world
-KeepsBy code (Acts done) = (n : ℕ) (s : Story) (w : World) (c : Condact) → c.code ≡ code → SparesVerb c
+VerbLeftBy code (Acts done) = (n : ℕ) (s : Story) (w : World) (c : Condact) → c.code ≡ code → SparesVerb c
     → IsWorldOf s.game w → HasVerb n w → LeavesVerb n (done s w c)
 
-pub record Keeps (code : ℕ) (m : Meaning) : Type 0 where
-  pub kept : KeepsBy code m
+pub record VerbLeft (code : ℕ) (m : Meaning) : Type 0 where
+  pub kept : VerbLeftBy code m
 
 -- ---- where reading goes on ----
 
@@ -90,10 +90,10 @@ pub record Way (code : ℕ) (m : Meaning) : Type 0 where
 -- Each fact is a record of its own, so that the words below find the parts of an action by comparing types.
 pub record Facts (code : ℕ) (most : Most) (m : Meaning) : Type 0 where
   pub text : Prints most m
-  pub verb : Keeps code m
+  pub verb : VerbLeft code m
   pub way : Way code m
 
-pub row : {code : ℕ} {most : Most} {m : Meaning} → Prints most m → Keeps code m → Way code m → Facts code most m
+pub row : {code : ℕ} {most : Most} {m : Meaning} → Prints most m → VerbLeft code m → Way code m → Facts code most m
 row t v w = record { text = t; verb = v; way = w }
 
 -- What a story, a world and a condact give.
@@ -117,24 +117,24 @@ prints why = record { within = why }
 -- ---- words for how the verb is left ----
 
 -- The world stays as it is.
-pub still : {code : ℕ} {text : Given (List ℕ)} {act : Given Act} → Keeps code (action text (λ s w c. w) act)
+pub still : {code : ℕ} {text : Given (List ℕ)} {act : Given Act} → VerbLeft code (action text (λ s w c. w) act)
 still = record { kept = λ n s w c is spares of k. inl k }
 
 -- The verb is left for this reason.
-pub keeps : {code : ℕ} {done : Given Done} → KeepsBy code (Acts done) → Keeps code (Acts done)
-keeps why = record { kept = why }
+pub verb_left : {code : ℕ} {done : Given Done} → VerbLeftBy code (Acts done) → VerbLeft code (Acts done)
+verb_left why = record { kept = why }
 
 -- An object is moved.
-pub moving : {code : ℕ} (o p : World → Condact → ℕ) → Keeps code (changing (λ w c. object_moved w (o w c) (p w c)))
+pub moving : {code : ℕ} (o p : World → Condact → ℕ) → VerbLeft code (changing (λ w c. object_moved w (o w c) (p w c)))
 moving o p = record { kept = λ n s w c is spares of k. inl (moved_has n w (o w c) (p w c) k) }
 
 -- This flag is given a value, or these two flags.
 pub set : {code f : ℕ} {x : World → Condact → ℕ} → (f == VERB_FLAG) ≡ false
-    → Keeps code (changing (λ w c. with_flag w f (x w c)))
+    → VerbLeft code (changing (λ w c. with_flag w f (x w c)))
 set {f = f} {x = x} other = record { kept = λ n s w c is spares of k. inl (other_has n w f (x w c) other k) }
 
 pub set_two : {code f h : ℕ} → (f == VERB_FLAG) ≡ false → (h == VERB_FLAG) ≡ false
-    → Keeps code (changing (λ w c. with_flag (with_flag w f c.a) h c.b))
+    → VerbLeft code (changing (λ w c. with_flag (with_flag w f c.a) h c.b))
 set_two {f = f} {h = h} other another = record {
   kept = λ n s w c is spares of k.
       inl (other_has n (with_flag w f c.a) h c.b another (other_has n w f c.a other k));
@@ -146,14 +146,14 @@ writes_one codes code c among is = subst (λ x. is_among codes x ≡ true) (sym 
 
 -- The flag that the first or the second parameter names is given a value: the code is among those that write it.
 pub set_first : {code : ℕ} {x : World → Condact → ℕ} → is_among writes_first code ≡ true
-    → Keeps code (changing (λ w c. with_flag w c.a (x w c)))
+    → VerbLeft code (changing (λ w c. with_flag w c.a (x w c)))
 set_first {code} {x} among = record {
   kept = λ n s w c is spares of k.
       inl (other_has n w c.a (x w c) (spares.first (writes_one writes_first code c among is)) k);
 }
 
 pub set_second : {code : ℕ} {x : World → Condact → ℕ} → is_among writes_second code ≡ true
-    → Keeps code (changing (λ w c. with_flag w c.b (x w c)))
+    → VerbLeft code (changing (λ w c. with_flag w c.b (x w c)))
 set_second {code} {x} among = record {
   kept = λ n s w c is spares of k.
       inl (other_has n w c.b (x w c) (spares.second (writes_one writes_second code c among is)) k);
@@ -215,7 +215,7 @@ module _ (code : ℕ) (g : GameLists) (w : World) where
 -- ---- words for whole rows ----
 
 -- A condition, by why it leaves the verb.
-pub condition : {code : ℕ} {most : Most} {test : GameLists → World → Condact → Tested} → KeepsBy code (Tests test)
+pub condition : {code : ℕ} {most : Most} {test : GameLists → World → Condact → Tested} → VerbLeftBy code (Tests test)
     → Facts code most (Tests test)
 condition why = row (record { within = tt {0} }) (record { kept = why }) (record { led = tt {0} })
 
@@ -241,7 +241,7 @@ module _ {code : ℕ} (a : Condact → _)
   pub on_object : Facts code (λ g c. most_of_action g) (doing (λ g w d. acted_on g w d.a (a d)))
   on_object =
       row (prints (λ s w c d of k. acted_most s.game (a d) (hinders s.game d) (comes s.game d) w d.a))
-      (keeps (λ n s w c is spares of k. inl (acted_has n s.game w c.a (a c) k)))
+      (verb_left (λ n s w c is spares of k. inl (acted_has n s.game w c.a (a c) k)))
       (leads (λ s w c. acted_leads code s.game w c.a (a c)))
 
   -- On the object that the sentence names, by what is said where there is none too.
@@ -253,5 +253,5 @@ module _ {code : ℕ} (a : Condact → _)
       row
       (prints (λ s w c d of k.
       found_most s.game (a d) (hinders s.game d) (comes s.game d) w (found w d) (misses s.game d w)))
-      (keeps (λ n s w c is spares of k. inl (found_has n s.game w (a c) (found w c) k)))
+      (verb_left (λ n s w c is spares of k. inl (found_has n s.game w (a c) (found w c) k)))
       (leads (λ s w c. found_leads code s.game w (a c) (found w c)))

@@ -26,7 +26,7 @@ use Rattle.paw_check.specs.Prints.{most_printed, silent}
 use Rattle.paw_check.specs.Verbs.{writes_first, writes_second}
 use Rattle.paw_check.proofs.EachPlain.{Each, ◌&◌, each_plain, with_conditions, with_marks}
 use Rattle.paw_check.proofs.ActionFacts.{Facts, row, quiet, prints, says}
-use Rattle.paw_check.proofs.ActionFacts.{still, keeps, moving, set, set_two, set_first, set_second, writes_one}
+use Rattle.paw_check.proofs.ActionFacts.{still, verb_left, moving, set, set_two, set_first, set_second, writes_one}
 use Rattle.paw_check.proofs.ActionFacts.{going, leaving, describing, calling, looping, asking, parsing}
 use Rattle.paw_check.proofs.ActionFacts.{leads, loaded_leads, condition, tested, marked, on_object, by_name}
 use Rattle.paw_check.proofs.Lengths.{put_most, say_most, message_most, byte_digits}
@@ -60,19 +60,19 @@ each_action =
     row quiet still leaving &  -- NOTDONE
     row (prints (λ s w c d of k. say_most s.game w OK_MESSAGE)) still leaving &  -- OK
     row (prints (λ s w c d of k. put_most s.game w KEY_MESSAGE)) still asking &  -- ANYKEY
-    row quiet (keeps (λ n s w c is spares of k. inl k)) (describing refl) &  -- SAVE
+    row quiet (verb_left (λ n s w c is spares of k. inl k)) (describing refl) &  -- SAVE
     row
     (prints (λ s w c d of k. loaded_most s.game w (kept_position w (position_number w))))
-    (keeps (λ n s w c is spares of k. loaded_leaves n s.game w (kept_position w (position_number w))))
+    (verb_left (λ n s w c is spares of k. loaded_leaves n s.game w (kept_position w (position_number w))))
     (leads (λ s w c. loaded_leads s.game w (kept_position w (position_number w)))) &  -- LOAD
-    row quiet (keeps (λ n s w c is spares of k. inl k)) going &  -- RAMSAVE
+    row quiet (verb_left (λ n s w c is spares of k. inl k)) going &  -- RAMSAVE
     row quiet
-    (keeps (λ n s w c is spares of k.
+    (verb_left (λ n s w c is spares of k.
     inl (ramloaded_has n s.game w c.a w.saved of.saved
     (spares.back (writes_one (RAMLOAD ∷ []) RAMLOAD c refl is)) k))) going &  -- RAMLOAD
     row (prints (λ s w c d of k. turns_most s.game w of.flags)) still going &  -- TURNS
     row (prints (λ s w c d of k. score_most s.game w of.flags)) still going &  -- SCORE
-    row quiet (keeps (λ n s w c is spares of k. inl (dropped_has n (here w) (held_objects w) w k))) going &  -- DROPALL
+    row quiet (verb_left (λ n s w c is spares of k. inl (dropped_has n (here w) (held_objects w) w k))) going &  -- DROPALL
     by_name (λ d. get) (λ g d u o. get_said g) (says TAKEN_MESSAGE refl) (says NOT_HERE_MESSAGE refl) &  -- AUTOG
     by_name (λ d. drop) (λ g d u o. drop_said g) (says DROPPED_MESSAGE refl) (says NOT_CARRIED_MESSAGE refl) &  -- AUTOD
     by_name (λ d. wear) (λ g d u o. wear_said g) (says PUT_ON_MESSAGE refl) (says NOT_CARRIED_MESSAGE refl) &  -- AUTOW
@@ -106,12 +106,12 @@ each_action =
     row quiet (moving _ _) going &  -- CREATE
     row quiet (moving _ _) going &  -- DESTROY
     row quiet
-    (keeps (λ n s w c is spares of k.
+    (verb_left (λ n s w c is spares of k.
     inl (moved_has n (object_moved w c.a (place w c.b)) c.b (place w c.a)
     (moved_has n w c.a (place w c.b) k)))) going &  -- SWAP
     row quiet (moving _ _) going &  -- PLACE
     row quiet
-    (keeps (λ n s w c is spares of k.
+    (verb_left (λ n s w c is spares of k.
     inl (one_has n (nat_lt (flag w REFERRED_FLAG) (length w.places))
     (object_moved w (flag w REFERRED_FLAG) (named_place w c.a)) w
     (moved_has n w (flag w REFERRED_FLAG) (named_place w c.a) k) k))) going &  -- PUTO
@@ -123,13 +123,13 @@ each_action =
     row quiet (set_second refl) going &  -- ADD
     row quiet (set_second refl) going &  -- SUB
     row quiet
-    (keeps (λ n s w c is spares of k.
+    (verb_left (λ n s w c is spares of k.
     inl (other_has n (drawn_on w 1) c.a (percent_drawn w)
     (spares.first (writes_one writes_first RANDOM c refl is)) k))) going &  -- RANDOM
     row quiet (moving _ _) going &  -- COPYOO
     row quiet (set_second refl) going &  -- COPYOF
     row quiet
-    (keeps (λ n s w c is spares of k.
+    (verb_left (λ n s w c is spares of k.
     inl (one_has n (names_place w (flag w c.a)) _ w
     (moved_has n w c.b (named_place w (flag w c.a)) k) k))) going &  -- COPYFO
     row quiet (set_second refl) going &  -- COPYFF
@@ -137,7 +137,7 @@ each_action =
     row
     (prints (λ s w c d of k. place_list_most s.game w NOTHING_THERE_MESSAGE (named_place w d.a) of.of))
     still going &  -- LISTAT
-    row quiet (keeps (λ n s w c is spares of k. inl (referred_found_has n w _ k))) going &  -- WHATO
+    row quiet (verb_left (λ n s w c is spares of k. inl (referred_found_has n w _ k))) going &  -- WHATO
     row quiet (set_second refl) going &  -- WEIGH
     row quiet (set_first refl) going &  -- WEIGHT
     row quiet (set_two refl refl) going &  -- ABILITY
@@ -147,9 +147,9 @@ each_action =
     row quiet (set refl) going &  -- PROMPT
     row quiet (set_two refl refl) going &  -- TIME
     row quiet still going &  -- NEWTEXT
-    row quiet (keeps (λ n s w c is spares of k. inr refl)) (describing refl) &  -- RESET
+    row quiet (verb_left (λ n s w c is spares of k. inr refl)) (describing refl) &  -- RESET
     row quiet
-    (keeps (λ n s w c is spares of k.
+    (verb_left (λ n s w c is spares of k.
     inl (answered_has n w c.b (value_at s.answers c.a (flag w c.b))
     (spares.second (writes_one writes_second EXTERN c refl is)) k))) going &  -- EXTERN
     with_marks Facts marked tt)
