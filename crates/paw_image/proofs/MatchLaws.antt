@@ -20,7 +20,7 @@ use Rattle.paw_game.specs.Valid.{is_wildcard}
 use Rattle.paw_game.specs.inner.Tables.{first_match}
 use Rattle.paw_game.proofs.Matches.{IsFound, found_here, found_later, slice_get-drop}
 use Rattle.paw_image.specs.declared.order.Order.{Order}
-use Rattle.paw_image.specs.inner.Orders.{is_kept_for, is_match, kept_word, entry_rank, ranks_at, ranks_of, IsOrder, IsLeast}
+use Rattle.paw_image.specs.inner.Orders.{is_indexed_for, is_match, indexed_word, entry_rank, ranks_at, ranks_of, IsOrder, IsLeast}
 use Rattle.paw_image.specs.inner.Orders.{IsMatch}
 use Rattle.paw_image.specs.inner.Offsets.{offsets}
 use Rattle.paw_image.proofs.OrderLaws.{IsLeast-same, one_least}
@@ -28,26 +28,26 @@ use Rattle.paw_image.proofs.RowStartLaws.{next_at}
 
 -- ---- the words that are kept ----
 
-kept_small : (word : ℕ) → word < 256 → kept_word word < 256
-kept_small word small =
+indexed_small : (word : ℕ) → word < 256 → indexed_word word < 256
+indexed_small word small =
     elim (cases_Bool (is_wildcard word)) [
       | inl wild ↦ rw wild (omega arith)
       | inr plain ↦ rw plain small
     ]
 
-kept_is_for_other : (word flag : ℕ) → eqb word ANY_WORD ≡ false → is_kept_for (kept_word word) flag ≡ is_for word flag
-kept_is_for_other word flag other =
+indexed_is_for_other : (word flag : ℕ) → eqb word ANY_WORD ≡ false → is_indexed_for (indexed_word word) flag ≡ is_for word flag
+indexed_is_for_other word flag other =
     elim (cases_eq word NO_WORD) [
       | inl none ↦ rw none refl
       | inr plain ↦ let differs = ne_eqb word NO_WORD plain in rw (other, differs, differs) refl
     ]
 
 -- A word that was kept matches where the word itself does.
-kept_is_for : (word flag : ℕ) → is_kept_for (kept_word word) flag ≡ is_for word flag
-kept_is_for word flag =
+indexed_is_for : (word flag : ℕ) → is_indexed_for (indexed_word word) flag ≡ is_for word flag
+indexed_is_for word flag =
     elim (cases_eq word ANY_WORD) [
       | inl any ↦ rw any refl
-      | inr other ↦ kept_is_for_other word flag (ne_eqb word ANY_WORD other)
+      | inr other ↦ indexed_is_for_other word flag (ne_eqb word ANY_WORD other)
     ]
 
 -- ---- ranks ----
@@ -97,25 +97,25 @@ nouns_small bytes rest (x ∷ xs) at fits e =
 record OfEntry (es : List Entry) (n k r : ℕ) : Type 0 where
   entry : Entry
   is : slice_get es k ≡ Some entry
-  rank : r ≡ entry_rank (kept_word entry.verb) (kept_word entry.noun) (n + k)
+  rank : r ≡ entry_rank (indexed_word entry.verb) (indexed_word entry.noun) (n + k)
 
 entry_of_rank : (es : List Entry) (n k r : ℕ) → slice_get (ranks_of n es) k ≡ Some r → OfEntry es n k r
 entry_of_rank [] n k r e = absurd (none-some r e)
 entry_of_rank (x ∷ xs) n zero r e =
     let same = sym (same_Some _ r e) in
-    record { entry = x; is = refl; rank = same ∙ ap (entry_rank (kept_word x.verb) (kept_word x.noun)) (sym (add-zero n)) }
+    record { entry = x; is = refl; rank = same ∙ ap (entry_rank (indexed_word x.verb) (indexed_word x.noun)) (sym (add-zero n)) }
 entry_of_rank (x ∷ xs) n (suc k) r e =
     let o = entry_of_rank xs (suc n) k r e in
     let number : suc n + k ≡ n + suc k = omega arith in
-    record { entry = o.entry; is = o.is; rank = o.rank ∙ ap (entry_rank (kept_word o.entry.verb) (kept_word o.entry.noun)) number }
+    record { entry = o.entry; is = o.is; rank = o.rank ∙ ap (entry_rank (indexed_word o.entry.verb) (indexed_word o.entry.noun)) number }
 
 rank_of_entry : (es : List Entry) (n k : ℕ) (x : Entry) → slice_get es k ≡ Some x
-    → slice_get (ranks_of n es) k ≡ Some (entry_rank (kept_word x.verb) (kept_word x.noun) (n + k))
+    → slice_get (ranks_of n es) k ≡ Some (entry_rank (indexed_word x.verb) (indexed_word x.noun) (n + k))
 rank_of_entry [] n k x e = absurd (none-some x e)
 rank_of_entry (y ∷ ys) n zero x e = rw (add-zero n, ← same_Some y x e) refl
 rank_of_entry (y ∷ ys) n (suc k) x e =
     let number : suc n + k ≡ n + suc k = omega arith in
-    rank_of_entry ys (suc n) k x e ∙ ap (λ (i : ℕ). Some (entry_rank (kept_word x.verb) (kept_word x.noun) i)) number
+    rank_of_entry ys (suc n) k x e ∙ ap (λ (i : ℕ). Some (entry_rank (indexed_word x.verb) (indexed_word x.noun) i)) number
 
 -- A rank gives the verb, the noun and the number.
 parts_same : (v n e v' n' e' : ℕ) → entry_rank v n e ≡ entry_rank v' n' e' → n < 256 → e < 65536 → n' < 256 → e' < 65536
@@ -160,8 +160,8 @@ contains_at xs k x e = (k, slice_get_within xs k x e, get_or_from_slice_get xs k
 at_contains : {X : Type 0} (xs : List X) (x : X) → Contains xs x → (k : ℕ) × (slice_get xs k ≡ Some x)
 at_contains xs x c = (c.0, slice_get-get_or xs c.0 x c.1 ∙ ap Some c.2)
 
-words_match : (x : Entry) (verb noun : ℕ) → is_match verb noun (kept_word x.verb) (kept_word x.noun) ≡ matches verb noun x
-words_match x verb noun = rw (kept_is_for x.verb verb, kept_is_for x.noun noun) refl
+words_match : (x : Entry) (verb noun : ℕ) → is_match verb noun (indexed_word x.verb) (indexed_word x.noun) ≡ matches verb noun x
+words_match x verb noun = rw (indexed_is_for x.verb verb, indexed_is_for x.noun noun) refl
 
 module _ (es : List Entry) (ranks : List ℕ) (perm : IsPermutation (ranks_of 0 es) ranks) (small : All (λ x. x.noun < 256) es) (few : length es ≤ ENTRY_LIMIT)
     (verb from noun : ℕ) where
@@ -172,12 +172,12 @@ module _ (es : List Entry) (ranks : List ℕ) (perm : IsPermutation (ranks_of 0 
       let found = at_contains (ranks_of 0 es) r (Contains-permutation ranks (ranks_of 0 es) r (IsPermutation-sym (ranks_of 0 es) ranks perm) m.is) in
       let o = entry_of_rank es 0 found.0 r found.1 in
       let there = contains_at es found.0 o.entry o.is in
-      let low = kept_small o.entry.noun (All-contains (λ (x : Entry). x.noun < 256) es o.entry small there) in
+      let low = indexed_small o.entry.noun (All-contains (λ (x : Entry). x.noun < 256) es o.entry small there) in
       let short : found.0 < 65536 = omega (arith, slice_get_within es found.0 o.entry o.is, few) in
-      let same = parts_same m.verb m.noun e (kept_word o.entry.verb) (kept_word o.entry.noun) (0 + found.0) o.rank m.low m.few low (omega (arith, short)) in
+      let same = parts_same m.verb m.noun e (indexed_word o.entry.verb) (indexed_word o.entry.noun) (0 + found.0) o.rank m.low m.few low (omega (arith, short)) in
       let place : from + (e - from) ≡ found.0 = omega (arith, m.reached, same.1.1) in
-      let kept = kept_word o.entry.verb in
-      let alike : is_match verb noun m.verb m.noun ≡ is_match verb noun kept (kept_word o.entry.noun) =
+      let kept = indexed_word o.entry.verb in
+      let alike : is_match verb noun m.verb m.noun ≡ is_match verb noun kept (indexed_word o.entry.noun) =
       ap (λ (v : ℕ). is_match verb noun v m.noun) same.0 ∙ ap (λ (n : ℕ). is_match verb noun kept n) same.1.0 in
       record {
         reached = m.reached;
@@ -191,14 +191,14 @@ module _ (es : List Entry) (ranks : List ℕ) (perm : IsPermutation (ranks_of 0 
   rank_found e f =
       let place : e ≡ from + (e - from) = omega (arith, f.reached) in
       let is = ap (slice_get es) place ∙ sym (slice_get-drop from es (e - from)) ∙ f.is in
-      let rank = λ (i : ℕ). entry_rank (kept_word f.entry.verb) (kept_word f.entry.noun) i in
+      let rank = λ (i : ℕ). entry_rank (indexed_word f.entry.verb) (indexed_word f.entry.noun) i in
       let number : 0 + e ≡ e = omega arith in
       let found = rank_of_entry es 0 e f.entry is ∙ ap (λ (i : ℕ). Some (rank i)) number in
       record {
         reached = f.reached;
-        verb = kept_word f.entry.verb;
-        noun = kept_word f.entry.noun;
-        low = kept_small f.entry.noun (All-contains (λ (x : Entry). x.noun < 256) es f.entry small (contains_at es e f.entry is));
+        verb = indexed_word f.entry.verb;
+        noun = indexed_word f.entry.noun;
+        low = indexed_small f.entry.noun (All-contains (λ (x : Entry). x.noun < 256) es f.entry small (contains_at es e f.entry is));
         few = omega (arith, slice_get_within es e f.entry is, few);
         is = Contains-permutation (ranks_of 0 es) ranks (rank e) perm (contains_at (ranks_of 0 es) e (rank e) found);
         matching = words_match f.entry verb noun ∙ f.matching;

@@ -9,7 +9,7 @@ use Rattle.std.proofs.lemmas.List.{get_or-take, get_or-drop, get_or_default}
 use Rattle.std.proofs.lemmas.List.Sorted.{IsNonDecreasingBy-take, IsNonDecreasingBy-drop}
 use Rattle.paw_base.specs.Bytes.{Bytes}
 use Rattle.paw_base.specs.declared.words.TheConstants.{NO_WORD}
-use Rattle.paw_image.specs.inner.Orders.{is_kept_for, is_match, is_pair, lower, entry_rank, ranks_at, AreStarts}
+use Rattle.paw_image.specs.inner.Orders.{is_indexed_for, is_match, is_pair, lower, entry_rank, ranks_at, AreStarts}
 use Rattle.paw_image.specs.inner.Orders.{IsLeast, IsMatch, IsRun, IsStart}
 use Rattle.paw_image.proofs.Stands.{and_true}
 
@@ -238,9 +238,9 @@ pair_or_pair false m n = refl
 -- The noun of an entry matches where it was kept for any noun, or is this one.
 pub least_of_any : (ranks run : List ℕ) (verb noun from : ℕ) → IsRun ranks verb run → (none same : Option ℕ)
     → IsLeast (IsMatch ranks (is_pair verb NO_WORD) from) none → IsLeast (IsMatch run (is_pair verb noun) from) same
-    → IsLeast (IsMatch ranks (λ v n. eqb v verb && is_kept_for n noun) from) (lower none same)
+    → IsLeast (IsMatch ranks (λ v n. eqb v verb && is_indexed_for n noun) from) (lower none same)
 least_of_any ranks run verb noun from is none same h k =
-    IsLeast-test ranks (λ v n. is_pair verb NO_WORD v n || is_pair verb noun v n) (λ v n. eqb v verb && is_kept_for n noun)
+    IsLeast-test ranks (λ v n. is_pair verb NO_WORD v n || is_pair verb noun v n) (λ v n. eqb v verb && is_indexed_for n noun)
     (λ v n. pair_or_pair (eqb v verb) (eqb n NO_WORD) (eqb n noun)) from (lower none same)
     (either_least ranks (is_pair verb NO_WORD) (is_pair verb noun) from none same h
     (least_in_run ranks run verb noun from is same k))
@@ -248,7 +248,7 @@ least_of_any ranks run verb noun from is none same h k =
 -- The same, where both were found among the ranks of the verb.
 pub least_of_nouns : (ranks run : List ℕ) (verb noun from : ℕ) → IsRun ranks verb run → (none same : Option ℕ)
     → IsLeast (IsMatch run (is_pair verb NO_WORD) from) none → IsLeast (IsMatch run (is_pair verb noun) from) same
-    → IsLeast (IsMatch ranks (λ v n. eqb v verb && is_kept_for n noun) from) (lower none same)
+    → IsLeast (IsMatch ranks (λ v n. eqb v verb && is_indexed_for n noun) from) (lower none same)
 least_of_nouns ranks run verb noun from is none same h k =
     least_of_any ranks run verb noun from is none same (least_in_run ranks run verb NO_WORD from is none h) k
 
@@ -258,9 +258,9 @@ lower_same (Some e) = let same : min e e ≡ e = omega arith in ap Some same
 
 -- With no noun those of any noun are all.
 pub least_of_no_noun : (ranks run : List ℕ) (verb noun from : ℕ) → IsRun ranks verb run → (none : Option ℕ) → noun ≡ NO_WORD
-    → IsLeast (IsMatch run (is_pair verb NO_WORD) from) none → IsLeast (IsMatch ranks (λ v n. eqb v verb && is_kept_for n noun) from) none
+    → IsLeast (IsMatch run (is_pair verb NO_WORD) from) none → IsLeast (IsMatch ranks (λ v n. eqb v verb && is_indexed_for n noun) from) none
 least_of_no_noun ranks run verb noun from is none e h =
-    subst (IsLeast (IsMatch ranks (λ v n. eqb v verb && is_kept_for n noun) from)) (lower_same none)
+    subst (IsLeast (IsMatch ranks (λ v n. eqb v verb && is_indexed_for n noun) from)) (lower_same none)
     (least_of_nouns ranks run verb noun from is none none h (subst (λ n. IsLeast (IsMatch run (is_pair verb n) from) none) (sym e) h))
 
 one_of_two : (a b m : Bool) → ((a && m) || (b && m)) ≡ ((a || b) && m)
@@ -271,13 +271,13 @@ one_of_two false b m = refl
 
 -- The verb of an entry matches likewise.
 pub least_of_verbs : (ranks : List ℕ) (verb noun from : ℕ) (none same : Option ℕ)
-    → IsLeast (IsMatch ranks (λ v n. eqb v NO_WORD && is_kept_for n noun) from) none
-    → IsLeast (IsMatch ranks (λ v n. eqb v verb && is_kept_for n noun) from) same
+    → IsLeast (IsMatch ranks (λ v n. eqb v NO_WORD && is_indexed_for n noun) from) none
+    → IsLeast (IsMatch ranks (λ v n. eqb v verb && is_indexed_for n noun) from) same
     → IsLeast (IsMatch ranks (is_match verb noun) from) (lower none same)
 least_of_verbs ranks verb noun from none same h k =
-    let with = λ (w v n : ℕ). eqb v w && is_kept_for n noun in
+    let with = λ (w v n : ℕ). eqb v w && is_indexed_for n noun in
     IsLeast-test ranks (λ v n. with NO_WORD v n || with verb v n) (is_match verb noun)
-    (λ v n. one_of_two (eqb v NO_WORD) (eqb v verb) (is_kept_for n noun)) from (lower none same)
+    (λ v n. one_of_two (eqb v NO_WORD) (eqb v verb) (is_indexed_for n noun)) from (lower none same)
     (either_least ranks (with NO_WORD) (with verb) from none same h k)
 
 -- What was found of the entries not below a number is not below it.

@@ -2,7 +2,7 @@
 
 ghost use Rattle.std.specs.Prelude.{◌≡◌, ◌≤◌, ◌&&◌, ◌==◌, IfOk, false, length, nat_lt, slice_get, slice_index, true};
 ghost use Rattle.std.specs.List.Sorted.{IsNonDecreasing, IsPartitionPoint, IsPermutation};
-ghost use Rattle.paw_image.specs.inner.Orders.{is_kept_for, is_match, is_pair, kept_word, lower, entry_rank, ranks_at};
+ghost use Rattle.paw_image.specs.inner.Orders.{is_indexed_for, is_match, is_pair, indexed_word, lower, entry_rank, ranks_at};
 ghost use Rattle.paw_image.specs.inner.Orders.{AreStarts, IsBefore, IsLeast, IsMatch, IsNextAny, IsOrder, IsRun};
 ghost use Rattle.paw_image.specs.inner.Orders.{IsSorted, IsStart};
 
@@ -25,8 +25,8 @@ pub struct Order {
 }
 
 // The word that is kept of an entry's word: the same for both words that match any.
-fn kept_word(word: u8) -> u8
-    ensures value { result ≡ kept_word word }
+fn indexed_word(word: u8) -> u8
+    ensures value { result ≡ indexed_word word }
 {
     if is_wildcard(word) { NO_WORD } else { word }
 }
@@ -56,8 +56,8 @@ fn ranks_at(alloc: Global, bytes: &[u8], offsets: &[u32]) -> Result<Vec<u32>, Al
     let mut ranks = Vec::with_capacity(alloc, offsets.len())?;
     for (entry, offset) in offsets.iter().enumerate() {
         let offset = *offset as usize;
-        let verb = kept_word(byte_at(bytes, offset));
-        let noun = kept_word(byte_at(bytes, offset + 1));
+        let verb = indexed_word(byte_at(bytes, offset));
+        let noun = indexed_word(byte_at(bytes, offset + 1));
         ranks.push(rank_of(verb, noun, entry as u16))?;
     }
     Ok(ranks)
@@ -209,7 +209,7 @@ fn lower(first: Option<u16>, second: Option<u16>) -> Option<u16>
 // sentence has no noun, one search is enough: both would be the same.
 fn first_for(order: &Order, verb: u8, noun: u8, from: u16) -> Option<u16>
     requires sorted { IsSorted order.now }
-    ensures least { IsLeast (IsMatch order.now.ranks.items (λ v n. (v == verb) && is_kept_for n noun) from) result }
+    ensures least { IsLeast (IsMatch order.now.ranks.items (λ v n. (v == verb) && is_indexed_for n noun) from) result }
 {
     let run = run_of(&order.ranks, &order.starts, verb);
     let none = first_with(run, verb, NO_WORD, from);
@@ -231,7 +231,7 @@ fn any_from(order: &Order, from: u16) -> Option<u16>
 // matches any noun too, as most do that come next in games.
 fn first_for_any(order: &Order, noun: u8, from: u16) -> Option<u16>
     requires sorted { IsSorted order.now }
-    ensures least { IsLeast (IsMatch order.now.ranks.items (λ v n. (v == NO_WORD) && is_kept_for n noun) from) result }
+    ensures least { IsLeast (IsMatch order.now.ranks.items (λ v n. (v == NO_WORD) && is_indexed_for n noun) from) result }
 {
     let none = any_from(order, from);
     let run = run_of(&order.ranks, &order.starts, NO_WORD);

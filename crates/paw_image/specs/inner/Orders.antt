@@ -14,8 +14,8 @@ use Rattle.paw_image.specs.inner.Images.{EachIsByte}
 -- ---- ranks ----
 
 -- The word that is kept of an entry's word: the same for both words that match any.
-abbrev pub kept_word : ℕ → ℕ
-kept_word word = if is_wildcard word then NO_WORD else word
+abbrev pub indexed_word : ℕ → ℕ
+indexed_word word = if is_wildcard word then NO_WORD else word
 
 -- A rank by verb, then by noun, then by the number of the entry.
 abbrev pub entry_rank : ℕ → ℕ → ℕ → ℕ
@@ -25,12 +25,12 @@ entry_rank verb noun entry = (verb * 256 + noun) * 65536 + entry
 abbrev pub ranks_at : Bytes → ℕ → List ℕ → List ℕ
 ranks_at bytes n [] = []
 ranks_at bytes n (p ∷ ps) =
-    entry_rank (kept_word (slice_index bytes p)) (kept_word (slice_index bytes (p + 1))) n ∷ ranks_at bytes (suc n) ps
+    entry_rank (indexed_word (slice_index bytes p)) (indexed_word (slice_index bytes (p + 1))) n ∷ ranks_at bytes (suc n) ps
 
 -- The same for entries.
 abbrev pub ranks_of : ℕ → List Entry → List ℕ
 ranks_of n [] = []
-ranks_of n (e ∷ es) = entry_rank (kept_word e.verb) (kept_word e.noun) n ∷ ranks_of (suc n) es
+ranks_of n (e ∷ es) = entry_rank (indexed_word e.verb) (indexed_word e.noun) n ∷ ranks_of (suc n) es
 
 -- ---- the order ----
 
@@ -62,12 +62,12 @@ IsLeast P None = (e : ℕ) → P e → ⊥
 IsLeast P (Some e) = P e × ((f : ℕ) → P f → e ≤ f)
 
 -- Whether a word that was kept matches the value of a flag.
-abbrev pub is_kept_for : ℕ → ℕ → Bool
-is_kept_for word flag = (word == NO_WORD) || (word == flag)
+abbrev pub is_indexed_for : ℕ → ℕ → Bool
+is_indexed_for word flag = (word == NO_WORD) || (word == flag)
 
 -- Whether a verb and a noun that were kept match this verb and noun.
 abbrev pub is_match : ℕ → ℕ → ℕ → ℕ → Bool
-is_match verb noun v n = is_kept_for v verb && is_kept_for n noun
+is_match verb noun v n = is_indexed_for v verb && is_indexed_for n noun
 
 -- Whether they are this verb and noun themselves.
 abbrev pub is_pair : ℕ → ℕ → ℕ → ℕ → Bool
