@@ -29,7 +29,7 @@ fn words_of<R: Env + AllocGlobal>(rt: &R) -> io::Result<Vec<String>> {
 
 // Writes the outcome's text to standard error, and gives its status. Where there is no memory for the text, or standard
 // error doesn't take it, there is the status alone.
-fn tell<R: Eprint>(rt: &R, alloc: Global, outcome: Outcome) -> ExitCode
+fn report<R: Eprint>(rt: &R, alloc: Global, outcome: Outcome) -> ExitCode
     ensures status { exit_status result ≡ status_of outcome }
 {
     if let Ok(text) = outcome.text(alloc) {
@@ -50,5 +50,5 @@ fn main(rt: HostRuntime) -> ExitCode {
         &routines,
         words.as_slice(),
     );
-    tell(&rt, rt.alloc(), outcome)
+    report(&rt, rt.alloc(), outcome)
 }

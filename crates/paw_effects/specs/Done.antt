@@ -21,16 +21,16 @@ abbrev pub dropping : Effect → Act
 dropping e = record { effect = e; drop_line = true; cancel_loop = false }
 
 -- Prints this text, and reading goes on with this effect.
-abbrev pub tells : World → Text → Effect → Done
-tells w text e = record { text = text; world = w; act = plainly e }
+abbrev pub prints_then : World → Text → Effect → Done
+prints_then w text e = record { text = text; world = w; act = plainly e }
 
 -- Prints nothing, and reading goes on with this effect.
 abbrev pub leads : World → Effect → Done
-leads w e = tells w [] e
+leads w e = prints_then w [] e
 
 -- Prints this text, and reading goes on at the next condact.
 abbrev pub prints : World → Text → Done
-prints w text = tells w text effect.Go
+prints w text = prints_then w text effect.Go
 
 -- Leaves this world and prints nothing, and reading goes on at the next condact.
 abbrev pub makes : World → Done

@@ -23,7 +23,7 @@ use Rattle.paw_effects.specs.declared.act.Prompt.TheVariants as prompt
 use Rattle.paw_effects.specs.declared.act.Effect.TheVariants as effect
 use Rattle.paw_effects.specs.declared.object_actions.Action.TheVariants as action
 use Rattle.paw_effects.specs.Story.{Story}
-use Rattle.paw_effects.specs.Done.{Done, dropping, tells, leads, prints, makes}
+use Rattle.paw_effects.specs.Done.{Done, dropping, prints_then, leads, prints, makes}
 use Rattle.paw_effects.specs.Tested.{Tested, answers, moves}
 use Rattle.paw_effects.specs.Chance.{percent_drawn}
 use Rattle.paw_effects.specs.Presence.{named_place}
@@ -99,11 +99,11 @@ meanings =
     Tests (λ g w c. moves g w c.a) ∷  -- MOVE
     printing_action (λ g w c. inventory_text g w) ∷  -- INVEN
     doing (λ g w c. leads w effect.Redescribe) ∷  -- DESC
-    doing (λ g w c. tells w (put_text g w AGAIN_MESSAGE) (effect.Ask prompt.Again)) ∷  -- END
+    doing (λ g w c. prints_then w (put_text g w AGAIN_MESSAGE) (effect.Ask prompt.Again)) ∷  -- END
     doing (λ g w c. leads w (effect.Exit true)) ∷  -- DONE
     doing (λ g w c. leads w (effect.Exit false)) ∷  -- NOTDONE
-    doing (λ g w c. tells w (say_text g w OK_MESSAGE) (effect.Exit true)) ∷  -- OK
-    doing (λ g w c. tells w (put_text g w KEY_MESSAGE) (effect.Ask prompt.Key)) ∷  -- ANYKEY
+    doing (λ g w c. prints_then w (say_text g w OK_MESSAGE) (effect.Exit true)) ∷  -- OK
+    doing (λ g w c. prints_then w (put_text g w KEY_MESSAGE) (effect.Ask prompt.Key)) ∷  -- ANYKEY
     doing (λ g w c. leads (keeping w (position_number w)) effect.Redescribe) ∷  -- SAVE
     doing (λ g w c. position_loaded g w (kept_position w (position_number w))) ∷  -- LOAD
     changing (λ w c. position_saved w) ∷  -- RAMSAVE

@@ -6,7 +6,7 @@ ghost use Rattle.paw_base.specs.inner.Condacts.{IsPlainCode};
 ghost use Rattle.paw_game.specs.inner.Valid.{is_right};
 ghost use Rattle.paw_effects.specs.Worlds.{IsOf};
 ghost use Rattle.paw_effects.specs.Holds.{is_condition};
-ghost use Rattle.paw_effects.specs.Done.{plainly, tells};
+ghost use Rattle.paw_effects.specs.Done.{plainly, prints_then};
 ghost use Rattle.paw_effects.specs.Effects.{effect_of, plain_effect, Does};
 ghost use Rattle.paw_effects.specs.Meanings.{answered_by};
 ghost use Rattle.paw_effects.specs.Story.{story_of};
@@ -21,7 +21,7 @@ use crate::act::{Act, Effect, Prompt, after, dropping, plain_act};
 use crate::auto_actions::{act_by_name, refer_by_name};
 use crate::chance::roll;
 pub use crate::conditions::{is_condition, test};
-use crate::counts::{tell_score, tell_turns};
+use crate::counts::{print_score, print_turns};
 use crate::indirect::as_plain;
 use crate::lists::{print_here, print_inventory, print_place};
 use crate::move_actions::{drop_all, move_if_place, move_referred, reset, swap};
@@ -45,7 +45,7 @@ use paw_world::world::World;
 
 // Prints a question, and waits for its answer.
 fn ask<T: Tables>(tables: &T, world: &World, piece: &mut Piece, question: u8, prompt: Prompt) -> Act
-    ensures does { Does (tells world.now (put_text (T.game tables.now) world.now question) (effect.Ask prompt))
+    ensures does { Does (prints_then world.now (put_text (T.game tables.now) world.now question) (effect.Ask prompt))
         piece.old piece.new world.now result }
 {
     after(put(tables, world, piece, question), Effect::Ask(prompt))
@@ -159,8 +159,8 @@ fn act_plain<T: Tables, F: Fn(u8, u8) -> u8>(
         codes::LOAD => load(tables, world, piece),
         codes::RAMSAVE => going_on(world.ramsave()),
         codes::RAMLOAD => going_on(world.ramload(c.a)),
-        codes::TURNS => after_printing(tell_turns(tables, world, piece)),
-        codes::SCORE => after_printing(tell_score(tables, world, piece)),
+        codes::TURNS => after_printing(print_turns(tables, world, piece)),
+        codes::SCORE => after_printing(print_score(tables, world, piece)),
         codes::DROPALL => going_on(drop_all(world)),
         codes::AUTOG => act_by_name(tables, world, piece, Action::Get),
         codes::AUTOD => act_by_name(tables, world, piece, Action::Drop),

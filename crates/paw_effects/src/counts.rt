@@ -37,7 +37,7 @@ fn put_plural<T: Tables>(tables: &T, world: &World, piece: &mut Piece, number: u
 }
 
 /// Prints the number of turns.
-pub(crate) fn tell_turns<T: Tables>(tables: &T, world: &World, piece: &mut Piece) -> bool
+pub(crate) fn print_turns<T: Tables>(tables: &T, world: &World, piece: &mut Piece) -> bool
     ensures puts { Puts piece.old piece.new result (turns_text (T.game tables.now) world.now) }
 {
     let turns = turns_taken(world);
@@ -49,7 +49,7 @@ pub(crate) fn tell_turns<T: Tables>(tables: &T, world: &World, piece: &mut Piece
 }
 
 /// Prints the score.
-pub(crate) fn tell_score<T: Tables>(tables: &T, world: &World, piece: &mut Piece) -> bool
+pub(crate) fn print_score<T: Tables>(tables: &T, world: &World, piece: &mut Piece) -> bool
     ensures puts { Puts piece.old piece.new result (score_text (T.game tables.now) world.now) }
 {
     put(tables, world, piece, SCORE_MESSAGE)

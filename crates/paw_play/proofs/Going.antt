@@ -22,7 +22,7 @@ use Rattle.paw_process.proofs.Again.{path_again}
 use Rattle.paw_journal.specs.Session.{Digests, Recovered, Shown, recover}
 use Rattle.paw_state.specs.State.{State, IsValidState, FitsFields}
 use Rattle.paw_state.specs.State.{state_bytes}
-use Rattle.paw_state.proofs.Lawful.{bytes_tell_the_state}
+use Rattle.paw_state.proofs.Lawful.{bytes_give_the_state}
 use Rattle.paw_state.specs.State.{last_piece, state_at}
 use Rattle.paw_play.specs.Session.{kept_bytes, IsKept}
 use Rattle.paw_play.specs.Stands.{Stands, since_piece, ending_since, reading_since}
@@ -164,13 +164,13 @@ module _ (g : Story) (seed : Seed) (es fs : Lines) where
   ended_goes (WaitsAt p path s) is k counted digests other r kept st piece v keeps fits shown =
       let both : Shown other (kept_bytes st) piece ≡ Shown digests (state_bytes (state_at (length es) p path s)) (last_piece s.pieces) = sym shown
       ∙ kept.shown in
-      let same : st ≡ state_at (length es) p path s = bytes_tell_the_state g.game st (state_at (length es) p path s) v keeps fits k.valid k.fits cc in
+      let same : st ≡ state_at (length es) p path s = bytes_give_the_state g.game st (state_at (length es) p path s) v keeps fits k.valid k.fits cc in
       let piece_is : piece ≡ last_piece s.pieces = cc in
       rw (same, piece_is) (refl, waiting_goes p path s is k counted)
   ended_goes (Halted halt.Over s) is k counted digests other r kept st piece v keeps fits shown =
       let both : Shown other (kept_bytes st) piece ≡ Shown digests (state_bytes (state_at (length es) prompt.Over [] s)) (last_piece s.pieces) = sym shown
       ∙ kept.shown in
-      let same : st ≡ state_at (length es) prompt.Over [] s = bytes_tell_the_state g.game st
+      let same : st ≡ state_at (length es) prompt.Over [] s = bytes_give_the_state g.game st
       (state_at (length es) prompt.Over [] s) v keeps fits k.valid k.fits cc in
       let piece_is : piece ≡ last_piece s.pieces = cc in
       rw (same, piece_is) (refl, over_goes s is k kept.played counted)

@@ -32,7 +32,7 @@ use Rattle.paw_state.specs.declared.parts.Restored.{Restored}
 use Rattle.paw_state.specs.inner.Fit.{IsRead, state_read}
 use Rattle.paw_state.proofs.Told.{piece_told}
 use Rattle.paw_state.proofs.Ruled.{each_of}
-use Rattle.paw_state.proofs.Lawful.{bytes_tell_the_state, long_state}
+use Rattle.paw_state.proofs.Lawful.{bytes_give_the_state, long_state}
 use Rattle.paw_play.specs.Session.{kept_bytes, IsKept}
 use Rattle.paw_play.specs.Played.{ShowsState, going_on, from_state}
 use Rattle.paw_play.specs.inner.OnTheWay.{IsRestingStore}
@@ -57,7 +57,7 @@ pub one_state : (g : Story) (d e : Digests) (bytes name : Bytes) (s t : State) (
     ShowsState g.game d bytes s p → ShowsState g.game e bytes t q → from_state g s p d name ≡ from_state g t q e name
 one_state g d e bytes name s t p q valid h k =
     let one = same_shown d e (kept_bytes s) p (kept_bytes t) q (sym h.shown ∙ k.shown) in
-    let state : s ≡ t = bytes_tell_the_state g.game s t valid h.valid h.fits k.valid k.fits (bytes_same s t one.1) in
+    let state : s ≡ t = bytes_give_the_state g.game s t valid h.valid h.fits k.valid k.fits (bytes_same s t one.1) in
     ap (λ x. from_state g x p d name) state ∙ ap (λ x. from_state g t x d name) one.2 ∙ ap (λ x. from_state g t q x name) one.0
 
 -- ---- parts that were read fit a player ----

@@ -6,7 +6,7 @@ ghost use Rattle.paw_read_error.specs.declared.read_error.ReadError.TheVariants 
 
 /// An answer shows what is read: whatever gives the same value is the same, so is whatever gives the same fault, and
 /// nothing gives both a value and a fault.
-pub fn answers_tell_the_reading()
+pub fn answers_give_the_reading()
     ensures value { (f : ℕ → ℕ) (x : ℕ) (r s : Result ℕ ℕ) → Gives f (Ok x) r → Gives f (Ok x) s → r ≡ s }
     ensures fault { (f : ℕ → ℕ) (n : ℕ) (r s : Result ℕ ℕ)
         → Gives f (Err (unread.Fault n)) r → Gives f (Err (unread.Fault n)) s → r ≡ s }

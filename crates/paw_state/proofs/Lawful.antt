@@ -83,8 +83,8 @@ fit_or_unfit g bytes v n b = (none_is_fit g bytes v n b, fit_has_none g bytes v)
 
 -- ---- one state ----
 
-pub bytes_tell_the_state : BytesTellTheState
-bytes_tell_the_state g s t v ks hs kt ht e =
+pub bytes_give_the_state : BytesTellTheState
+bytes_give_the_state g s t v ks hs kt ht e =
     let es = each_of g s ks in
     let et = each_of g t kt in
     let a = fields_cut (fields_of s) [] (sized_of g s v es hs) in

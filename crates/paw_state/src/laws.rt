@@ -15,7 +15,7 @@ pub fn fit_or_unfit()
 {}
 
 /// Two states of a game with the same bytes are the same, so what is read back is what was written.
-pub fn bytes_tell_the_state()
+pub fn bytes_give_the_state()
     ensures same { BytesTellTheState }
 {}
 

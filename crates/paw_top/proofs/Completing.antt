@@ -115,12 +115,12 @@ completes_unopened name Such old new _ memory (without_memory at e) free =
 
 -- A game of which a text is shown.
 pub completes_told : {told : GameLists → List ℕ} {at : MemoryAt} (name : Name) (old new : Standing) (o : Outcome) →
-    decompile.TellsOf told at name old new o → IsUnhindered o → CompletesImage name (λ g. Comes outcome.Done) old o
+    decompile.ShowsTextOf told at name old new o → IsUnhindered o → CompletesImage name (λ g. Comes outcome.Done) old o
 completes_told name old new _ (decompile.done g s e) free = completes_game name (λ g. Comes outcome.Done) old g outcome.Done s refl
 completes_told name old new _ (decompile.unopened o u) free =
     completes_unopened name (λ g. Comes outcome.Done) old new o (λ g at. tt) u free
 completes_told name old new _ (decompile.unshown g s e) free = absurd (hindered call.Show (λ q. cc) free)
-completes_told name old new _ (decompile.untold e) free = record { image = λ h k. tt; other = λ k. tt }
+completes_told name old new _ (decompile.lacking_memory e) free = record { image = λ h k. tt; other = λ k. tt }
 
 -- A text of at most this many bytes is wrapped, and a longer one is too long.
 within : (bytes : Bytes) → length bytes ≤ WRAP_LIMIT →

@@ -14,18 +14,18 @@ use Rattle.paw_top.specs.declared.outcome.MemoryAt.TheVariants as memory
 
 -- How a command that shows a text of a game ends, and what it leaves. The text follows from the game, and memory may be
 -- lacking for it.
-pub data TellsOf (told : GameLists → Text) (at : MemoryAt) (name : Name) (old new : Standing) : Outcome → Type 0 where
+pub data ShowsTextOf (text_of : GameLists → Text) (at : MemoryAt) (name : Name) (old new : Standing) : Outcome → Type 0 where
   -- The file is the image of a game, and its text was shown.
-  done : (g : GameLists) → Holds old name g → new ≡ with_shown (told g) old →
-      TellsOf told at name old new outcome.Done
+  done : (g : GameLists) → Holds old name g → new ≡ with_shown (text_of g) old →
+      ShowsTextOf text_of at name old new outcome.Done
   -- The file gives no game; nothing is changed.
-  unopened : (o : Outcome) → Unopened name old new o → TellsOf told at name old new o
+  unopened : (o : Outcome) → Unopened name old new o → ShowsTextOf text_of at name old new o
   -- The text couldn't be shown: a first part of it was.
-  unshown : (g : GameLists) → Holds old name g → InShow old (told g) new →
-      TellsOf told at name old new (outcome.Outside call.Show)
+  unshown : (g : GameLists) → Holds old name g → InShow old (text_of g) new →
+      ShowsTextOf text_of at name old new (outcome.Outside call.Show)
   -- Memory was lacking for the text; nothing is changed.
-  untold : new ≡ old → TellsOf told at name old new (outcome.Memory at)
+  lacking_memory : new ≡ old → ShowsTextOf text_of at name old new (outcome.Memory at)
 
 -- Decompiling shows the canonical source.
 abbrev pub Decompiles : Name → Standing → Standing → Outcome → Type 0
-Decompiles = TellsOf canonical_of memory.Print
+Decompiles = ShowsTextOf canonical_of memory.Print

@@ -16,7 +16,7 @@ ghost use Rattle.paw_top.specs.declared.outcome.MemoryAt.TheVariants as memory;
 
 use crate::load::{load, or_return};
 use crate::outcome::{MemoryAt, Outcome};
-use crate::show::tell;
+use crate::show::show_text;
 use paw_base::limits::SOURCE_LIMIT;
 use paw_game::game::Game;
 use paw_image::encoder::encode;
@@ -76,7 +76,7 @@ fn keep<S: Stage>(stage: &mut S, name: &str, image: &[u8], line: &[u8]) -> Outco
     if stage.save(name, image).is_err() {
         return Outcome::Outside(StageCall::Save);
     }
-    tell(stage, line)
+    show_text(stage, line)
 }
 
 /// Compiles a source file to an image file, and shows how many bytes the image has.

@@ -15,7 +15,7 @@ ghost use Rattle.paw_top.specs.declared.outcome.Outcome.TheVariants as outcome;
 use crate::load::{load, or_return};
 use crate::open::game_in;
 use crate::outcome::{MemoryAt, Outcome};
-use crate::show::tell;
+use crate::show::show_text;
 use paw_base::fault::NoRoom;
 use paw_base::limits::IMAGE_LIMIT;
 use paw_game::game::Game;
@@ -35,7 +35,7 @@ pub(crate) fn decompile<S: Stage>(alloc: Global, stage: &mut S, image: &str) -> 
     let Ok(source) = canonical(alloc, &game) else {
         return Outcome::Memory(MemoryAt::Print);
     };
-    tell(stage, source.as_slice())
+    show_text(stage, source.as_slice())
 }
 
 /// Shows what any play of the game of an image file takes at most, or the first cause why no bound of that is known.
@@ -50,7 +50,7 @@ pub(crate) fn check<S: Stage>(alloc: Global, stage: &mut S, image: &str) -> Outc
     let Ok(text) = verdict_of(alloc, &game) else {
         return Outcome::Memory(MemoryAt::Check);
     };
-    tell(stage, text.as_bytes())
+    show_text(stage, text.as_bytes())
 }
 
 // What is shown of a game when it is checked.

@@ -17,7 +17,7 @@ use paw_wrap::WRAP_LIMIT;
 use std::alloc::Global;
 
 /// Shows the text that a command ends with.
-pub(crate) fn tell<S: Stage>(stage: &mut S, text: &[u8]) -> Outcome
+pub(crate) fn show_text<S: Stage>(stage: &mut S, text: &[u8]) -> Outcome
     ensures serves { FailsOnlyBy S.Stage (call.Show ∷ []) (failed_call result) stage.old stage.new }
     ensures form { result ≢ outcome.Usage }
     ensures memory { IfMemory result (λ at. ⊥) }
@@ -51,5 +51,5 @@ pub(crate) fn wrap<S: Stage>(alloc: Global, stage: &mut S, width: Width, text: &
     let Ok(wrapped) = paw_wrap::wrap(alloc, width.columns, bytes.as_slice()) else {
         return Outcome::Memory(MemoryAt::Wrap);
     };
-    tell(stage, wrapped.bytes.as_slice())
+    show_text(stage, wrapped.bytes.as_slice())
 }

@@ -12,7 +12,7 @@ ghost use Rattle.paw_top.specs.declared.outcome.MemoryAt.TheVariants as memory;
 ghost use Rattle.paw_top.specs.declared.outcome.Outcome.TheVariants as outcome;
 
 use crate::outcome::{MemoryAt, Outcome, outcome_of_halt};
-use crate::show::tell;
+use crate::show::show_text;
 use paw_stage::Stage;
 use paw_trial::{TrialEnd, halt_of, trial_line};
 use std::alloc::Global;
@@ -38,7 +38,7 @@ pub(crate) fn trial<S: Stage>(alloc: Global, stage: &mut S, n: u16) -> Outcome
     ensures tries { S.Tells stage.old → Tries n (S.standing stage.old) (S.standing stage.new) result }
 {
     match trial_line(alloc, n) {
-        Ok(line) => tell(stage, line.as_bytes()),
+        Ok(line) => show_text(stage, line.as_bytes()),
         Err(end) => stopped_as(end),
     }
 }

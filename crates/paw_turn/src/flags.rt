@@ -84,7 +84,7 @@ pub(crate) fn count_turn(world: &mut World)
 }
 
 /// Sets bit 7 of flag 49 to whether the last line was a timeout.
-pub(crate) fn tell_timeout(world: &mut World, timeout: bool)
+pub(crate) fn set_timeout(world: &mut World, timeout: bool)
     ensures value { world.new ≡ with_timeout timeout world.old }
     ensures only { ChangesFlags world.old world.new }
 {

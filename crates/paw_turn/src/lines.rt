@@ -74,10 +74,10 @@ impl PlayState {
         ensures stays { StaysInGame (T.game tables.now) self.old result self.new }
     {
         if is_timeout(line) {
-            flags::tell_timeout(&mut self.surroundings.world, true);
+            flags::set_timeout(&mut self.surroundings.world, true);
             self.say(tables, TIMEOUT_MESSAGE, Phase::TimeFrame)
         } else {
-            flags::tell_timeout(&mut self.surroundings.world, false);
+            flags::set_timeout(&mut self.surroundings.world, false);
             self.surroundings.pending.set(line);
             Next::Go(Phase::Phrase)
         }
@@ -92,7 +92,7 @@ impl PlayState {
             PlaysAs g (from_prompt g prompt.Again self.old line.now) self.old result self.new }
         ensures stays { StaysInGame (T.game tables.now) self.old result self.new }
     {
-        flags::tell_timeout(&mut self.surroundings.world, is_timeout(line));
+        flags::set_timeout(&mut self.surroundings.world, is_timeout(line));
         self.machine.close();
         if !begins_with(b'N', reply(line)) {
             self.surroundings.world.restart();
@@ -168,7 +168,7 @@ impl<T: Tables, F: Fn(u8, u8) -> u8> TurnRules<'_, T, F> {
         ensures stops { StopsInTable (first_table (reverse state.old.machine.frames)) result state.new.machine }
         ensures stays { Stays (T.game self.now.tables.now) state.old state.new }
     {
-        flags::tell_timeout(&mut state.surroundings.world, is_timeout(line));
+        flags::set_timeout(&mut state.surroundings.world, is_timeout(line));
         state.machine.answer(begins_with(b'Y', reply(line)));
         state
             .machine

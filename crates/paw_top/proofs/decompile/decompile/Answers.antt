@@ -1,6 +1,6 @@
 use Rattle.std.proofs.Common.{[], ◌∷◌, ◌∙◌, refl, subst}
 use Rattle.paw_print.specs.Canonical.{canonical_of}
-use Rattle.paw_top.specs.Decompile.{untold}
+use Rattle.paw_top.specs.Decompile.{lacking_memory}
 use Rattle.paw_top.specs.inner.Loads.{GivesNone}
 use Rattle.paw_top.proofs.Decompiling.{no_file, no_game, shows_told}
 use Rattle.paw_play.proofs.ImageFiles.{holds_loaded}
@@ -19,15 +19,15 @@ returns-in-Err-game_in-clause-decompiles g c = λ tells.
     (subst (λ b. GivesNone b c.in-Err-game_in.outcome) c.as_slice.ensures.value c.in-Err-game_in.ensures.none)
 
 pub returns-in_default-clause-decompiles : goal.returns-in_default-clause-decompiles
-returns-in_default-clause-decompiles g c = λ tells. let f = c.in-Ok.ensures.some tells in untold f.3
+returns-in_default-clause-decompiles g c = λ tells. let f = c.in-Ok.ensures.some tells in lacking_memory f.3
 
 pub returns-clause-decompiles : goal.returns-clause-decompiles
 returns-clause-decompiles g c = λ tells.
     let f = c.in-Ok.ensures.some tells in
     let holds = holds_loaded c.args.image.now _ _ _ _ c.in-Ok-game_in.given c.as_slice.ensures.value f c.in-Ok-game_in.ensures.found in
-    shows_told canonical_of memory.Print c.args.image.now c.as_slice-2.result.now c.in-Ok-game_in.given _ _ _ c.tell.result holds f.3
+    shows_told canonical_of memory.Print c.args.image.now c.as_slice-2.result.now c.in-Ok-game_in.given _ _ _ c.show_text.result holds f.3
     (c.as_slice-2.ensures.value ∙ c.in-Ok-canonical.ensures.value)
-    (c.tell.ensures.shows (c.load.ensures.serves.tells.0 tells))
+    (c.show_text.ensures.shows (c.load.ensures.serves.tells.0 tells))
 
 pub returns-in-Err-clause-serves : goal.returns-in-Err-clause-serves
 returns-in-Err-clause-serves g c = serves_among _ _ _ _ _ _ (behind (call.Show ∷ []) load_calls) c.in-Err.ensures.serves
@@ -40,4 +40,4 @@ returns-in_default-clause-serves g c = serves_still _ _ _ _ _ _ refl c.in-Ok.ens
 
 pub returns-clause-serves : goal.returns-clause-serves
 returns-clause-serves g c = serves_then _ _ _ _ _ _ _ c.in-Ok.ensures.serves
-    (serves_among _ _ _ _ _ _ (in_front (call.Show ∷ []) load_calls) c.tell.ensures.serves)
+    (serves_among _ _ _ _ _ _ (in_front (call.Show ∷ []) load_calls) c.show_text.ensures.serves)

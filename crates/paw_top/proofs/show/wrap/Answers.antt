@@ -72,11 +72,11 @@ pub returns-clause-wraps : goal.returns-clause-wraps
 returns-clause-wraps g c = λ tells.
     let f = c.in-Ok.ensures.some tells in
     let short = subst (λ n. n ≤ WRAP_LIMIT) (c.len.ensures ∙ c.in-Ok.given.ok.0) c.if-len-gt-WRAP_LIMIT.false in
-    shows_text c.args.width.columns c.args.text.now c.in-Ok.given.items c.as_slice-2.result.now _ _ _ c.tell.result
+    shows_text c.args.width.columns c.args.text.now c.in-Ok.given.items c.as_slice-2.result.now _ _ _ c.show_text.result
     (holds_text c.args.text.now c.in-Ok.given.items _ _ f short) f.3
     (c.as_slice-2.ensures.value ∙ ap (λ (w : WrappedText). w.bytes) (c.wrapped.view_is ∙ c.in-Ok-wrap.ensures.value)
     ∙ ap (λ t. (first_fit c.args.width.columns t).bytes) c.as_slice.ensures.value)
-    (c.tell.ensures.shows (c.load.ensures.serves.tells.0 tells))
+    (c.show_text.ensures.shows (c.load.ensures.serves.tells.0 tells))
 
 pub returns-in-Err-clause-serves : goal.returns-in-Err-clause-serves
 returns-in-Err-clause-serves g c = serves_among _ _ _ _ _ _ (behind (call.Show ∷ []) load_calls) c.in-Err.ensures.serves
@@ -89,4 +89,4 @@ returns-in_default-clause-serves g c = serves_still _ _ _ _ _ _ refl c.in-Ok.ens
 
 pub returns-clause-serves : goal.returns-clause-serves
 returns-clause-serves g c = serves_then _ _ _ _ _ _ _ c.in-Ok.ensures.serves
-    (serves_among _ _ _ _ _ _ (in_front (call.Show ∷ []) load_calls) c.tell.ensures.serves)
+    (serves_among _ _ _ _ _ _ (in_front (call.Show ∷ []) load_calls) c.show_text.ensures.serves)

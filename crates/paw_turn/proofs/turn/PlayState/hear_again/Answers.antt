@@ -16,7 +16,7 @@ returns-then-not-begins_with-clause-meaning g c X =
     c.args.line.now c.requires.waits.tables.tables.some c.requires.heard
     (sym (c.if-not-begins_with.ensures.value ∙ ap (begins_with 78) c.reply.ensures.value))
     (c.restart.ensures.change ∙ ap world_restarted
-    (c.tell_timeout.ensures.value ∙ ap (λ b. with_timeout b c.args.self.now.surroundings.world) c.is_timeout.ensures.value))
+    (c.set_timeout.ensures.value ∙ ap (λ b. with_timeout b c.args.self.now.surroundings.world) c.is_timeout.ensures.value))
     (ap (λ (p : PendingLine). p.bytes) c.set.ensures.value) (ap (λ (p : PendingLine). p.earlier) c.set.ensures.value)
     (ap (λ (m : OpenTables). m.turning) c.close.ensures.value)
     (moved_none _ _ _ _ _ c.close.ensures.value) refl
@@ -25,8 +25,8 @@ pub returns-then-not-begins_with-clause-stays : goal.returns-then-not-begins_wit
 returns-then-not-begins_with-clause-stays g c =
     let draws = ap (λ (w : World). w.draws) c.restart.ensures.change in
     let left = ap (λ (m : OpenTables). m.left) c.close.ensures.value in
-    let of = restarted_of _ c.tell_timeout.new.world
-    (changed_of _ c.args.self.now.surroundings.world c.tell_timeout.new.world c.requires.playable.world c.tell_timeout.ensures.only) in
+    let of = restarted_of _ c.set_timeout.new.world
+    (changed_of _ c.args.self.now.surroundings.world c.set_timeout.new.world c.requires.playable.world c.set_timeout.ensures.only) in
     let world = subst (IsOf (g.T.Tables.game c.args.tables.now)) (sym c.restart.ensures.change) of in
     let most = ap (λ (m : OpenTables). m.steps.most) c.close.ensures.value in
     record { stays = record { world = world; left = omega arith; draws = omega arith; most = most }; machine = c.close.ensures.closed }
@@ -35,12 +35,12 @@ pub returns-clause-meaning : goal.returns-clause-meaning
 returns-clause-meaning g c X =
     rw (c.or_spent.ensures.value, c.halting.ensures.value) (again_told (story_of (g.T.Tables.game c.args.tables.now) X) c.args.self.now
     (record {
-      surroundings = record { world = c.tell_timeout.new.world; pending = c.drop_line.new.self; piece = c.say-said.new.piece };
+      surroundings = record { world = c.set_timeout.new.world; pending = c.drop_line.new.self; piece = c.say-said.new.piece };
       machine = c.close.new.self;
     })
-    c.args.line.now c.tell_timeout.new.world c.say-said.result c.requires.waits.tables.tables.some c.requires.heard
+    c.args.line.now c.set_timeout.new.world c.say-said.result c.requires.waits.tables.tables.some c.requires.heard
     (sym (c.if-not-begins_with.ensures.value ∙ ap (begins_with 78) c.reply.ensures.value))
-    (c.tell_timeout.ensures.value ∙ ap (λ b. with_timeout b c.args.self.now.surroundings.world) c.is_timeout.ensures.value)
+    (c.set_timeout.ensures.value ∙ ap (λ b. with_timeout b c.args.self.now.surroundings.world) c.is_timeout.ensures.value)
     c.say-said.ensures.puts refl (ap (λ (p : PendingLine). p.bytes) c.drop_line.ensures.value)
     (ap (λ (p : PendingLine). p.earlier) c.drop_line.ensures.value) (ap (λ (m : OpenTables). m.turning) c.close.ensures.value)
     (moved_none _ _ _ _ _ c.close.ensures.value))

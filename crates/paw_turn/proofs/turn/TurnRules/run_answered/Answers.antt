@@ -10,10 +10,10 @@ pub returns-clause-runs : goal.returns-clause-runs
 returns-clause-runs g c X answers =
     let new : PlayState = record { surroundings = c.run.new.surroundings; machine = c.run.new.self } in
     answered_runs (story_of (g.T.Tables.game c.args.self.now.tables.now) X) c.args.prompt c.args.state.now new
-    c.args.line.now c.tell_timeout.new.world c.answer.new.self c.begins_with.result c.run.result
+    c.args.line.now c.set_timeout.new.world c.answer.new.self c.begins_with.result c.run.result
     c.requires.ready.awaits c.requires.ready.valid c.requires.ready.heard
     (sym (c.begins_with.ensures.value ∙ ap (begins_with 89) c.reply.ensures.value))
-    (c.tell_timeout.ensures.value ∙ ap (λ b. with_timeout b c.args.state.now.surroundings.world) c.is_timeout.ensures.value)
+    (c.set_timeout.ensures.value ∙ ap (λ b. with_timeout b c.args.state.now.surroundings.world) c.is_timeout.ensures.value)
     c.answer.ensures.quit c.answer.ensures.key (ap (λ m. m.turning) c.answer.ensures.rest)
     (moved_none _ _ _ _ _ c.answer.ensures.rest) (c.run.ensures.meaning X answers)
 
@@ -32,6 +32,6 @@ returns-clause-stays g c =
       world = c.run.ensures.after.game;
       left = runs_left (story_of (g.T.Tables.game c.args.self.now.tables.now) c.requires.answers.0) _ c.args.state.now new
           c.run.result c.requires.ready.read (returns-clause-runs g c c.requires.answers.0 c.requires.answers.1);
-      draws = omega (arith, c.run.ensures.after.draws, c.tell_timeout.ensures.only.draws);
+      draws = omega (arith, c.run.ensures.after.draws, c.set_timeout.ensures.only.draws);
       most = c.run.ensures.after.most ∙ ap (λ m. m.steps.most) c.answer.ensures.rest;
     }

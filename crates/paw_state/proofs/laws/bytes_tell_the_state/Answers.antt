@@ -1,5 +1,0 @@
-use Rattle.paw_state.proofs.Lawful.{bytes_tell_the_state}
-use Rattle.paw_state.proofs.laws.bytes_tell_the_state.Goals as goal
-
-pub returns : goal.returns
-returns c = record { same = bytes_tell_the_state }
