@@ -19,12 +19,12 @@ attached_is None name h = cc
 attached_is (Some n) name h = ap Some ((bytes_eq-Decides n name).0 h)
 
 -- Bytes of a store that was written to.
-written_bytes : (place at : ℕ) (bytes old into new : Bytes) (j : ℕ) → j < length into → at + j < max (length old) (min place (length old) + length bytes)
+written_bytes : (offset at : ℕ) (bytes old into new : Bytes) (j : ℕ) → j < length into → at + j < max (length old) (min offset (length old) + length bytes)
     → (at + j < length old → slice_index into j ≡ slice_index old (at + j))
-    → slice_index new j ≡ laid_over (min place (length old)) bytes (at + j) (slice_index into j)
-    → slice_index new j ≡ slice_index (put_at place bytes old) (at + j)
-written_bytes place at bytes old into new j low within seen e =
-    let p : ℕ = min place (length old) in
+    → slice_index new j ≡ laid_over (min offset (length old)) bytes (at + j) (slice_index into j)
+    → slice_index new j ≡ slice_index (put_at offset bytes old) (at + j)
+written_bytes offset at bytes old into new j low within seen e =
+    let p : ℕ = min offset (length old) in
     e ∙ (elim (where_is (at + j) p (length bytes)) [
       | inl h ↦
           laid_before p bytes (at + j) (slice_index into j) h ∙ (seen (omega arith) ∙ sym (laid_before p bytes (at + j) (slice_index old (at + j)) h))
@@ -32,31 +32,31 @@ written_bytes place at bytes old into new j low within seen e =
           laid_in p bytes (at + j) (slice_index into j) h.0 h.1 ∙ sym (laid_in p bytes (at + j) (slice_index old (at + j)) h.0 h.1)
       | inr (inr h) ↦
           laid_behind p bytes (at + j) (slice_index into j) h ∙ (seen (omega arith) ∙ sym (laid_behind p bytes (at + j) (slice_index old (at + j)) h))
-    ] ∙ sym (index-put place bytes old (at + j)))
+    ] ∙ sym (index-put offset bytes old (at + j)))
 
-pub sees_written : (s : Standing) (name : Name) (at place : ℕ) (bytes into new : Bytes) (seen now : Seen) →
+pub sees_written : (s : Standing) (name : Name) (at offset : ℕ) (bytes into new : Bytes) (seen now : Seen) →
     IsFiled s → Sees s name at seen into → seen.attached ≡ true
-    → now ≡ record { here = seen.here; attached = seen.attached; len = max seen.len (min place seen.len + length bytes) }
+    → now ≡ record { here = seen.here; attached = seen.attached; len = max seen.len (min offset seen.len + length bytes) }
     → length new ≡ length into
-    → ((j : ℕ) → j < length into → slice_index new j ≡ laid_over (min place seen.len) bytes (at + j) (slice_index into j))
-    → Sees (with_disk s (disk_written place (length bytes) bytes s.disk) (length bytes)) name at now new
-sees_written s name at place bytes into new seen now filed h on is same laid =
+    → ((j : ℕ) → j < length into → slice_index new j ≡ laid_over (min offset seen.len) bytes (at + j) (slice_index into j))
+    → Sees (with_disk s (disk_written offset (length bytes) bytes s.disk) (length bytes)) name at now new
+sees_written s name at offset bytes into new seen now filed h on is same laid =
     let old : List ℕ = s.disk.bytes in
     let a : s.attached ≡ Some name = attached_is s.attached name (sym h.attached ∙ on) in
     let f : s.files name ≡ Some old = filed name a in
-    let g : store_holding s.attached (put_at place bytes old) s.files name ≡ Some (put_at place bytes old) =
-    ap (λ o. store_holding o (put_at place bytes old) s.files name) a ∙ holds_same name (Some (put_at place bytes old)) s.files in
+    let g : store_holding s.attached (put_at offset bytes old) s.files name ≡ Some (put_at offset bytes old) =
+    ap (λ o. store_holding o (put_at offset bytes old) s.files name) a ∙ holds_same name (Some (put_at offset bytes old)) s.files in
     let n : seen.len ≡ length old = h.len ∙ ap (λ o. length (bytes_or_none o)) f in
-    let len : now.len ≡ max (length old) (min place (length old) + length bytes) =
-    ap (λ (x : Seen). x.len) is ∙ ap (λ k. max k (min place k + length bytes)) n in
+    let len : now.len ≡ max (length old) (min offset (length old) + length bytes) =
+    ap (λ (x : Seen). x.len) is ∙ ap (λ k. max k (min offset k + length bytes)) n in
     record {
       here = ap (λ (x : Seen). x.here) is ∙ (h.here ∙ (ap is_some f ∙ sym (ap is_some g)));
       attached = ap (λ (x : Seen). x.attached) is ∙ h.attached;
-      len = len ∙ (sym (length-put place bytes old) ∙ sym (ap (λ o. length (bytes_or_none o)) g));
+      len = len ∙ (sym (length-put offset bytes old) ∙ sym (ap (λ o. length (bytes_or_none o)) g));
       bytes = λ j low within.
-          written_bytes place at bytes old into new j (omega (arith, low, same)) (omega (arith, within, len))
+          written_bytes offset at bytes old into new j (omega (arith, low, same)) (omega (arith, within, len))
           (λ short. h.bytes j (omega (arith, low, same)) (omega (arith, short, n)) ∙ ap (λ o. slice_index (bytes_or_none o) (at + j)) f)
-          (laid j (omega (arith, low, same)) ∙ ap (λ k. laid_over (min place k) bytes (at + j) (slice_index into j)) n)
+          (laid j (omega (arith, low, same)) ∙ ap (λ k. laid_over (min offset k) bytes (at + j) (slice_index into j)) n)
           ∙ sym (ap (λ o. slice_index (bytes_or_none o) (at + j)) g);
     }
 

@@ -72,48 +72,48 @@ index-put at new old i =
     ]
 
 -- Bytes laid over those that stand from another offset on.
-pub lays : (place at from to : ℕ) (bytes into new : Bytes) (j : ℕ) → from ≡ min (at - place) (length bytes) →
-    to ≡ min (place - at) (length into) → new ≡ put_at to (take (length into - to) (drop from bytes)) into →
-    j < length into → slice_index new j ≡ laid_over place bytes (at + j) (slice_index into j)
-lays place at from to bytes into new j ef et e low =
+pub lays : (offset at from to : ℕ) (bytes into new : Bytes) (j : ℕ) → from ≡ min (at - offset) (length bytes) →
+    to ≡ min (offset - at) (length into) → new ≡ put_at to (take (length into - to) (drop from bytes)) into →
+    j < length into → slice_index new j ≡ laid_over offset bytes (at + j) (slice_index into j)
+lays offset at from to bytes into new j ef et e low =
     let part : List ℕ = take (length into - to) (drop from bytes) in
     let n : length part ≡ min (length into - to) (length bytes - from) =
     omega (arith, length-take (length into - to) (drop from bytes), length-drop from bytes) in
     let m : min to (length into) ≡ to = omega arith in
     ap (λ l. slice_index l j) e ∙ (index-put to part into j
-    ∙ (ap (λ k. laid_over k part j (slice_index into j)) m ∙ elim (where_is (at + j) place (length bytes)) [
+    ∙ (ap (λ k. laid_over k part j (slice_index into j)) m ∙ elim (where_is (at + j) offset (length bytes)) [
       | inl h ↦
-          laid_before to part j (slice_index into j) (omega (arith, n)) ∙ sym (laid_before place bytes (at + j) (slice_index into j) h)
+          laid_before to part j (slice_index into j) (omega (arith, n)) ∙ sym (laid_before offset bytes (at + j) (slice_index into j) h)
       | inr (inl h) ↦
           laid_in to part j (slice_index into j) (omega (arith, h.0)) (omega (arith, n, h.0, h.1))
           ∙ (get_or-take (length into - to) (drop from bytes) (j - to) 0 (omega (arith, h.0))
           ∙ (get_or-drop from bytes (j - to) 0
-          ∙ ((let k : from + (j - to) ≡ at + j - place = omega (arith, h.0, h.1) in ap (slice_index bytes) k)
-          ∙ sym (laid_in place bytes (at + j) (slice_index into j) h.0 h.1))))
+          ∙ ((let k : from + (j - to) ≡ at + j - offset = omega (arith, h.0, h.1) in ap (slice_index bytes) k)
+          ∙ sym (laid_in offset bytes (at + j) (slice_index into j) h.0 h.1))))
       | inr (inr h) ↦
-          laid_behind to part j (slice_index into j) (omega (arith, n)) ∙ sym (laid_behind place bytes (at + j) (slice_index into j) h)
+          laid_behind to part j (slice_index into j) (omega (arith, n)) ∙ sym (laid_behind offset bytes (at + j) (slice_index into j) h)
     ]))
 
 -- Another value laid over n bytes, as far as they go.
-pub spoils : (place p n : ℕ) (store new : List ℕ) (j : ℕ) → p ≡ min place (length store) →
+pub spoils : (offset p n : ℕ) (store new : List ℕ) (j : ℕ) → p ≡ min offset (length store) →
     new ≡ put_at p (replicate (min n (length store - p)) 255) store → j < length store →
-    slice_index new j ≡ spoiled_if (nat_le place j && nat_lt j (place + n)) (slice_index store j)
-spoils place p n store new j ep e low =
+    slice_index new j ≡ spoiled_if (nat_le offset j && nat_lt j (offset + n)) (slice_index store j)
+spoils offset p n store new j ep e low =
     let m : ℕ = min n (length store - p) in
     let gone : List ℕ = replicate m 255 in
     let size : length gone ≡ m = length-replicate m 255 in
     let is : min p (length store) ≡ p = omega arith in
-    ap (λ l. slice_index l j) e ∙ (index-put p gone store j ∙ (ap (λ k. laid_over k gone j (slice_index store j)) is ∙ elim (where_is j place n) [
+    ap (λ l. slice_index l j) e ∙ (index-put p gone store j ∙ (ap (λ k. laid_over k gone j (slice_index store j)) is ∙ elim (where_is j offset n) [
       | inl h ↦
-          (let t : (nat_le place j && nat_lt j (place + n)) ≡ false = grind (arith, nat_tests) in
+          (let t : (nat_le offset j && nat_lt j (offset + n)) ≡ false = grind (arith, nat_tests) in
           laid_before p gone j (slice_index store j) (omega arith) ∙ ap (λ b. spoiled_if b (slice_index store j)) (sym t))
       | inr (inl h) ↦
-          (let above : place ≤ j = h.0 in
-          let below : j < place + n = h.1 in
-          let t : (nat_le place j && nat_lt j (place + n)) ≡ true = grind (arith, nat_tests) in
+          (let above : offset ≤ j = h.0 in
+          let below : j < offset + n = h.1 in
+          let t : (nat_le offset j && nat_lt j (offset + n)) ≡ true = grind (arith, nat_tests) in
           laid_in p gone j (slice_index store j) (omega arith) (omega (arith, size))
           ∙ (get_or-replicate m (j - p) 255 0 (omega arith) ∙ ap (λ b. spoiled_if b (slice_index store j)) (sym t)))
       | inr (inr h) ↦
-          (let t : (nat_le place j && nat_lt j (place + n)) ≡ false = grind (arith, nat_tests) in
+          (let t : (nat_le offset j && nat_lt j (offset + n)) ≡ false = grind (arith, nat_tests) in
           laid_behind p gone j (slice_index store j) (omega (arith, size)) ∙ ap (λ b. spoiled_if b (slice_index store j)) (sym t))
     ]))
