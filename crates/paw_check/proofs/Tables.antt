@@ -41,7 +41,7 @@ use Rattle.paw_effects.proofs.Worlds.{few_objects}
 use Rattle.paw_reading.specs.Bounds.{IsLine, ValidStory}
 use Rattle.paw_reading.specs.declared.frames.Frame.{Frame}
 use Rattle.paw_reading.specs.declared.frames.OpenLoop.{OpenLoop}
-use Rattle.paw_reading.specs.Run.{Run, Step, piece_closed, text_printed, with_world, without_loop, anew, with_timeout, is_timeout}
+use Rattle.paw_reading.specs.Run.{Run, StepRow, piece_closed, text_printed, with_world, without_loop, anew, with_timeout, is_timeout}
 use Rattle.paw_reading.specs.Run.{is_ignored, with_line_heard, reply, is_yes, is_no, taken_phrase}
 use Rattle.paw_reading.specs.declared.halt.Halt.TheVariants as halt
 use Rattle.paw_reading.specs.Reading.{Redescribes, Restarts, Halts, Stop, Out, Left, Waits, Stopped}
@@ -68,7 +68,7 @@ use Rattle.paw_check.proofs.Uses.{closed_more, may_read, may_print}
 -- At level lv: the world is one of the game, so much of the line is left at most, the verb is this one unless it may
 -- change, no loop of a deeper level is open, the lines to come are lines, and each closed piece is within the limit.
 pub record Steady (g : GameLists) (kind : SpentKind) (limit pending : ℕ) (changing : Bool) (verb lv : ℕ) (w : World) (earlier : ℕ) (line : Line)
-    (turning : Option OpenLoop) (events : Lines) (traces : List (List Step)) (pieces : Texts) : Type 0 where
+    (turning : Option OpenLoop) (events : Lines) (traces : List (List StepRow)) (pieces : Texts) : Type 0 where
   pub world : IsWorldOf g w
   pub small : earlier < 256
   pub short : length line ≤ pending

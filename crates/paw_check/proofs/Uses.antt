@@ -11,7 +11,7 @@ use Rattle.paw_base.specs.declared.fault.SpentKind.{SpentKind}
 use Rattle.paw_base.specs.declared.fault.SpentKind.TheVariants as spent
 use Rattle.paw_game.specs.Game.{GameLists}
 use Rattle.paw_reading.specs.declared.frames.Frame.{Frame}
-use Rattle.paw_reading.specs.Run.{Run, Step, fits, text_printed}
+use Rattle.paw_reading.specs.Run.{Run, StepRow, fits, text_printed}
 use Rattle.paw_reading.specs.declared.halt.Halt.TheVariants as halt
 use Rattle.paw_reading.specs.Reading.{Out, halts, within, step_at, step_noted, printing}
 use Rattle.paw_check.specs.Prints.{most_text}
@@ -30,7 +30,7 @@ abbrev pub own_of : SpentKind → GameLists → Condact → ℕ
 own_of kind g c = of_kind kind 1 (most_text g c)
 
 -- Each closed piece has used at most so much.
-abbrev pub Closed : SpentKind → ℕ → List (List Step) → Texts → Type 0
+abbrev pub Closed : SpentKind → ℕ → List (List StepRow) → Texts → Type 0
 Closed spent.Condacts limit traces pieces = All (λ trace. length trace ≤ limit) traces
 Closed spent.Text limit traces pieces = All (λ piece. length piece ≤ limit) pieces
 

@@ -11,7 +11,7 @@ use Rattle.paw_base.specs.declared.limits.TheConstants.{EVENT_LIMIT}
 use Rattle.paw_effects.specs.Story.{Story}
 use Rattle.paw_effects.specs.declared.act.Prompt.{Prompt}
 use Rattle.paw_reading.specs.declared.frames.Frame.{Frame}
-use Rattle.paw_reading.specs.Run.{Run, Step}
+use Rattle.paw_reading.specs.Run.{Run, StepRow}
 use Rattle.paw_reading.specs.declared.halt.Halt.TheVariants as halt
 use Rattle.paw_reading.specs.Turn.{Ending, WaitsAt, Halted, Unended, reading, pieces_of}
 use Rattle.paw_reading.specs.inner.Turn.{ending_followed}
@@ -110,7 +110,7 @@ pieces_count g seed es p path r h =
     let none : length r.events ≡ 0 = ap length counted.0 in
     omega (arith, counted.1, none)
 
-past_by : (pieces : Texts) (e x : Ending) (p : Prompt) (path : List Frame) (r : Run) (traces : List (List Step)) →
+past_by : (pieces : Texts) (e x : Ending) (p : Prompt) (path : List Frame) (r : Run) (traces : List (List StepRow)) →
     e ≡ ending_with_past pieces traces x → e ≡ WaitsAt p path r →
     (more : Texts) × (r.pieces ≡ pieces ++ more)
 past_by pieces e (WaitsAt q at s) p path r traces h k =

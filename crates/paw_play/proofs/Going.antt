@@ -9,7 +9,7 @@ use Rattle.paw_effects.specs.Story.{Story}
 use Rattle.paw_effects.specs.declared.act.Prompt.{Prompt}
 use Rattle.paw_effects.specs.declared.act.Prompt.TheVariants as prompt
 use Rattle.paw_reading.specs.declared.frames.Frame.{Frame}
-use Rattle.paw_reading.specs.Run.{Run, Step}
+use Rattle.paw_reading.specs.Run.{Run, StepRow}
 use Rattle.paw_reading.specs.declared.halt.Halt.TheVariants as halt
 use Rattle.paw_reading.specs.Turn.{Ending, WaitsAt, Halted, Unended, reading, going_on_from, pieces_of, text_of}
 use Rattle.paw_reading.specs.inner.GoingOn.{with_lines}
@@ -51,7 +51,7 @@ from_last (suc n) (p ∷ []) qs all = absurd (omega arith)
 from_last zero (p ∷ q ∷ ps) qs all = absurd (omega arith)
 from_last (suc n) (p ∷ q ∷ ps) qs all = from_last n (q ∷ ps) qs (omega arith)
 
-behind : (n : ℕ) (ts us : List (List Step)) → length ts ≡ n → drop n (ts ++ us) ≡ us
+behind : (n : ℕ) (ts us : List (List StepRow)) → length ts ≡ n → drop n (ts ++ us) ≡ us
 behind zero [] us all = refl
 behind zero (t ∷ ts) us all = absurd (omega arith)
 behind (suc n) [] us all = absurd (omega arith)
@@ -63,7 +63,7 @@ last_dropped zero (p ∷ ps) low = refl
 last_dropped (suc n) (p ∷ []) low = absurd (omega arith)
 last_dropped (suc n) (p ∷ q ∷ ps) low = last_dropped n (q ∷ ps) (omega arith)
 
-module _ (n : ℕ) (ps : Texts) (ts : List (List Step)) (all : length ps ≡ suc n) (each : length ts ≡ suc n) where
+module _ (n : ℕ) (ps : Texts) (ts : List (List StepRow)) (all : length ps ≡ suc n) (each : length ts ≡ suc n) where
   run_since : (r : Run) → since_piece n (with_past ps ts r) ≡ with_past (last_piece ps ∷ []) [] r
   run_since r =
       ap (λ q. record r { pieces = q; traces = drop (suc n) (ts ++ r.traces) }) (from_last n ps r.pieces all)
@@ -119,7 +119,7 @@ all_pieces : (n : ℕ) (ps : Texts) (es : Lines) → length ps + length es ≡ s
 all_pieces n ps es count none = let c : length ps + length es ≡ suc n = count in omega (arith, rw none at c)
 
 -- What was read in the closed pieces.
-abbrev traces_of : Ending → List (List Step)
+abbrev traces_of : Ending → List (List StepRow)
 traces_of (WaitsAt p path r) = r.traces
 traces_of (Halted halt r) = r.traces
 traces_of Unended = []
@@ -185,5 +185,5 @@ module _ (g : Story) (seed : Seed) (es fs : Lines) where
       let goes = ended_goes e refl settled (pieces_of_lines g seed es) stands.digests digests
       (recover bytes) stands.keeps st piece v shows.valid shows.fits shows.shown in
       let ps : Texts = pieces_of e in
-      let ts : List (List Step) = traces_of e in
+      let ts : List (List StepRow) = traces_of e in
       (goes.0, goes.1.4 ∙ sym (ap (ending_since (length es)) goes.1.3 ∙ since_past (length es) ps ts goes.1.0 goes.1.1 goes.1.2))

@@ -4,7 +4,7 @@ use Rattle.std.specs.Prelude.{reverse}
 use Rattle.paw_base.specs.Bytes.{Text, Texts, Lines}
 use Rattle.paw_effects.specs.declared.act.Prompt.{Prompt}
 use Rattle.paw_effects.specs.declared.act.Prompt.TheVariants as prompt
-use Rattle.paw_reading.specs.Run.{Step as Read}
+use Rattle.paw_reading.specs.Run.{StepRow}
 use Rattle.paw_reading.specs.declared.halt.Halt.TheVariants as halt
 use Rattle.paw_reading.specs.Turn.{Ending, WaitsAt, Halted}
 use Rattle.paw_turn.specs.inner.Player.{PlayerView, run_at, PlaysTo, StandsClosed}
@@ -51,13 +51,13 @@ shown_at digests events p path next pieces is =
 
 -- Where a player waits, its session keeps the reading.
 waits_kept : {F : Type 0} (digests : Digests) (events : ℕ) (e : Ending) (p : Prompt) (next : PlayerView F) (pieces : Texts)
-    (traces : List (List Read)) → next.last ≡ step.Waits p →
+    (traces : List (List StepRow)) → next.last ≡ step.Waits p →
     e ≡ WaitsAt p (reverse next.machine.frames) (run_at next (pieces ++ next.piece ∷ []) traces []) →
     IsKept digests events e (Shown digests (seat_state events next) next.piece)
 waits_kept digests events e p next pieces traces last is =
     rw (is, last) (record { played = tt; shown = shown_at digests events p (reverse next.machine.frames) next pieces refl })
 
-over_kept : {F : Type 0} (digests : Digests) (events : ℕ) (e : Ending) (next : PlayerView F) (pieces : Texts) (traces : List (List Read)) →
+over_kept : {F : Type 0} (digests : Digests) (events : ℕ) (e : Ending) (next : PlayerView F) (pieces : Texts) (traces : List (List StepRow)) →
     next.last ≡ step.Ended → next.machine.frames ≡ [] →
     e ≡ Halted halt.Over (run_at next (pieces ++ next.piece ∷ []) traces []) →
     IsKept digests events e (Shown digests (seat_state events next) next.piece)
@@ -69,7 +69,7 @@ over_kept digests events e next pieces traces last closed is = rw (is, last) (re
 
 -- A line that brings a piece leads to a player whose session keeps the reading.
 pub step_kept : {F : Type 0} (g : Story) (digests : Digests) (events : ℕ) (whole : EndingOf) (s : Step) (next : PlayerView F) (pieces : Texts)
-    (traces : List (List Read)) → IsStanding s → next.last ≡ s →
+    (traces : List (List StepRow)) → IsStanding s → next.last ≡ s →
     StandsClosed s next.machine → PlaysTo g whole s next pieces traces → IsKept digests events (whole []) (Shown digests (seat_state events next) next.piece)
 step_kept g digests events whole (step.Waits p) next pieces traces shows last stands plays =
     waits_kept digests events (whole []) p next pieces (traces ++ plays.0 ∷ []) last

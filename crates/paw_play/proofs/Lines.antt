@@ -15,7 +15,7 @@ use Rattle.paw_base.specs.inner.Piece.{Puts}
 use Rattle.paw_base.proofs.Table.{plain_is}
 use Rattle.paw_base.specs.declared.limits.TheConstants.{PIECE_LIMIT}
 use Rattle.paw_game.proofs.Kept.{first_of_and, second_of_and}
-use Rattle.paw_reading.specs.Run.{Step}
+use Rattle.paw_reading.specs.Run.{StepRow}
 use Rattle.paw_play.specs.Traces.{step_address, answer_text, step_line, more_line}
 
 -- What fits is put.
@@ -90,7 +90,7 @@ place_short table entry at low few under =
     omega (arith, t, e, a, one, two, three, four, dot)
 
 -- A line of a step is of at most 27 bytes.
-pub line_short : (step : Step) → length (step_address step.table step.entry step.at) ≤ 13 → length (step_line step) ≤ 27
+pub line_short : (step : StepRow) → length (step_address step.table step.entry step.at) ≤ 13 → length (step_line step) ≤ 27
 line_short step place =
     let text : List ℕ = step_address step.table step.entry step.at in
     let one = length-append text (codes " " ++ (name_of step.code ++ answer_text step.yes)) in

@@ -12,7 +12,7 @@ use Rattle.paw_base.specs.inner.Steps.{kept_steps}
 use Rattle.paw_stage.specs.Stage.{Standing, InShow, with_shown}
 use Rattle.paw_effects.specs.declared.act.Prompt.{Prompt}
 use Rattle.paw_reading.specs.declared.frames.Frame.{Frame}
-use Rattle.paw_reading.specs.Run.{Run, Step as Read}
+use Rattle.paw_reading.specs.Run.{Run, StepRow}
 use Rattle.paw_reading.specs.declared.halt.Halt.{Halt}
 use Rattle.paw_reading.specs.Turn.{WaitsAt, Halted}
 use Rattle.paw_turn.specs.inner.Player.{PlayerView, run_at}
@@ -29,18 +29,18 @@ use Rattle.paw_play.specs.inner.OnTheWay.{end_if_no_piece}
 joined_more : (pieces : Texts) (piece : Text) → concat (pieces ++ piece ∷ []) ≡ concat pieces ++ piece
 joined_more pieces piece = concat-append pieces (piece ∷ []) ∙ ap (λ t. concat pieces ++ t) (append-nil piece)
 
-take_twice : (n : ℕ) (xs : List Read) → take n (take n xs) ≡ take n xs
+take_twice : (n : ℕ) (xs : List StepRow) → take n (take n xs) ≡ take n xs
 take_twice zero xs = refl
 take_twice (suc n) [] = refl
 take_twice (suc n) (x ∷ xs) = ap (λ ys. x ∷ ys) (take_twice n xs)
 
 -- What is kept of steps is shown as the steps are.
-kept_shown : (k : KeptSteps) (steps : List Read) → k.most ≡ STEP_LIMIT → k ≡ kept_steps k.most steps → kept_text k ≡ steps_text steps
+kept_shown : (k : KeptSteps) (steps : List StepRow) → k.most ≡ STEP_LIMIT → k ≡ kept_steps k.most steps → kept_text k ≡ steps_text steps
 kept_shown k steps keeps e =
     ap kept_text (e ∙ ap (λ n. kept_steps n steps) keeps) ∙ ap (λ xs. flat_map step_line xs ++ more_line (length steps - STEP_LIMIT)) (take_twice STEP_LIMIT steps)
 
 -- One piece more.
-traced_more : (pieces : Texts) (traces : List (List Read)) (piece : Text) (steps : List Read) → length traces ≡ length pieces →
+traced_more : (pieces : Texts) (traces : List (List StepRow)) (piece : Text) (steps : List StepRow) → length traces ≡ length pieces →
     traced_pieces (pieces ++ piece ∷ []) (traces ++ steps ∷ []) ≡ traced_pieces pieces traces ++ (steps_text steps ++ piece) ∷ []
 traced_more [] [] piece steps each = refl
 traced_more [] (t ∷ traces) piece steps each = absurd (omega (arith, each))
@@ -49,7 +49,7 @@ traced_more (p ∷ pieces) (t ∷ traces) piece steps each =
     ap (λ xs. (steps_text t ++ p) ∷ xs) (traced_more pieces traces piece steps (omega (arith, each)))
 
 -- One piece more of a player.
-pub pieces_more : {F : Type 0} (showing : ShowSteps) (next : PlayerView F) (pieces : Texts) (traces : List (List Read)) (steps : List Read) →
+pub pieces_more : {F : Type 0} (showing : ShowSteps) (next : PlayerView F) (pieces : Texts) (traces : List (List StepRow)) (steps : List StepRow) →
     HaveSteps showing pieces traces → KeepsShown showing next.machine.steps.most → next.machine.steps ≡ kept_steps next.machine.steps.most steps →
     concat (shown_pieces showing (pieces ++ next.piece ∷ []) (traces ++ steps ∷ [])) ≡ concat (shown_pieces showing pieces traces) ++ seat_text showing next
 pieces_more Plain next pieces traces steps each keeps kept = joined_more pieces next.piece
@@ -58,7 +58,7 @@ pieces_more Stepped next pieces traces steps each keeps kept =
     ∙ ap (λ t. concat (traced_pieces pieces traces) ++ (t ++ next.piece)) (sym (kept_shown next.machine.steps steps keeps kept))
 
 -- And it has its steps.
-pub steps_more : (showing : ShowSteps) (pieces : Texts) (traces : List (List Read)) (piece : Text) (steps : List Read) →
+pub steps_more : (showing : ShowSteps) (pieces : Texts) (traces : List (List StepRow)) (piece : Text) (steps : List StepRow) →
     HaveSteps showing pieces traces → HaveSteps showing (pieces ++ piece ∷ []) (traces ++ steps ∷ [])
 steps_more Plain pieces traces piece steps each = tt
 steps_more Stepped pieces traces piece steps each = omega (arith, length-append traces (steps ∷ []), length-append pieces (piece ∷ []), each)
@@ -89,13 +89,13 @@ same_lines Plain r = refl
 same_lines Stepped r = refl
 
 -- The closed pieces of a run with these, as they are shown.
-pub text_shown_is : (showing : ShowSteps) (r : Run) (pieces : Texts) (traces : List (List Read)) → r.pieces ≡ pieces → r.traces ≡ traces →
+pub text_shown_is : (showing : ShowSteps) (r : Run) (pieces : Texts) (traces : List (List StepRow)) → r.pieces ≡ pieces → r.traces ≡ traces →
     concat (shown_run showing r).pieces ≡ concat (shown_pieces showing pieces traces)
 text_shown_is Plain r pieces traces e f = ap concat e
 text_shown_is Stepped r pieces traces e f = ap (λ ps. concat (traced_pieces ps r.traces)) e ∙ ap (λ ts. concat (traced_pieces pieces ts)) f
 
 -- The text of a player's last piece comes last.
-pub shown_more : {F : Type 0} (showing : ShowSteps) (next : PlayerView F) (pieces : Texts) (traces : List (List Read)) (steps : List Read) →
+pub shown_more : {F : Type 0} (showing : ShowSteps) (next : PlayerView F) (pieces : Texts) (traces : List (List StepRow)) (steps : List StepRow) →
     HaveSteps showing pieces traces → KeepsShown showing next.machine.steps.most → next.machine.steps ≡ kept_steps next.machine.steps.most steps →
     concat (shown_run showing (run_at next (pieces ++ next.piece ∷ []) (traces ++ steps ∷ []) [])).pieces
     ≡ concat (shown_pieces showing pieces traces) ++ seat_text showing next

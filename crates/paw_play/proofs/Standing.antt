@@ -10,7 +10,7 @@ use Rattle.paw_game.specs.Game.{GameLists}
 use Rattle.paw_game.specs.Valid.{Valid}
 use Rattle.paw_stage.specs.Stage.{Standing}
 use Rattle.paw_effects.specs.declared.act.Prompt.TheVariants as prompt
-use Rattle.paw_reading.specs.Run.{Step}
+use Rattle.paw_reading.specs.Run.{StepRow}
 use Rattle.paw_reading.specs.declared.halt.Halt.TheVariants as halt
 use Rattle.paw_reading.specs.Turn.{Ending, WaitsAt, Halted, Unended, reading, pieces_of}
 use Rattle.paw_reading.specs.inner.Longer.{ending_with_past}
@@ -67,7 +67,7 @@ standing_goes_on g seed es fs bytes digests st piece played stands shows =
 -- ---- going on from where a reading waits ----
 
 -- The pieces after those that were closed before.
-pieces_with_past : (ps : Texts) (ts : List (List Step)) (last : Text) (x : Ending) → ending_with_past (last ∷ []) [] x ≢ Unended →
+pieces_with_past : (ps : Texts) (ts : List (List StepRow)) (last : Text) (x : Ending) → ending_with_past (last ∷ []) [] x ≢ Unended →
     pieces_of (ending_with_past ps ts x) ≡ ps ++ drop 1 (pieces_of (ending_with_past (last ∷ []) [] x))
 pieces_with_past ps ts last (WaitsAt p path r) ends = refl
 pieces_with_past ps ts last (Halted halt r) ends = refl

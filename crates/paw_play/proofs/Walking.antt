@@ -11,7 +11,7 @@ use Rattle.paw_stage.specs.Stage.{Standing}
 use Rattle.paw_effects.specs.declared.act.Prompt.{Prompt}
 use Rattle.paw_effects.specs.declared.act.Prompt.TheVariants as prompt
 use Rattle.paw_reading.specs.declared.frames.Frame.{Frame}
-use Rattle.paw_reading.specs.Run.{Run, Step as Read}
+use Rattle.paw_reading.specs.Run.{Run, StepRow}
 use Rattle.paw_reading.specs.declared.halt.Halt.{Halt}
 use Rattle.paw_reading.specs.declared.halt.Halt.TheVariants as halt
 use Rattle.paw_reading.specs.Reading.{Waits, prompt_asked}
@@ -146,7 +146,7 @@ text_so_far showing g whole n first now seat w seated =
 
 -- The text of a step that brings a piece.
 pub text_shown : {F : Type 0} (showing : ShowSteps) (g : Story) (whole : EndingOf) (s : Step) (next : PlayerView F)
-    (pieces : Texts) (traces : List (List Read)) → HaveSteps showing pieces traces → KeepsShown showing next.machine.steps.most → IsStanding s → StandsClosed s next.machine →
+    (pieces : Texts) (traces : List (List StepRow)) → HaveSteps showing pieces traces → KeepsShown showing next.machine.steps.most → IsStanding s → StandsClosed s next.machine →
     PlaysTo g whole s next pieces traces →
     text_of (with_shown_steps showing whole []) ≡ concat (shown_pieces showing pieces traces) ++ seat_text showing next
 text_shown showing g whole (step.Waits p) next pieces traces each keeps h m plays =
@@ -167,7 +167,7 @@ shown_nothing mid = ap (λ t. record mid { shown = t }) (sym (append-nil mid.sho
 
 -- How a step ends after n lines, where `after` is the reading of those that are left then.
 module _ {F : Type 0} (showing : ShowSteps) (g : Story) (whole after : EndingOf) (n : ℕ) (first mid new : Standing) (next : PlayerView F) (s : Step)
-    (pieces : Texts) (traces : List (List Read)) (each : HaveSteps showing pieces traces)
+    (pieces : Texts) (traces : List (List StepRow)) (each : HaveSteps showing pieces traces)
     (keeps : KeepsShown showing next.machine.steps.most)
     (last : next.last ≡ s) (seated : IsSeated next) (there : n ≤ length first.lines)
     (whole_after : (more : Lines) → whole (first_lines n first.lines ++ more) ≡ after more)

@@ -4,7 +4,7 @@ use Rattle.std.specs.Prelude.{flat_map, if◌then◌else◌}
 use Rattle.paw_base.specs.Bytes.{Text, Texts}
 use Rattle.paw_base.specs.Condacts.{name_of}
 use Rattle.paw_base.specs.declared.limits.TheConstants.{STEP_LIMIT}
-use Rattle.paw_reading.specs.Run.{Run, Step}
+use Rattle.paw_reading.specs.Run.{Run, StepRow}
 use Rattle.paw_reading.specs.Turn.{Ending, WaitsAt, Halted, Unended}
 
 -- ---- the text of steps ----
@@ -18,7 +18,7 @@ abbrev pub answer_text : Bool → Text
 answer_text passed = if passed then codes " yes\n" else codes " no\n"
 
 -- The line of a step, such as 1.0.0 LISTOBJ yes.
-abbrev pub step_line : Step → Text
+abbrev pub step_line : StepRow → Text
 step_line step =
     step_address step.table step.entry step.at ++ (codes " " ++ (name_of step.code ++ answer_text step.yes))
 
@@ -28,13 +28,13 @@ more_line zero = []
 more_line (suc n) = codes "[" ++ (decimal (suc n) ++ codes " more]\n")
 
 -- A line for each of the first 1,000 steps of a piece, and then the number of the others.
-abbrev pub steps_text : List Step → Text
+abbrev pub steps_text : List StepRow → Text
 steps_text steps = flat_map step_line (take STEP_LIMIT steps) ++ more_line (length steps - STEP_LIMIT)
 
 -- ---- the reading that a trace shows ----
 
 -- The closed pieces, each after the text of its steps; those for which no steps are left stay as they are.
-abbrev pub traced_pieces : Texts → List (List Step) → Texts
+abbrev pub traced_pieces : Texts → List (List StepRow) → Texts
 traced_pieces (piece ∷ pieces) (steps ∷ traces) = (steps_text steps ++ piece) ∷ traced_pieces pieces traces
 traced_pieces pieces traces = pieces
 

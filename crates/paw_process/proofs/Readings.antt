@@ -27,7 +27,7 @@ use Rattle.paw_effects.specs.Effects.{Done, Does, DoesAs, effect_of}
 use Rattle.paw_effects.specs.Texts.{put_text}
 use Rattle.paw_reading.specs.declared.frames.Frame.{Frame}
 use Rattle.paw_reading.specs.declared.frames.OpenLoop.{OpenLoop}
-use Rattle.paw_reading.specs.Run.{Run, Step, piece_closed, with_world}
+use Rattle.paw_reading.specs.Run.{Run, StepRow, piece_closed, with_world}
 use Rattle.paw_reading.specs.declared.halt.Halt.TheVariants as halt
 use Rattle.paw_reading.specs.Reading.{Out, halts, step_at, step_noted, printing, waits}
 use Rattle.paw_reading.specs.Reading.{acts, carried_out, after_action, loop_of, deeper}
@@ -169,7 +169,7 @@ moved_none old new fs turning waiting e =
     record { left = ap (λ (m : OpenTables). m.left) e; steps = ap (λ (m : OpenTables). m.steps) e }
 
 -- A step, and then nothing.
-pub step_then : (step : Step) (old mid new : OpenTables) → ReadsStep step old mid → ReadsNone mid new → ReadsStep step old new
+pub step_then : (step : StepRow) (old mid new : OpenTables) → ReadsStep step old mid → ReadsNone mid new → ReadsStep step old new
 step_then step old mid new one none = record { left = omega (arith, one.left, none.left); steps = none.steps ∙ one.steps }
 
 module _ (g : Story) (old mid : OpenTables) (f : Frame) (c : Condact) (s : Surroundings) (left : ℕ) (steps : KeptSteps) where
@@ -246,7 +246,7 @@ module _ (g : Story) (old mid : OpenTables) (f : Frame) (c : Condact) (s : Surro
 -- ---- steps ----
 
 -- Where nothing is read what was read stays.
-pub has_still : (read : List Step) (old new : OpenTables) → HasRead read old → ReadsNone old new → HasRead read new
+pub has_still : (read : List StepRow) (old new : OpenTables) → HasRead read old → ReadsNone old new → HasRead read new
 has_still read old new has none = record {
   left = omega (arith, has.left, none.left);
   steps = kept_as_said old.steps.most read new.steps (none.steps ∙ has.steps);
@@ -274,7 +274,7 @@ pub reads_moved : (g : Story) (x : Run → Out) (old : Held) (fs : List Frame) (
 reads_moved g x old fs t new k r has = k r (record { left = has.left; steps = has.steps })
 
 -- The steps with one more.
-more_read : (read : List Step) (step : Step) (old new : OpenTables) → HasRead read old → ReadsStep step old new → HasRead (read ++ step ∷ []) new
+more_read : (read : List StepRow) (step : StepRow) (old new : OpenTables) → HasRead read old → ReadsStep step old new → HasRead (read ++ step ∷ []) new
 more_read read step old new has one = record {
   left = omega (arith, has.left, one.left, length-append read (step ∷ []));
   steps = kept_as_said old.steps.most (read ++ step ∷ []) new.steps
@@ -313,10 +313,10 @@ reads_on g x old mid t new h k r has =
     let m = h r has in
     let n = k (with_steps m.0 r) m.1 in (
       m.0 ++ n.0,
-      subst (λ (s : List Step). HasRead s new.machine) (append_assoc r.read m.0 n.0) n.1,
+      subst (λ (s : List StepRow). HasRead s new.machine) (append_assoc r.read m.0 n.0) n.1,
       λ lines.
           goes_from g _ _ t new.machine.frames _ (m.2 lines)
-          (subst (λ (s : List Step). Continues g (going_in g mid.machine.frames (to_come lines (run_held mid (with_steps m.0 r)))) t new.machine.frames
+          (subst (λ (s : List StepRow). Continues g (going_in g mid.machine.frames (to_come lines (run_held mid (with_steps m.0 r)))) t new.machine.frames
           (to_come lines (run_held new (record r { read = s })))) (append_assoc r.read m.0 n.0) (n.2 lines)),
     )
 

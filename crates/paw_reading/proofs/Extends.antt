@@ -23,7 +23,7 @@ use Rattle.paw_effects.specs.Holds.{is_condition, holds}
 use Rattle.paw_effects.specs.Effects.{Done, effect_of}
 use Rattle.paw_reading.specs.declared.frames.Frame.{Frame}
 use Rattle.paw_reading.specs.declared.frames.OpenLoop.{OpenLoop}
-use Rattle.paw_reading.specs.Run.{Run, Step, piece_closed, fits, text_printed, with_world, without_loop, line_dropped, anew}
+use Rattle.paw_reading.specs.Run.{Run, StepRow, piece_closed, fits, text_printed, with_world, without_loop, line_dropped, anew}
 use Rattle.paw_reading.specs.Run.{is_ignored, with_line_heard, reply}
 use Rattle.paw_reading.specs.Run.{is_yes, is_no, taken_phrase}
 use Rattle.paw_reading.specs.declared.halt.Halt.TheVariants as halt
@@ -43,14 +43,14 @@ use Rattle.paw_reading.proofs.Onward.{plain_end, plain_entry, taken_again}
 use Rattle.paw_reading.proofs.Stops.{Stops, deeper_stops, path_stops}
 
 -- The run with these pieces closed before its own, and these lines after those that are left.
-abbrev pub around : Texts → List (List Step) → Lines → Run → Run
+abbrev pub around : Texts → List (List StepRow) → Lines → Run → Run
 around ps ts lines r = record r { pieces = ps ++ r.pieces; traces = ts ++ r.traces; events = r.events ++ lines }
 
-closed_around : (ps : Texts) (ts : List (List Step)) (lines : Lines) (r : Run) →
+closed_around : (ps : Texts) (ts : List (List StepRow)) (lines : Lines) (r : Run) →
     piece_closed (around ps ts lines r) ≡ around ps ts lines (piece_closed r)
 closed_around ps ts lines r = rw (append_assoc ps r.pieces (r.current ∷ []), append_assoc ts r.traces (r.read ∷ [])) refl
 
-module _ (g : Story) (ps : Texts) (ts : List (List Step)) (lines : Lines) where
+module _ (g : Story) (ps : Texts) (ts : List (List StepRow)) (lines : Lines) where
   -- How a reading at a level ends with these pieces before it and these lines after it.
   abbrev pub extends : ℕ → Out → Out
   extends lv (Left a r) = Left a (around ps ts lines r)

@@ -15,7 +15,7 @@ use Rattle.paw_phrase.specs.Sentence.{Parsed, IsSentence, IsUnknown, IsNoPhrase}
 use Rattle.paw_effects.specs.declared.act.Prompt.{Prompt}
 use Rattle.paw_effects.specs.declared.act.Prompt.TheVariants as prompt
 use Rattle.paw_reading.specs.declared.frames.Frame.{Frame}
-use Rattle.paw_reading.specs.Run.{Run, Step, piece_closed, fits, text_printed, with_world, line_dropped, is_timeout, is_ignored}
+use Rattle.paw_reading.specs.Run.{Run, StepRow, piece_closed, fits, text_printed, with_world, line_dropped, is_timeout, is_ignored}
 use Rattle.paw_reading.specs.Run.{with_line_heard, taken_phrase}
 use Rattle.paw_reading.specs.declared.halt.Halt.TheVariants as halt
 use Rattle.paw_reading.specs.Reading.{Redescribes, Restarts, Halts, Out, Left, Waits, Stopped, rest_of_table}
@@ -44,7 +44,7 @@ waits_there g p lv [] r some none = absurd (some refl)
 waits_there g p lv (f ∷ []) r some none = waits_on g lv p f r none
 waits_there g p lv (f ∷ h ∷ path) r some none = rw (waits_there g p (suc lv) (h ∷ path) r (λ e. cc) none) refl
 
-module _ (g : Story) (ps : Texts) (ts : List (List Step)) where
+module _ (g : Story) (ps : Texts) (ts : List (List StepRow)) where
   -- How reading tables ends, with these pieces before.
   abbrev out_with_past : Out → Out
   out_with_past (Left a r) = Left a (with_past ps ts r)
@@ -171,7 +171,7 @@ longer_reading g seed es fs p path r e =
     let apart : with_past r.pieces r.traces (with_lines fs (without_past r)) ≡ with_lines fs r = rw (append-nil r.pieces, append-nil r.traces) refl in
     whole ∙ ap (going_on_from g p path) (sym apart) ∙ past_stays g r.pieces r.traces p path (with_lines fs (without_past r))
 
-past_text : (ps : Texts) (ts : List (List Step)) (x : Ending) → x ≢ Unended →
+past_text : (ps : Texts) (ts : List (List StepRow)) (x : Ending) → x ≢ Unended →
     text_of (ending_with_past ps ts x) ≡ concat ps ++ text_of x
 past_text ps ts (WaitsAt p path r) h = concat-append ps r.pieces
 past_text ps ts (Halted halt r) h = concat-append ps r.pieces

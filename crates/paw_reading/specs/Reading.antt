@@ -31,7 +31,7 @@ use Rattle.paw_reading.specs.declared.frames.Frame.{Frame}
 use Rattle.paw_reading.specs.declared.frames.OpenLoop.{OpenLoop}
 use Rattle.paw_reading.specs.declared.halt.Halt.{Halt}
 use Rattle.paw_reading.specs.declared.halt.Halt.TheVariants as halt
-use Rattle.paw_reading.specs.Run.{Run, Step, piece_closed, fits, text_printed, with_world, without_loop, line_dropped}
+use Rattle.paw_reading.specs.Run.{Run, StepRow, piece_closed, fits, text_printed, with_world, without_loop, line_dropped}
 use Rattle.paw_reading.specs.Run.{anew, is_ignored, with_line_heard, reply, is_yes, is_no, taken_phrase}
 
 -- What stops a table, and all that called it: the location is described again; the game starts anew; or play ends for
@@ -72,7 +72,7 @@ abbrev pub within : Run → Out → Out
 within r x = if nat_lt (length r.read) READ_LIMIT then x else halts (halt.Spent spent.Condacts) r
 
 -- The step for a condact at this frame: yes, or no for a condition that failed.
-abbrev pub step_at : Frame → Condact → Bool → Step
+abbrev pub step_at : Frame → Condact → Bool → StepRow
 step_at f c passed = record { table = f.table; entry = f.entry; at = f.at; code = c.code; yes = passed }
 
 -- The run with one more step in its open piece: this condact, with yes or no.

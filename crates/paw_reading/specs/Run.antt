@@ -10,7 +10,7 @@ use Rattle.paw_base.specs.declared.flags.TheConstants.{PRONOUN_NOUN_FLAG, PRONOU
 use Rattle.paw_base.specs.declared.flags.TheConstants.{TIMED_OUT_FLAG, TIMED_OUT_BIT}
 use Rattle.paw_base.specs.declared.limits.TheConstants.{PIECE_LIMIT}
 use Rattle.paw_base.specs.declared.words.TheConstants.{NO_WORD}
-pub use Rattle.paw_base.specs.declared.steps.StepRow.{StepRow as Step}
+pub use Rattle.paw_base.specs.declared.steps.StepRow.{StepRow}
 use Rattle.paw_world.specs.World.{World, flag, with_flag, world_restarted}
 use Rattle.paw_phrase.specs.declared.Sentence.{Sentence}
 use Rattle.paw_reading.specs.declared.frames.OpenLoop.{OpenLoop}
@@ -24,9 +24,9 @@ pub record Run : Type 0 where
   pub earlier : ℕ
   pub turning : Option OpenLoop
   pub current : Text
-  pub read : List Step
+  pub read : List StepRow
   pub pieces : Texts
-  pub traces : List (List Step)
+  pub traces : List (List StepRow)
   pub events : Lines
 
 -- Closes the open piece, and begins the next one.

@@ -5,7 +5,7 @@ use Rattle.paw_base.specs.Bytes.{Lines}
 use Rattle.paw_base.proofs.Noted.{kept_none}
 use Rattle.paw_effects.specs.Story.{Story}
 use Rattle.paw_reading.specs.declared.frames.Frame.{Frame}
-use Rattle.paw_reading.specs.Run.{Run, Step as Read}
+use Rattle.paw_reading.specs.Run.{Run, StepRow}
 use Rattle.paw_reading.specs.Reading.{Out, table_read}
 use Rattle.paw_reading.specs.Turn.{Ending, left_to_read}
 use Rattle.paw_process.specs.inner.OpenTables.{OpenTables}
@@ -66,7 +66,7 @@ pub uses : (g : Story) (t : ℕ) (old mid : PlayState) (turned : Turned) → Has
 uses g t old mid turned budget runs =
     let some = some_past old budget in
     let run = runs some.0 some.1 in
-    let read : List Read = some.0.read ++ run.0 in
+    let read : List StepRow = some.0.read ++ run.0 in
     let has : HasRead read mid.machine = run.1.0 in
     record {
       left = omega (arith, has.left, some.1.left, length-append some.0.read run.0);

@@ -2,7 +2,7 @@
 use Rattle.std.proofs.Common.{◌≡◌, Bool, true, false, List, Some, ap, ◌∙◌, subst}
 use Rattle.paw_base.specs.Bytes.{Texts, Lines}
 use Rattle.paw_effects.specs.Story.{Story}
-use Rattle.paw_reading.specs.Run.{Step as Read}
+use Rattle.paw_reading.specs.Run.{StepRow}
 use Rattle.paw_reading.specs.declared.halt.Halt.{Halt}
 use Rattle.paw_reading.specs.declared.halt.Halt.TheVariants as halt
 use Rattle.paw_reading.specs.Reading.{closes_piece}
@@ -13,7 +13,7 @@ use Rattle.paw_turn.specs.inner.Player.{PlayerView, PlaysTo, PlayHalts, IsStandi
 
 -- Where play ended before a piece was closed, there is no further piece and none to show.
 pub plays_halted : {F : Type 0} (g : Story) (whole : Lines → Ending) (s : Step) (new : PlayerView F) (pieces : Texts)
-    (traces : List (List Read)) (h : Halt) → step_halt s ≡ Some h → closes_piece h ≡ false → PlaysTo g whole s new pieces traces →
+    (traces : List (List StepRow)) (h : Halt) → step_halt s ≡ Some h → closes_piece h ≡ false → PlaysTo g whole s new pieces traces →
     PlayHalts whole h new pieces traces
 plays_halted g whole (step.Waits p) new pieces traces h e unclosed plays = cc
 plays_halted g whole step.Ended new pieces traces h e unclosed plays =

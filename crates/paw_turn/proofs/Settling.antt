@@ -10,7 +10,7 @@ use Rattle.paw_routines.specs.declared.routines.Routines.{Routines}
 use Rattle.paw_effects.specs.declared.act.Prompt.{Prompt}
 use Rattle.paw_effects.specs.inner.Opening.{opening_world}
 use Rattle.paw_reading.specs.declared.frames.OpenLoop.{OpenLoop}
-use Rattle.paw_reading.specs.Run.{Run, Step as Read, piece_closed}
+use Rattle.paw_reading.specs.Run.{Run, StepRow, piece_closed}
 use Rattle.paw_reading.specs.declared.halt.Halt.{Halt}
 use Rattle.paw_reading.specs.declared.halt.Halt.TheVariants as halt
 use Rattle.paw_reading.specs.Turn.{Ending, Unended, AtDescribe, turns_from, phases_left, opening, reading}
@@ -78,7 +78,7 @@ settles g routines whole total once (stop.Halted (halt.TooDeep u)) last new past
     halts whole total once (halt.TooDeep u) (seat_of g.game routines (state_settled (step.TooDeep u) new) last) new past refl stops
 
 -- The past of a player with these pieces, at the start of a piece.
-abbrev before : Texts → List (List Read) → Past
+abbrev before : Texts → List (List StepRow) → Past
 before pieces traces = record { read = []; pieces = pieces; traces = traces }
 
 -- A new player's first piece is that of the reading.
@@ -107,7 +107,7 @@ start_plays g routines old new s last plays fresh =
 
 -- A line leads from a player's prompt to the next.
 pub take_plays : {F : Type 0} (g : Story) (routines : Routines F) (p : Prompt) (old new : PlayState) (line : Line) (s : TurnStop)
-    → (pieces : Texts) (traces : List (List Read))
+    → (pieces : Texts) (traces : List (List StepRow))
     → PlaysAs g (from_prompt g p (opened_piece old) line) (opened_piece old) (next.Stop s) new
     → let seat = seat_of g.game routines old (step.Waits p) in
     PlaysTo g (λ lines. going_on_from g p (reverse old.machine.frames) (run_at seat pieces traces (line ∷ lines))) (step_of s)

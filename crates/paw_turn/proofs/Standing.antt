@@ -17,7 +17,7 @@ use Rattle.paw_effects.specs.declared.act.Prompt.TheVariants as prompt
 use Rattle.paw_effects.specs.Standing.{AreBytes}
 use Rattle.paw_effects.specs.Story.{Story, story_of}
 use Rattle.paw_reading.specs.declared.frames.Frame.{Frame}
-use Rattle.paw_reading.specs.Run.{Step as Read}
+use Rattle.paw_reading.specs.Run.{StepRow}
 use Rattle.paw_reading.specs.Turn.{Ending, reading, going_on_from}
 use Rattle.paw_reading.specs.inner.Turn.{MayWaitAlong}
 use Rattle.paw_reading.specs.Bounds.{IsLine, ValidStory}
@@ -63,13 +63,13 @@ may_wait prompt.Over m none = none
 
 -- What was closed before, and the lines to come, change nothing of how a run stands.
 pub stands_alike : (g : GameLists) (at : Prompt) (path : List Frame) (w : World) (m : OpenTables) (p : PendingLine)
-    (pieces pieces' : Texts) (traces traces' : List (List Read)) (lines lines' : Lines)
+    (pieces pieces' : Texts) (traces traces' : List (List StepRow)) (lines lines' : Lines)
     → StandsRightly g at path (run_with w m p pieces traces lines) → StandsRightly g at path (run_with w m p pieces' traces' lines')
 stands_alike g at path w m p pieces pieces' traces traces' lines lines' k =
     record { world = k.world; places = k.places; line = k.line; pending = k.pending; earlier = k.earlier; piece = refl; read = refl }
 
 -- At the end no table is open.
-stands_over : (g : GameLists) (w : World) (m : OpenTables) (p : PendingLine) (pieces : Texts) (traces : List (List Read)) → IsClosed m
+stands_over : (g : GameLists) (w : World) (m : OpenTables) (p : PendingLine) (pieces : Texts) (traces : List (List StepRow)) → IsClosed m
     → StandsRightly g prompt.Over [] (run_with w m p pieces traces []) → StandRightly g prompt.Over w m p
 stands_over g w m p pieces traces closed k =
     record {
@@ -82,7 +82,7 @@ stands_over g w m p pieces traces closed k =
       read = refl;
     }
 
-stands_at : {F : Type 0} (g : Story) (whole : Lines → Ending) (s : Step) (p : PlayerView F) (pieces : Texts) (traces : List (List Read))
+stands_at : {F : Type 0} (g : Story) (whole : Lines → Ending) (s : Step) (p : PlayerView F) (pieces : Texts) (traces : List (List StepRow))
     → StandsClosed s p.machine
     → PlaysTo g whole s p pieces traces → StopsRightly g.game (whole []) → IsStanding s → StandRightly g.game (prompt_at s) p.world p.machine p.pending
 stands_at g whole (step.Waits q) p pieces traces stands plays rightly standing =

@@ -7,7 +7,7 @@ ghost use Rattle.paw_routines.specs.Routines.{AreAnswersOf, HaveAnswers};
 ghost use Rattle.paw_effects.specs.Story.{story_of};
 ghost use Rattle.paw_effects.specs.declared.act.Prompt.{Prompt as AtPrompt};
 ghost use Rattle.paw_effects.specs.declared.act.Prompt.TheVariants as prompt;
-ghost use Rattle.paw_reading.specs.Run.{Step as Read};
+ghost use Rattle.paw_reading.specs.Run.{StepRow};
 ghost use Rattle.paw_reading.specs.Turn.{reading, going_on_from};
 ghost use Rattle.paw_process.specs.inner.Kept.{machine_kept};
 ghost use Rattle.paw_process.specs.inner.Kept.{frames_fault};
@@ -212,7 +212,7 @@ impl<'a, T: Tables, F: Fn(u8, u8) -> u8> Player<'a, T, F> {
         ensures game { self.new.game ≡ self.old.game }
         ensures routines { self.new.routines ≡ self.old.routines }
         ensures meaning { (X : RoutineAnswers) → AreAnswersOf F.Fn self.old.routines X →
-            (p : AtPrompt) → self.old.last ≡ step.Waits p → (pieces : Texts) (traces : List (List Read)) →
+            (p : AtPrompt) → self.old.last ≡ step.Waits p → (pieces : Texts) (traces : List (List StepRow)) →
             let g = story_of self.old.game X in
             let frames = self.old.machine.frames in
             PlaysTo g (λ lines. going_on_from g p (reverse frames) (run_at self.old pieces traces (line.now ∷ lines)))

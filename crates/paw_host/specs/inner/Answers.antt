@@ -9,7 +9,7 @@ use Rattle.paw_stage.specs.declared.StageCall.{StageCall}
 use Rattle.paw_stage.specs.declared.StageCall.TheVariants as call
 use Rattle.paw_effects.specs.Story.{Story}
 use Rattle.paw_effects.specs.declared.act.Prompt.{Prompt}
-use Rattle.paw_reading.specs.Run.{Step as Read}
+use Rattle.paw_reading.specs.Run.{StepRow}
 use Rattle.paw_reading.specs.Turn.{reading, going_on_from, pieces_of}
 use Rattle.paw_turn.specs.inner.Player.{PlayerView, run_at}
 use Rattle.paw_turn.specs.declared.Step.{Step}
@@ -41,7 +41,7 @@ pub record SitsAt {F : Type 0} (g : Story) (seed : Seed) (es : Lines) (seat : Pl
   pub follows : ((fs : Lines) → whole fs ≡ reading g seed (es ++ fs))
       ⊎ ((fs : Lines) → whole fs ≡ reading_since g seed es fs)
   pub pieces : Texts
-  pub traces : List (List Read)
+  pub traces : List (List StepRow)
   pub waits : (p : Prompt) → seat.last ≡ step.Waits p → (fs : Lines) →
       whole fs ≡ going_on_from g p (reverse seat.machine.frames) (run_at seat pieces traces fs)
   pub over : seat.last ≡ step.Ended → is_over (reading g seed es) ≡ true

@@ -14,7 +14,7 @@ use Rattle.paw_routines.specs.declared.routines.Routines.{Routines}
 use Rattle.paw_effects.specs.Story.{Story, story_of}
 use Rattle.paw_effects.specs.declared.act.Prompt.{Prompt}
 use Rattle.paw_effects.specs.declared.act.Prompt.TheVariants as prompt
-use Rattle.paw_reading.specs.Run.{Run, Step as Read}
+use Rattle.paw_reading.specs.Run.{Run, StepRow}
 use Rattle.paw_reading.specs.declared.halt.Halt.{Halt}
 use Rattle.paw_reading.specs.declared.halt.Halt.TheVariants as halt
 use Rattle.paw_reading.specs.Reading.{closes_piece}
@@ -62,7 +62,7 @@ pub record IsWalking {F : Type 0} (showing : ShowSteps) (g : Story) (whole : End
   pub prompt : Prompt
   pub waits : seat.last ≡ step.Waits prompt
   pub pieces : Texts
-  pub traces : List (List Read)
+  pub traces : List (List StepRow)
   pub each : HaveSteps showing pieces traces
   pub keeps : KeepsShown showing seat.machine.steps.most
   pub goes_on : (more : Lines) →

@@ -3,7 +3,7 @@ use Rattle.std.specs.Prelude.{◌≡◌, ℕ, ◌-◌, List, [], ◌++◌, lengt
 use Rattle.paw_base.specs.Bytes.{Text, Texts}
 use Rattle.paw_base.specs.inner.Steps.{KeptSteps}
 use Rattle.paw_base.specs.declared.limits.TheConstants.{STEP_LIMIT}
-use Rattle.paw_reading.specs.Run.{Run, Step as Read}
+use Rattle.paw_reading.specs.Run.{Run, StepRow}
 use Rattle.paw_reading.specs.Turn.{Ending}
 use Rattle.paw_turn.specs.inner.Player.{PlayerView}
 use Rattle.paw_play.specs.Traces.{step_line, more_line, traced_pieces, traced_run, traced_ending}
@@ -33,12 +33,12 @@ abbrev pub seat_text : {F : Type 0} → ShowSteps → PlayerView F → Text
 seat_text showing p = preface showing p.machine.steps ++ p.piece
 
 -- Closed pieces with their steps, as they are shown.
-abbrev pub shown_pieces : ShowSteps → Texts → List (List Read) → Texts
+abbrev pub shown_pieces : ShowSteps → Texts → List (List StepRow) → Texts
 shown_pieces Plain pieces traces = pieces
 shown_pieces Stepped pieces traces = traced_pieces pieces traces
 
 -- Where pieces are shown after their steps, each has its own.
-abbrev pub HaveSteps : ShowSteps → Texts → List (List Read) → Type 0
+abbrev pub HaveSteps : ShowSteps → Texts → List (List StepRow) → Type 0
 HaveSteps Plain pieces traces = Unit {0}
 HaveSteps Stepped pieces traces = length traces ≡ length pieces
 

@@ -9,7 +9,7 @@ use Rattle.paw_routines.specs.Routines.{AreAnswersOf}
 use Rattle.paw_effects.specs.Story.{Story, story_of}
 use Rattle.paw_effects.specs.declared.act.Prompt.TheVariants as prompt
 use Rattle.paw_reading.specs.declared.frames.Frame.{Frame}
-use Rattle.paw_reading.specs.Run.{Run, Step, piece_closed, is_ignored, with_line_heard, reply, is_yes}
+use Rattle.paw_reading.specs.Run.{Run, StepRow, piece_closed, is_ignored, with_line_heard, reply, is_yes}
 use Rattle.paw_reading.specs.declared.halt.Halt.{Halt}
 use Rattle.paw_reading.specs.Reading.{Redescribes, Out, Left, Stopped, closes_piece, halts, rest_of_table}
 use Rattle.paw_reading.specs.GoingOn.{on_path}
@@ -58,7 +58,7 @@ run_held h r = record r {
 }
 
 -- The run with these condacts read as well.
-abbrev pub with_steps : List Step → Run → Run
+abbrev pub with_steps : List StepRow → Run → Run
 with_steps steps r = record r { read = r.read ++ steps }
 
 -- The run with these lines to come.
@@ -96,7 +96,7 @@ ComesTo g (turned.Halted halt) fs r x = TableHalts halt r x
 -- were read, of which the machine keeps the steps, so that, whatever lines come, going on ends in the way that is said.
 abbrev pub RunsTo : Story → Held → Turned → Held → Type 0
 RunsTo g old t new =
-    (r : Run) → ShowsHeld r old → (steps : List Step) × HasRead (r.read ++ steps) new.machine
+    (r : Run) → ShowsHeld r old → (steps : List StepRow) × HasRead (r.read ++ steps) new.machine
     × ((lines : Lines) →
     ComesTo g t new.machine.frames (to_come lines (run_held new (with_steps steps r)))
     (going_in g old.machine.frames (to_come lines r)))

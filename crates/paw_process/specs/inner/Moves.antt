@@ -12,7 +12,7 @@ use Rattle.paw_phrase.specs.declared.Found.TheVariants as found
 use Rattle.paw_effects.specs.declared.act.Effect.{Effect}
 use Rattle.paw_reading.specs.declared.frames.Frame.{Frame}
 use Rattle.paw_reading.specs.declared.frames.OpenLoop.{OpenLoop}
-use Rattle.paw_reading.specs.Run.{Run, Step}
+use Rattle.paw_reading.specs.Run.{Run, StepRow}
 use Rattle.paw_reading.specs.Reading.{Out, Left, next_object_or, over_objects, rest_of_loop, deeper, from_condact}
 use Rattle.paw_reading.specs.Reading.{rest_of_entry}
 use Rattle.paw_reading.specs.Reading.{after_action, step_at, step_noted, reads_one}
@@ -72,7 +72,7 @@ loop_at_frames g fs l n r =
 -- keeps the steps, so that, whatever lines come, the machine goes on to what x is, or has stopped at it.
 abbrev pub ReadsTable : Story → (Run → Out) → Held → Option Turned → Held → Type 0
 ReadsTable g x old t new =
-    (r : Run) → HasRead r.read old.machine → (steps : List Step) × HasRead (r.read ++ steps) new.machine
+    (r : Run) → HasRead r.read old.machine → (steps : List StepRow) × HasRead (r.read ++ steps) new.machine
     × ((lines : Lines) →
     Continues g (x (to_come lines (run_held old r))) t new.machine.frames
     (to_come lines (run_held new (with_steps steps r))))

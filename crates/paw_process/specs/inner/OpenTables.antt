@@ -6,7 +6,7 @@ use Rattle.paw_base.specs.inner.Steps.{no_steps, kept_steps, steps_only_counted,
 use Rattle.paw_effects.specs.declared.act.Prompt.{Prompt}
 use Rattle.paw_reading.specs.declared.frames.Frame.{Frame}
 use Rattle.paw_reading.specs.declared.frames.OpenLoop.{OpenLoop}
-use Rattle.paw_reading.specs.Run.{Step}
+use Rattle.paw_reading.specs.Run.{StepRow}
 use Rattle.paw_process.specs.declared.machine.TheConstants.{MOST_FRAMES}
 
 -- What a machine holds: the frames of the open tables, the innermost first; the open loop; the prompt at which it
@@ -20,7 +20,7 @@ pub record OpenTables : Type 0 where
 
 -- The open piece has read these condacts, and with what it may still read that makes as many as a piece may. Of its
 -- steps as many are kept as the machine keeps.
-pub record HasRead (read : List Step) (m : OpenTables) : Type 0 where
+pub record HasRead (read : List StepRow) (m : OpenTables) : Type 0 where
   pub left : length read + m.left ≡ READ_LIMIT
   pub steps : m.steps ≡ kept_steps m.steps.most read
 
@@ -30,7 +30,7 @@ pub record ReadsNone (old new : OpenTables) : Type 0 where
   pub steps : new.steps ≡ old.steps
 
 -- One condact was read, with this step.
-pub record ReadsStep (step : Step) (old new : OpenTables) : Type 0 where
+pub record ReadsStep (step : StepRow) (old new : OpenTables) : Type 0 where
   pub left : old.left ≡ new.left + 1
   pub steps : new.steps ≡ with_step_noted step old.steps
 

@@ -4,7 +4,7 @@ use Rattle.paw_base.specs.Bytes.{Lines, Seed, Texts}
 use Rattle.paw_effects.specs.Story.{Story}
 use Rattle.paw_effects.specs.declared.act.Prompt.{Prompt}
 use Rattle.paw_reading.specs.declared.frames.Frame.{Frame}
-use Rattle.paw_reading.specs.Run.{Run, Step}
+use Rattle.paw_reading.specs.Run.{Run, StepRow}
 use Rattle.paw_reading.specs.Reading.{rest_of_table}
 use Rattle.paw_reading.specs.GoingOn.{on_path}
 use Rattle.paw_reading.specs.inner.GoingOn.{with_lines, out_followed}
@@ -35,7 +35,7 @@ abbrev pub without_past : Run → Run
 without_past r = record r { pieces = []; traces = [] }
 
 -- The run with these closed pieces, and the steps of each, before its own.
-abbrev pub with_past : Texts → List (List Step) → Run → Run
+abbrev pub with_past : Texts → List (List StepRow) → Run → Run
 with_past pieces traces r = record r { pieces = pieces ++ r.pieces; traces = traces ++ r.traces }
 
 -- Goes on from a prompt with these lines, and without the closed pieces.
@@ -43,7 +43,7 @@ abbrev pub goes_on_with : Story → Prompt → List Frame → Lines → Run → 
 goes_on_with g p path lines r = going_on_from g p path (with_lines lines (without_past r))
 
 -- A reading that ends this way, with these closed pieces before its own.
-abbrev pub ending_with_past : Texts → List (List Step) → Ending → Ending
+abbrev pub ending_with_past : Texts → List (List StepRow) → Ending → Ending
 ending_with_past pieces traces (WaitsAt p path r) = WaitsAt p path (with_past pieces traces r)
 ending_with_past pieces traces (Halted halt r) = Halted halt (with_past pieces traces r)
 ending_with_past pieces traces Unended = Unended
@@ -51,7 +51,7 @@ ending_with_past pieces traces Unended = Unended
 -- What was closed before changes nothing, and stays in front.
 abbrev pub PastStays : Type 0
 PastStays =
-    (g : Story) (pieces : Texts) (traces : List (List Step)) (p : Prompt) (path : List Frame) (r : Run) →
+    (g : Story) (pieces : Texts) (traces : List (List StepRow)) (p : Prompt) (path : List Frame) (r : Run) →
     going_on_from g p path (with_past pieces traces r) ≡ ending_with_past pieces traces (going_on_from g p path r)
 
 -- Where the reading of some lines waits, the reading of more has its pieces, and then those of going on from there; it

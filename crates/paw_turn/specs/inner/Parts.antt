@@ -10,7 +10,7 @@ use Rattle.paw_effects.specs.declared.act.Prompt.TheVariants as prompt
 use Rattle.paw_routines.specs.declared.routines.Routines.{Routines}
 use Rattle.paw_effects.specs.inner.Standing.{IsWorldOf}
 use Rattle.paw_effects.specs.Story.{Story}
-use Rattle.paw_reading.specs.Run.{Step as Read}
+use Rattle.paw_reading.specs.Run.{StepRow}
 use Rattle.paw_reading.specs.Turn.{going_on_from}
 use Rattle.paw_reading.specs.Bounds.{IsLine}
 use Rattle.paw_process.specs.declared.machine.TheConstants.{MOST_FRAMES}
@@ -91,7 +91,7 @@ SeatedAgain F =
 abbrev pub GoesOnAlike : Type 0 → Type 0
 GoesOnAlike F =
     (g : Story) (p : PlayerView F) (at : Prompt) (piece : Text) (left : ℕ) (steps : KeptSteps)
-    (pieces : Texts) (traces : List (List Read)) (lines : Lines) →
+    (pieces : Texts) (traces : List (List StepRow)) (lines : Lines) →
     let other : PlayerView F = record p { piece = piece; machine = record p.machine { left = left; steps = steps } } in
     going_on_from g at (reverse p.machine.frames) (run_at other pieces traces lines)
     ≡ going_on_from g at (reverse p.machine.frames) (run_at p pieces traces lines)

@@ -17,7 +17,7 @@ use Rattle.paw_effects.specs.Worlds.{IsOf}
 use Rattle.paw_effects.specs.Story.{Story}
 use Rattle.paw_reading.specs.declared.frames.Frame.{Frame}
 use Rattle.paw_reading.specs.declared.frames.OpenLoop.{OpenLoop}
-use Rattle.paw_reading.specs.Run.{Run, Step as Read, piece_closed, is_ignored}
+use Rattle.paw_reading.specs.Run.{Run, StepRow, piece_closed, is_ignored}
 use Rattle.paw_reading.specs.declared.halt.Halt.{Halt}
 use Rattle.paw_reading.specs.declared.halt.Halt.TheVariants as halt
 use Rattle.paw_reading.specs.Reading.{Out, closes_piece, table_read}
@@ -43,9 +43,9 @@ use Rattle.paw_turn.specs.inner.Player.{step_of, brings_piece, PlayerView, Waits
 
 -- The steps of the open piece, and the closed pieces with theirs.
 pub record Past : Type 0 where
-  pub read : List Read
+  pub read : List StepRow
   pub pieces : Texts
-  pub traces : List (List Read)
+  pub traces : List (List StepRow)
 
 -- The run with this world, this pending line and its earlier verb, this open loop, this text in the open piece, this
 -- past, and these lines to come.
@@ -70,10 +70,10 @@ run_now h past lines =
 
 -- The open piece has read some condacts.
 abbrev pub HasReadSome : OpenTables → Type 0
-HasReadSome m = (read : List Read) × HasRead read m
+HasReadSome m = (read : List StepRow) × HasRead read m
 
 -- The past with these steps of the open piece.
-abbrev pub having_read : List Read → Past → Past
+abbrev pub having_read : List StepRow → Past → Past
 having_read read past = record past { read = read }
 
 -- ---- phases ----
@@ -109,14 +109,14 @@ Moves g x old next new =
 -- What x says leads from what stood to what stands now: there is what the open piece has read by then.
 abbrev pub ReadsTurn : Story → (ℕ → Run → Ending) → PlayState → Next → PlayState → Type 0
 ReadsTurn g x old next new =
-    (past : Past) → HasRead past.read old.machine → (read : List Read) × (HasRead read new.machine
+    (past : Past) → HasRead past.read old.machine → (read : List StepRow) × (HasRead read new.machine
     × ((n : ℕ) (lines : Lines) →
     GoesOnAs g n next new.machine.frames (run_now new (having_read read past) lines) (x n (run_now old past lines))))
 
 -- A reading, with enough phases granted, leads from what stood to what stands now.
 abbrev pub PlaysAs : Story → (ℕ → Past → Lines → Ending) → PlayState → Next → PlayState → Type 0
 PlaysAs g whole old next new =
-    (past : Past) → HasRead past.read old.machine → (read : List Read) × (HasRead read new.machine
+    (past : Past) → HasRead past.read old.machine → (read : List StepRow) × (HasRead read new.machine
     × ((n : ℕ) (lines : Lines) →
     (m : ℕ) × GoesOnAs g n next new.machine.frames (run_now new (having_read read past) lines) (whole m past lines)))
 
@@ -135,7 +135,7 @@ Plays g first old next new = PlaysAs g (from_phase g first old) old next new
 -- The machine has read as x says, from what stood to a stop.
 abbrev pub RunsAs : Story → (Past → Lines → Out) → PlayState → Turned → PlayState → Type 0
 RunsAs g x old turned new =
-    (past : Past) → HasRead past.read old.machine → (steps : List Read) × (HasRead (past.read ++ steps) new.machine
+    (past : Past) → HasRead past.read old.machine → (steps : List StepRow) × (HasRead (past.read ++ steps) new.machine
     × ((lines : Lines) →
     ComesTo g turned new.machine.frames (run_now new (having_read (past.read ++ steps) past) lines) (x past lines)))
 

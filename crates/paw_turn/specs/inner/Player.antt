@@ -15,7 +15,7 @@ use Rattle.paw_effects.specs.declared.act.Prompt.{Prompt}
 use Rattle.paw_effects.specs.declared.act.Prompt.TheVariants as prompt
 use Rattle.paw_effects.specs.inner.Opening.{opening_world}
 use Rattle.paw_effects.specs.Story.{Story}
-use Rattle.paw_reading.specs.Run.{Run, Step as Read}
+use Rattle.paw_reading.specs.Run.{Run, StepRow}
 use Rattle.paw_reading.specs.Reading.{closes_piece}
 use Rattle.paw_reading.specs.declared.halt.Halt.{Halt}
 use Rattle.paw_reading.specs.declared.halt.Halt.TheVariants as halt
@@ -62,7 +62,7 @@ pub record PlayerView (F : Type 0) : Type 0 where
   pub last : Step
 
 -- The run that these parts stand for, with these closed pieces, the steps of each, and these lines to come.
-abbrev pub run_with : World → OpenTables → PendingLine → Texts → List (List Read) → Lines → Run
+abbrev pub run_with : World → OpenTables → PendingLine → Texts → List (List StepRow) → Lines → Run
 run_with w m p pieces traces lines = record {
   world = w;
   pending = p.bytes;
@@ -76,11 +76,11 @@ run_with w m p pieces traces lines = record {
 }
 
 -- The run that a player stands for.
-abbrev pub run_at : {F : Type 0} → PlayerView F → Texts → List (List Read) → Lines → Run
+abbrev pub run_at : {F : Type 0} → PlayerView F → Texts → List (List StepRow) → Lines → Run
 run_at p pieces traces lines = run_with p.world p.machine p.pending pieces traces lines
 
 -- Whatever lines come after, the whole reading of them ends this way, with no further piece and none to show.
-abbrev pub PlayHalts : {F : Type 0} → (Lines → Ending) → Halt → PlayerView F → Texts → List (List Read) → Type 0
+abbrev pub PlayHalts : {F : Type 0} → (Lines → Ending) → Halt → PlayerView F → Texts → List (List StepRow) → Type 0
 PlayHalts whole halt new pieces traces =
     (new.piece ≡ []) × ((lines : Lines) → (r : Run) × (whole lines ≡ Halted halt r)
     × (r.pieces ≡ pieces) × (r.traces ≡ traces) × (r.events ≡ lines))
@@ -89,14 +89,14 @@ PlayHalts whole halt new pieces traces =
 -- prompt with one more piece; or is over with one more piece, as the player stands; or is spent, or a call is too deep,
 -- with no further piece and none to show. Of the piece that was closed the player keeps as many steps as it keeps of
 -- each.
-abbrev pub PlaysTo : {F : Type 0} → Story → (Lines → Ending) → Step → PlayerView F → Texts → List (List Read) → Type 0
+abbrev pub PlaysTo : {F : Type 0} → Story → (Lines → Ending) → Step → PlayerView F → Texts → List (List StepRow) → Type 0
 PlaysTo g whole (step.Waits p) new pieces traces =
-    (read : List Read) × ((new.machine.steps ≡ kept_steps new.machine.steps.most read) × ((lines : Lines) →
+    (read : List StepRow) × ((new.machine.steps ≡ kept_steps new.machine.steps.most read) × ((lines : Lines) →
     whole lines
     ≡ going_on_from g p (reverse new.machine.frames)
     (run_at new (pieces ++ new.piece ∷ []) (traces ++ read ∷ []) lines)))
 PlaysTo g whole step.Ended new pieces traces =
-    (read : List Read) × ((new.machine.steps ≡ kept_steps new.machine.steps.most read) × ((lines : Lines) →
+    (read : List StepRow) × ((new.machine.steps ≡ kept_steps new.machine.steps.most read) × ((lines : Lines) →
     whole lines ≡ Halted halt.Over (run_at new (pieces ++ new.piece ∷ []) (traces ++ read ∷ []) lines)))
 PlaysTo g whole s new pieces traces = MatchOption (step_halt s) ⊥ (λ halt. PlayHalts whole halt new pieces traces)
 

@@ -2,7 +2,7 @@ use Rattle.std.proofs.Common.{◌≡◌, ℕ, List, ◌+◌, ◌≤◌, ◌++◌
 use Rattle.std.specs.Prelude.{◌-◌, flat_map}
 use Rattle.std.proofs.lemmas.List.{take_all}
 use Rattle.paw_base.specs.declared.limits.TheConstants.{STEP_LIMIT, PIECE_LIMIT}
-use Rattle.paw_reading.specs.Run.{Step}
+use Rattle.paw_reading.specs.Run.{StepRow}
 use Rattle.paw_play.specs.Traces.{step_line, more_line}
 use Rattle.paw_play.proofs.Lines.{put_whole, more_short}
 use Rattle.paw_play.proofs.trace.write_steps.Goals as goal
@@ -10,7 +10,7 @@ use Rattle.paw_play.proofs.trace.write_steps.Goals as goal
 pub returns : goal.returns
 returns c =
     let loop = c.loop-step.invariant in
-    let items : List Step = c.steps_to_show-step-items.result.now in
+    let items : List StepRow = c.steps_to_show-step-items.result.now in
     let more : ℕ = c.saturating_sub.result in
     let short : length (more_line more) ≤ 27 = more_short more c.saturating_sub.type_inv in
     let fits : length c.loop-step.text + length (more_line more) ≤ PIECE_LIMIT =
