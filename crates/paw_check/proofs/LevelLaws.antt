@@ -1,9 +1,7 @@
 -- What the reading of tables takes, by what the tables take that they call.
-use Rattle.std.proofs.Common.{◌≡◌, ◌≤◌, ◌<◌, ℕ, zero, suc, ◌+◌, ◌*◌, Bool, true, false, cond, List, [], ◌∷◌, length}
-use Rattle.std.proofs.Common.{map, refl, sym, ap, ◌∙◌, arith}
-use Rattle.std.specs.Prelude.{◌==◌, sum_by, count_by, slice_get}
-use Rattle.std.specs.List.{range_with_len, slice_index_or}
-use Rattle.std.specs.Option.{unwrap_or}
+use Rattle.std.proofs.Common.{◌≡◌, ℕ, zero, suc, ◌+◌, ◌*◌, Bool, true, false, cond, List, [], length}
+use Rattle.std.proofs.Common.{refl, sym, ap, ◌∙◌, arith}
+use Rattle.std.specs.Prelude.{◌==◌, count_by}
 use Rattle.paw_base.specs.declared.codes.TheConstants.{DOALL}
 use Rattle.paw_base.specs.declared.limits.TheConstants.{LEVEL_LIMIT}
 use Rattle.paw_base.specs.declared.parts.Condact.{Condact}
@@ -12,8 +10,7 @@ use Rattle.paw_game.specs.Tables.{table_at}
 use Rattle.paw_game.specs.declared.parts.Entry.{Entry}
 use Rattle.paw_check.specs.Calls.{calls_table, turn_tables}
 use Rattle.paw_check.specs.Costs.{cost, counting, passed_over, with_call, all_verbs}
-use Rattle.paw_check.specs.Measures.{greatest}
-use Rattle.paw_check.specs.inner.Capped.{in_32_bits, cell_at, condacts_of_entries, entries_take, VerbCosts}
+use Rattle.paw_check.specs.inner.Capped.{in_32_bits, cell_at, condacts_of_entries, VerbCosts}
 use Rattle.paw_check.specs.inner.Levels.{HoldsLevel, HoldsCosts, most_taken, round_taken}
 use Rattle.paw_check.proofs.Capped.{add_alike, product_alike, sum_alike, from_capped}
 use Rattle.paw_check.proofs.Entries.{sum_same}

@@ -1,8 +1,8 @@
 -- Flags that are marked one after the other.
-use Rattle.std.proofs.Common.{◌≡◌, ◌<◌, ◌≤◌, ℕ, suc, ◌+◌, Bool, true, false, cond, List, [], ◌∷◌, ◌++◌, length}
+use Rattle.std.proofs.Common.{◌≡◌, ◌≤◌, ℕ, suc, ◌+◌, Bool, true, false, cond, List, [], ◌∷◌, length}
 use Rattle.std.proofs.Common.{replicate, refl, sym, ap, ◌∙◌, arith}
 use Rattle.std.specs.Prelude.{◌||◌, ◌==◌, filter, flat_map, count_by, nat_lt}
-use Rattle.std.specs.List.{slice_index_or, list_any, range_with_len}
+use Rattle.std.specs.List.{slice_index_or, range_with_len}
 use Rattle.std.proofs.lemmas.List.{length-replicate, get_or-replicate}
 use Rattle.std.proofs.lemmas.List.Concat.{flat_map-append}
 use Rattle.std.proofs.lemmas.List.Folds.{list_any-append}
@@ -14,7 +14,7 @@ use Rattle.paw_check.specs.inner.Capped.{MarksTables}
 use Rattle.paw_check.specs.inner.Reached.{levels_from}
 use Rattle.paw_check.proofs.Entries.{range_more, range_to}
 use Rattle.paw_check.proofs.ReachedLaws.{Marked, below_none}
-use Rattle.paw_check.proofs.SetLaws.{filter_alike, marks_both}
+use Rattle.paw_check.proofs.SetLaws.{filter_alike}
 
 or_none : (b : Bool) → (b || false) ≡ b
 or_none true = refl

@@ -1,12 +1,10 @@
 -- Levels of calls, one after the other.
-use Rattle.std.proofs.Common.{◌≡◌, ℕ, zero, suc, ◌+◌, ◌<◌, ◌≤◌, Bool, true, false, List, [], ◌∷◌, ◌++◌, length, refl}
-use Rattle.std.proofs.Common.{sym, ap, ◌∙◌, arith}
-use Rattle.std.specs.Prelude.{◌||◌, flat_map, count_by, nat_lt}
-use Rattle.std.specs.List.{list_any, range_with_len, slice_index_or}
+use Rattle.std.proofs.Common.{◌≡◌, ℕ, suc, ◌<◌, Bool, false, List, length, refl}
+use Rattle.std.specs.Prelude.{flat_map}
+use Rattle.std.specs.List.{range_with_len, slice_index_or}
 use Rattle.paw_game.specs.Game.{GameLists}
 use Rattle.paw_check.specs.Calls.{called_below, called_from}
 use Rattle.paw_check.specs.Verbs.{is_among}
-use Rattle.paw_check.specs.inner.Capped.{MarksTables}
 
 -- The flags mark the tables of the first n levels.
 pub record Marked (g : GameLists) (ts : List ℕ) (n : ℕ) (marks : List Bool) : Type 0 where

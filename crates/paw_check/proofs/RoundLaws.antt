@@ -12,7 +12,7 @@ use Rattle.paw_base.specs.declared.parts.Condact.{Condact}
 use Rattle.paw_game.specs.Game.{GameLists}
 use Rattle.paw_check.specs.Costs.{cost, counting, all_verbs}
 use Rattle.paw_check.specs.Measures.{greatest}
-use Rattle.paw_check.specs.inner.Capped.{in_32_bits, cell_at, VerbCosts}
+use Rattle.paw_check.specs.inner.Capped.{in_32_bits, VerbCosts}
 use Rattle.paw_check.specs.inner.Levels.{HoldsCosts, most_taken, round_taken}
 use Rattle.paw_check.proofs.Greatest.{greatest_capped}
 

@@ -1,5 +1,5 @@
 -- Rows of 256 numbers, written one by one.
-use Rattle.std.proofs.Common.{◌≡◌, ◌≢◌, ◌≤◌, ◌<◌, ◌⊎◌, inl, inr, ℕ, ◌+◌, ◌-◌, ◌^◌, min, Bool, true, false, List, length}
+use Rattle.std.proofs.Common.{◌≡◌, ◌≢◌, ◌≤◌, ◌<◌, inl, inr, ℕ, ◌+◌, ◌-◌, ◌^◌, min, Bool, true, false, List, length}
 use Rattle.std.proofs.Common.{replicate, refl, sym, ap, ◌∙◌, arith, cond, take, get_or}
 use Rattle.std.specs.Prelude.{◌==◌, slice_set, count_by, if◌then◌else◌}
 use Rattle.std.specs.List.{slice_index_or}

@@ -1,7 +1,7 @@
 -- What the code keeps of a game's texts is what the definition says that its condacts print.
-use Rattle.std.proofs.Common.{◌≡◌, ◌≤◌, ◌<◌, ◌⊎◌, inl, inr, ℕ, zero, suc, ◌+◌, ◌*◌, Bool, true, false, cond, List, []}
+use Rattle.std.proofs.Common.{◌≡◌, ◌≤◌, inl, inr, ℕ, ◌+◌, Bool, true, false, cond, List, []}
 use Rattle.std.proofs.Common.{◌∷◌, length, map, refl, sym, ap, ◌∙◌, arith}
-use Rattle.std.specs.Prelude.{◌==◌, sum_by, slice_get, if◌then◌else◌}
+use Rattle.std.specs.Prelude.{◌==◌, slice_get}
 use Rattle.std.specs.List.{slice_index_or}
 use Rattle.std.specs.Option.{unwrap_or}
 use Rattle.std.proofs.Math.ListN.{get_or-map}
@@ -25,7 +25,7 @@ use Rattle.paw_check.specs.declared.prints.TheConstants.{PRINTED}
 use Rattle.paw_check.specs.inner.Capped.{HoldsCapped, in_32_bits}
 use Rattle.paw_check.specs.inner.Own.{byte_in, measure_in, measure_at, kind_in, kind_of, named_in, text_in}
 use Rattle.paw_check.specs.inner.Texts.{ArePrints}
-use Rattle.paw_check.proofs.Capped.{add_alike, sum_alike, from_capped, capped_again}
+use Rattle.paw_check.proofs.Capped.{sum_alike, from_capped, capped_again}
 use Rattle.paw_check.proofs.Greatest.{greatest_alike, greatest_capped}
 
 -- ---- measures ----

@@ -3,7 +3,6 @@
 ghost use Rattle.std.specs.Prelude.{◌≡◌, IfOk};
 ghost use Rattle.paw_game.specs.Valid.{Valid};
 ghost use Rattle.paw_check.specs.Bounds.{most_condacts, most_piece};
-ghost use Rattle.paw_check.specs.Calls.{turn_tables};
 ghost use Rattle.paw_check.specs.Costs.{verb_may_change};
 ghost use Rattle.paw_check.specs.Verdicts.{bounds};
 ghost use Rattle.paw_check.specs.declared.verdict.Verdict.TheVariants as verdict;

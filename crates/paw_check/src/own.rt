@@ -1,9 +1,7 @@
 // What each condact takes by itself: one condact that is read, or bytes that are printed.
 
-ghost use Rattle.std.specs.Prelude.{◌≡◌, ◌≤◌, length};
-ghost use Rattle.paw_base.specs.Condacts.{is_indirect, plain_code};
-ghost use Rattle.paw_check.specs.inner.Capped.{in_32_bits};
-ghost use Rattle.paw_check.specs.inner.Own.{kind_of, kind_in, named_in, text_in, own_in};
+ghost use Rattle.std.specs.Prelude.{◌≡◌};
+ghost use Rattle.paw_check.specs.inner.Own.{own_in};
 
 use crate::prints::Prints;
 use paw_base::parts::Condact;

@@ -1,10 +1,8 @@
 // The most bytes that each condact prints. Numbers stop at the greatest of 32 bits.
 
-ghost use Rattle.std.specs.Prelude.{◌≡◌, ◌≤◌, length};
-ghost use Rattle.std.specs.List.{slice_index_or};
+ghost use Rattle.std.specs.Prelude.{◌≡◌};
 ghost use Rattle.paw_base.specs.Condacts.{is_indirect, plain_code};
-ghost use Rattle.paw_check.specs.inner.Capped.{in_32_bits};
-ghost use Rattle.paw_check.specs.inner.Own.{kind_of, kind_in, named_in, text_in};
+ghost use Rattle.paw_check.specs.inner.Own.{kind_of, named_in, text_in};
 
 use crate::sums::PerByte;
 use paw_base::codes::INDIRECT;

@@ -1,6 +1,6 @@
 // What a game prints at most. Numbers stop at the greatest of 32 bits.
 
-ghost use Rattle.std.specs.Prelude.{◌≡◌, ◌+◌, ◌*◌, ◌≤◌, length, map, sum_by};
+ghost use Rattle.std.specs.Prelude.{◌≡◌, ◌+◌, ◌*◌, length, map};
 ghost use Rattle.std.specs.List.{slice_index_or};
 ghost use Rattle.paw_game.specs.Valid.{Valid};
 ghost use Rattle.paw_base.specs.declared.messages.TheConstants.{SEEN_MESSAGE, NOTHING_THERE_MESSAGE, IS_WORN_MESSAGE};

@@ -6,7 +6,7 @@ use Rattle.paw_base.specs.declared.codes.TheConstants.{QUIT, END, ANYKEY, SAVE, 
 use Rattle.paw_base.specs.Condacts.{condact_lines, plain_line, may_be_indirect}
 use Rattle.paw_base.specs.declared.parts.Condact.{Condact}
 use Rattle.paw_game.specs.Game.{GameLists}
-use Rattle.paw_world.specs.World.{World, Position, with_flag, kept_position}
+use Rattle.paw_world.specs.World.{World, Position, with_flag}
 use Rattle.paw_effects.specs.declared.act.Prompt.{Prompt}
 use Rattle.paw_effects.specs.declared.act.Prompt.TheVariants as prompt
 use Rattle.paw_effects.specs.declared.act.Truth.TheVariants as truth
@@ -16,7 +16,7 @@ use Rattle.paw_effects.specs.declared.object_actions.Action.{Action}
 use Rattle.paw_effects.specs.declared.object_actions.Action.TheVariants as action
 use Rattle.paw_effects.specs.declared.object_words.ObjectReply.{ObjectReply}
 use Rattle.paw_effects.specs.Story.{Story}
-use Rattle.paw_effects.specs.Positions.{position_loaded, position_number}
+use Rattle.paw_effects.specs.Positions.{position_loaded}
 use Rattle.paw_effects.specs.Referring.{object_referred}
 use Rattle.paw_effects.specs.ObjectSearch.{first_fitting}
 use Rattle.paw_effects.specs.ObjectActions.{first_that_holds, hindrances, action_tried, acted_on}

@@ -1,12 +1,12 @@
 -- Condacts that take their first parameter from a flag, and the plain ones that are carried out for them.
-use Rattle.std.proofs.Common.{◌≡◌, ℕ, ◌-◌, ◌∙◌, Bool, true, false, Option, Some, None, IsTrue, inl, inr, refl, sym, ap}
+use Rattle.std.proofs.Common.{◌≡◌, ℕ, ◌-◌, Bool, true, false, Option, Some, None, IsTrue, inl, inr, refl, sym, ap}
 use Rattle.std.proofs.Common.{subst, arith, nat_le}
 use Rattle.std.specs.Prelude.{if◌then◌else◌}
 use Rattle.std.specs.Option.{option_map_or}
 use Rattle.std.proofs.lemmas.Bool.{and_parts, or_cases}
 use Rattle.paw_base.specs.declared.codes.TheConstants.{INDIRECT}
 use Rattle.paw_base.specs.declared.parts.Condact.{Condact}
-use Rattle.paw_base.specs.Condacts.{first_kind, second_kind, is_code, is_plain_code, is_indirect, may_be_indirect}
+use Rattle.paw_base.specs.Condacts.{first_kind, second_kind, is_plain_code, is_indirect, may_be_indirect}
 use Rattle.paw_base.specs.Condacts.{plain_code, line_of, plain_line, indirect_line, CondactLine}
 use Rattle.paw_base.specs.inner.Condacts.{IsCode, IsPlainCode}
 use Rattle.paw_base.proofs.Table.{code_within, within_code, indirect_within, plain_below, plain_is, line_plain}

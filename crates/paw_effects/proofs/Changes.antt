@@ -28,16 +28,16 @@ use Rattle.paw_game.specs.Valid.{Valid, is_argument, is_parameter, is_within}
 use Rattle.paw_game.specs.inner.Valid.{is_right}
 use Rattle.paw_game.proofs.Kept.{exit-leads}
 use Rattle.paw_game.proofs.Right.{right-first, right-second}
-use Rattle.paw_world.specs.World.{World, Position, is_somewhere, flag, with_flag, place, here, object_moved}
-use Rattle.paw_world.specs.World.{with_objects_returned, at_position}
+use Rattle.paw_world.specs.World.{World, Position, is_somewhere, flag, with_flag, place, object_moved}
+use Rattle.paw_world.specs.World.{at_position}
 use Rattle.paw_world.specs.World.{drawn_on, position_of, keeping, kept_position}
 use Rattle.paw_world.specs.Draws.{random_word}
-use Rattle.paw_routines.specs.Answers.{value_in, value_at}
+use Rattle.paw_routines.specs.Answers.{value_in}
 use Rattle.paw_world.specs.Weight.{weight, carried_weight, objects_at}
 use Rattle.paw_effects.specs.Chance.{percent_drawn}
-use Rattle.paw_effects.specs.Positions.{position_number, position_loaded}
+use Rattle.paw_effects.specs.Positions.{position_loaded}
 use Rattle.paw_effects.specs.MoveActions.{names_place}
-use Rattle.paw_effects.specs.Presence.{named_place, held_objects}
+use Rattle.paw_effects.specs.Presence.{named_place}
 use Rattle.paw_effects.specs.declared.object_actions.Action.{Action}
 use Rattle.paw_effects.specs.declared.object_actions.Action.TheVariants as action
 use Rattle.paw_effects.specs.declared.object_search.Spot.{Spot}
@@ -55,10 +55,9 @@ use Rattle.paw_effects.specs.Story.{story_of}
 use Rattle.paw_effects.specs.Holds.{answers, tested_by}
 use Rattle.paw_effects.specs.Standing.{AreBytes}
 use Rattle.paw_effects.specs.inner.Standing.{IsPositionOf, MayBePosition}
-use Rattle.paw_effects.proofs.Worlds.{byte_at, IsWorldAt, IsPlace, few_locations, few_objects, parameter_small}
-use Rattle.paw_effects.proofs.Worlds.{world_of, later, flag_small}
+use Rattle.paw_effects.proofs.Worlds.{byte_at, IsWorldAt, IsPlace, few_locations, few_objects}
+use Rattle.paw_effects.proofs.Worlds.{later, flag_small}
 use Rattle.paw_effects.proofs.Worlds.{flagged, place_of, place_is_small, here_place, named, moved_so, weight_small}
-use Rattle.paw_effects.proofs.Worlds.{returned_so}
 
 module _ (g : GameLists) (v : Valid g) (seed : Seed) (n : ℕ) where
   abbrev pub Is : World → Type 0

@@ -1,8 +1,7 @@
 -- What is true of each condact: how reading goes on after it, and what it leaves of a world.
-use Rattle.std.proofs.Common.{◌≡◌, ◌≢◌, ℕ, suc, ◌+◌, ◌<◌, Bool, true, false, List, [], Option, refl, slice_get, length}
+use Rattle.std.proofs.Common.{◌≡◌, ◌≢◌, ℕ, suc, ◌+◌, ◌<◌, Bool, true, false, List, Option, refl, slice_get, length}
 use Rattle.std.proofs.Common.{All, IsTrue, arith}
 use Rattle.std.proofs.Math.Nat.{min-le_left}
-use Rattle.std.specs.Prelude.{not}
 use Rattle.paw_base.specs.Bytes.{RoutineAnswers, Seed}
 use Rattle.paw_base.specs.declared.codes.TheConstants.{QUIT, SAVE, PLACE, PUTO}
 use Rattle.paw_base.specs.declared.flags.TheConstants.{VERB_FLAG, REFERRED_FLAG, LOCATION_FLAG}
@@ -17,7 +16,6 @@ use Rattle.paw_game.proofs.Right.{right-first, right-second, right_condact}
 use Rattle.paw_routines.specs.Answers.{value_at}
 use Rattle.paw_world.specs.World.{World, Position, flag, with_flag, place, here, object_moved, drawn_on, kept_position}
 use Rattle.paw_world.specs.World.{with_objects_returned}
-use Rattle.paw_world.specs.Weight.{carried_weight}
 use Rattle.paw_effects.specs.declared.act.Act.{Act}
 use Rattle.paw_effects.specs.declared.act.Truth.TheVariants as truth
 use Rattle.paw_effects.specs.declared.object_actions.Action.{Action}

@@ -2,7 +2,7 @@
 use Rattle.std.proofs.Common.{◌≡◌, ℕ, ◌≤◌, ◌<◌, Bool, true, false, not, length, refl, sym, ◌∙◌, nat_lt, nat_le}
 use Rattle.std.proofs.lemmas.Bool.{leb-true, ltb-true}
 use Rattle.paw_base.specs.declared.codes.TheConstants.{INVEN}
-use Rattle.paw_base.specs.inner.Condacts.{IsPlainCode, is_act}
+use Rattle.paw_base.specs.inner.Condacts.{IsPlainCode}
 use Rattle.paw_base.specs.Condacts.{condact_lines, plain_line, plain_code}
 use Rattle.paw_base.proofs.Table.{below, each_plain, acts_alike}
 use Rattle.paw_effects.specs.Meanings.{meanings, meaning_of, is_test}

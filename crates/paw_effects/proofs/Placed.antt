@@ -34,14 +34,12 @@ use Rattle.paw_effects.specs.declared.object_actions.Action.TheVariants as actio
 use Rattle.paw_effects.specs.declared.object_words.ObjectReply.{ObjectReply}
 use Rattle.paw_effects.specs.inner.Worlds.{ArePlacesOf, StandsIn}
 use Rattle.paw_effects.specs.Story.{Story}
-use Rattle.paw_routines.specs.Answers.{value_at}
 use Rattle.paw_effects.specs.Positions.{position_loaded, position_number}
-use Rattle.paw_effects.specs.Presence.{named_place, held_objects}
+use Rattle.paw_effects.specs.Presence.{named_place}
 use Rattle.paw_effects.specs.MoveActions.{names_place, moved_if_place}
 use Rattle.paw_effects.specs.Referring.{with_referred_facts, object_referred, referred_to_none}
-use Rattle.paw_effects.specs.ObjectSearch.{first_fitting}
 use Rattle.paw_effects.specs.ObjectActions.{destination, first_that_holds, hindrances, action_tried}
-use Rattle.paw_effects.specs.AutoActions.{looks_at, acted_on_found}
+use Rattle.paw_effects.specs.AutoActions.{acted_on_found}
 use Rattle.paw_effects.specs.Meanings.{Meaning, Tests, Acts}
 use Rattle.paw_effects.specs.Effects.{done_by}
 use Rattle.paw_effects.specs.Holds.{answers, tested_by}

@@ -8,21 +8,16 @@ use Rattle.paw_base.specs.declared.parts.Condact.{Condact}
 use Rattle.paw_base.specs.declared.parts.ObjectFacts.{ObjectFacts}
 use Rattle.paw_base.specs.declared.flags.TheConstants.{REFERRED_PLACE_FLAG, REFERRED_FLAG}
 use Rattle.paw_game.specs.Game.{GameLists}
-use Rattle.paw_routines.specs.Answers.{value_at}
-use Rattle.paw_world.specs.World.{World, Position, flag, with_flag, place, with_place, here, let_go, taken_up, object_moved}
+use Rattle.paw_world.specs.World.{World, Position, with_flag, place, with_place, let_go, taken_up, object_moved}
 use Rattle.paw_world.specs.World.{at_position}
-use Rattle.paw_world.specs.World.{kept_position}
 use Rattle.paw_effects.specs.declared.object_actions.Action.{Action}
 use Rattle.paw_effects.specs.declared.object_actions.Action.TheVariants as action
 use Rattle.paw_effects.specs.declared.object_words.ObjectReply.{ObjectReply}
 use Rattle.paw_effects.specs.Story.{Story}
-use Rattle.paw_effects.specs.Positions.{position_loaded, position_number}
-use Rattle.paw_effects.specs.Presence.{named_place, held_objects}
-use Rattle.paw_effects.specs.MoveActions.{names_place}
+use Rattle.paw_effects.specs.Positions.{position_loaded}
 use Rattle.paw_effects.specs.Referring.{with_referred_facts, object_referred, referred_to_none}
-use Rattle.paw_effects.specs.ObjectSearch.{first_fitting}
 use Rattle.paw_effects.specs.ObjectActions.{destination, first_that_holds, hindrances, action_tried}
-use Rattle.paw_effects.specs.AutoActions.{looks_at, acted_on_found}
+use Rattle.paw_effects.specs.AutoActions.{acted_on_found}
 use Rattle.paw_effects.specs.Meanings.{Meaning, Tests, Acts}
 use Rattle.paw_effects.specs.Effects.{done_by}
 use Rattle.paw_effects.specs.Holds.{answers, tested_by}

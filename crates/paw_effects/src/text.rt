@@ -1,7 +1,7 @@
 // The texts that a game prints into a piece. A function that prints nothing in some case pushes the empty text there:
 // the clause of the push says what the clause of the whole has to, that the piece is as it was and fits.
 
-ghost use Rattle.std.specs.Prelude.{◌≡◌, ◌+◌, ◌++◌, ◌<◌, ◌≤◌, [], length, IfSome, IfNone, ◌==◌, Some, decimal};
+ghost use Rattle.std.specs.Prelude.{◌≡◌, ◌+◌, ◌++◌, ◌<◌, ◌≤◌, [], length, IfSome, IfNone, Some, decimal};
 ghost use Rattle.std.specs.Option.{unwrap_or};
 ghost use Rattle.paw_base.specs.Bytes.{Text};
 ghost use Rattle.paw_base.specs.declared.limits.TheConstants.{PIECE_LIMIT};

@@ -1,6 +1,6 @@
 // The answer to what a line asks of one session: what its store then keeps, and the body of the reply.
 
-ghost use Rattle.std.specs.Prelude.{◌≡◌, ◌+◌, ◌*◌, ◌<◌, ◌≤◌, ◌⊎◌, [], ◌∷◌, ◌++◌, length, take, None, Some};
+ghost use Rattle.std.specs.Prelude.{◌≡◌, ◌+◌, ◌*◌, ◌<◌, ◌≤◌, [], ◌∷◌, length, take, None, Some};
 ghost use Rattle.std.specs.Prelude.{IfOk, OnOk, IfSome, IfNone, MatchOption, MatchBool};
 ghost use Rattle.std.specs.Option.{option_copied};
 ghost use Rattle.paw_base.specs.Bytes.{Lines, Seed};

@@ -1,6 +1,6 @@
 // The game of an image file.
 
-ghost use Rattle.std.specs.Prelude.{◌≡◌, ◌≢◌, ℕ, List, None, Some, IfOk, IfErr};
+ghost use Rattle.std.specs.Prelude.{◌≡◌, ◌≢◌, None, IfOk, IfErr};
 ghost use Rattle.paw_stage.specs.AcrossCalls.{IfTelling, FailsOnlyBy};
 ghost use Rattle.paw_stage.specs.inner.AcrossCalls.{AtEachMoment};
 ghost use Rattle.paw_stage.specs.Stage.{Still};

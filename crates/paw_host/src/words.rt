@@ -1,6 +1,6 @@
 // The words of a call.
 
-ghost use Rattle.std.specs.Prelude.{◌≡◌, map, string_bytes};
+ghost use Rattle.std.specs.Prelude.{map, string_bytes};
 ghost use Rattle.paw_host.specs.Words.{host_call_of};
 ghost use Rattle.paw_host.specs.inner.Words.{SpellsCall};
 

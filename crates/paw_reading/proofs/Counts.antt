@@ -31,7 +31,6 @@ use Rattle.paw_reading.specs.Reading.{prompt_asked, waits, after_test}
 use Rattle.paw_reading.specs.Reading.{after_parse, after_action, carried_out, acts, reads_one, from_condact}
 use Rattle.paw_reading.specs.Reading.{rest_of_loop}
 use Rattle.paw_reading.specs.Reading.{read_at_level, table_called, deeper}
-use Rattle.paw_reading.specs.Reading.{rest_of_table}
 use Rattle.paw_reading.specs.Reading.{table_read, coming_phrase, game_over}
 use Rattle.paw_reading.specs.Turn.{TurnPhase, AtDescribe, AtTimeFrame, AtPhrase, AtResponse, Ending, Halted, saying}
 use Rattle.paw_reading.specs.Turn.{location_described, time_frame_passed}

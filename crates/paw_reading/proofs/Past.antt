@@ -18,7 +18,7 @@ use Rattle.paw_reading.specs.declared.frames.Frame.{Frame}
 use Rattle.paw_reading.specs.Run.{Run, StepRow, piece_closed, fits, text_printed, with_world, line_dropped, is_timeout, is_ignored}
 use Rattle.paw_reading.specs.Run.{with_line_heard, taken_phrase}
 use Rattle.paw_reading.specs.declared.halt.Halt.TheVariants as halt
-use Rattle.paw_reading.specs.Reading.{Redescribes, Restarts, Halts, Out, Left, Waits, Stopped, rest_of_table}
+use Rattle.paw_reading.specs.Reading.{Redescribes, Restarts, Halts, Out, Left, Waits, Stopped}
 use Rattle.paw_reading.specs.Reading.{table_read, coming_phrase}
 use Rattle.paw_reading.specs.GoingOn.{on_path}
 use Rattle.paw_reading.specs.inner.GoingOn.{with_lines}

@@ -1,6 +1,6 @@
 -- The bytes that are kept of a part of a line.
 use Rattle.std.proofs.Common.{◌≡◌, ◌≢◌, ℕ, zero, suc, ◌+◌, ◌-◌, ◌<◌, ◌≤◌, inl, inr, Bool, true, false, List, [], ◌∷◌, ◌++◌}
-use Rattle.std.proofs.Common.{length, take, drop, set, get_or, min, sym, ap, ◌∙◌, subst, arith, append_assoc}
+use Rattle.std.proofs.Common.{length, take, drop, set, get_or, sym, ap, ◌∙◌, subst, arith, append_assoc}
 use Rattle.std.specs.Prelude.{◌==◌, nat_lt, not, if◌then◌else◌, slice_range, Option, Some, None}
 use Rattle.std.specs.Option.{unwrap_or}
 use Rattle.std.specs.Io.KnownBytes.{prepend_known}
@@ -8,7 +8,7 @@ use Rattle.std.specs.List.{position, position_or_len}
 use Rattle.std.proofs.lemmas.Bool.{cases_lt, false≢true}
 use Rattle.std.proofs.lemmas.List.{take_more, take_more_set, drop_more, drop-take, drop-drop, take-append-drop}
 use Rattle.std.proofs.lemmas.List.{length-take, length-drop, get_or-drop}
-use Rattle.std.proofs.lemmas.List.Sums.{fails_before_first, passes_at_first, position_or_len_is, prefix_len-le-length}
+use Rattle.std.proofs.lemmas.List.Sums.{fails_before_first, passes_at_first, prefix_len-le-length}
 use Rattle.std.proofs.Math.Seq.{take-add}
 use Rattle.paw_base.specs.Bytes.{Bytes}
 use Rattle.paw_stage.specs.inner.LineParts.{HasNoEnd, KeepsPart, Gathers, line_end}

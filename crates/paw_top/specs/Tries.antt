@@ -1,5 +1,5 @@
 -- How a trial ends, and what it leaves.
-use Rattle.std.specs.Prelude.{◌≡◌, ℕ, List, Some}
+use Rattle.std.specs.Prelude.{◌≡◌, ℕ, List}
 use Rattle.paw_stage.specs.Stage.{Standing}
 use Rattle.paw_effects.specs.declared.act.Prompt.{Prompt}
 use Rattle.paw_reading.specs.declared.frames.Frame.{Frame}

@@ -1,5 +1,5 @@
 -- Steps of a player that are halts.
-use Rattle.std.proofs.Common.{◌≡◌, Bool, true, false, List, Some, ap, ◌∙◌, subst}
+use Rattle.std.proofs.Common.{◌≡◌, true, false, List, Some, ap, ◌∙◌, subst}
 use Rattle.paw_base.specs.Bytes.{Texts, Lines}
 use Rattle.paw_effects.specs.Story.{Story}
 use Rattle.paw_reading.specs.Run.{StepRow}

@@ -9,7 +9,7 @@ use Rattle.paw_base.specs.declared.parts.Condact.{Condact}
 use Rattle.paw_game.specs.declared.parts.Entry.{Entry}
 use Rattle.paw_game.specs.Valid.{is_wildcard}
 use Rattle.paw_check.specs.Calls.{is_call_of}
-use Rattle.paw_check.specs.Costs.{with_call, counting}
+use Rattle.paw_check.specs.Costs.{counting}
 
 -- ---- numbers ----
 

@@ -1,11 +1,10 @@
 -- What the code keeps of a game's texts, and what each condact takes by it.
-use Rattle.std.specs.Prelude.{◌≡◌, ℕ, ◌+◌, ◌==◌, List, [], sum_by, slice_get, if◌then◌else◌}
+use Rattle.std.specs.Prelude.{ℕ, ◌+◌, ◌==◌, List, [], sum_by, slice_get, if◌then◌else◌}
 use Rattle.std.specs.List.{slice_index_or}
 use Rattle.std.specs.Option.{unwrap_or}
 use Rattle.paw_base.specs.Bytes.{Text, Texts}
 use Rattle.paw_base.specs.declared.parts.Condact.{Condact}
 use Rattle.paw_base.specs.Condacts.{is_indirect, plain_code}
-use Rattle.paw_game.specs.Game.{GameLists}
 use Rattle.paw_check.specs.declared.own.Own.{Own}
 use Rattle.paw_check.specs.declared.own.Own.TheVariants as own
 use Rattle.paw_check.specs.declared.prints.Printed.{Printed}

@@ -1,5 +1,5 @@
 -- The places of a game: definitions for contracts and proofs, besides those of specs/Worlds.antt.
-use Rattle.std.specs.Prelude.{ℕ, length, Option, IfSome, IsTrue, All}
+use Rattle.std.specs.Prelude.{length, Option, IfSome, IsTrue, All}
 use Rattle.paw_base.specs.Bytes.{ObjectPlaces}
 use Rattle.paw_game.specs.Game.{GameLists}
 use Rattle.paw_game.specs.Valid.{is_place}

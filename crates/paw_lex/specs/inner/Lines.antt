@@ -1,6 +1,5 @@
 -- The lines of a source: definitions for contracts and proofs, besides those of specs/Lines.antt.
 use Rattle.std.specs.Prelude.{◌≡◌, ℕ, ◌≤◌, ◌⊎◌, [], ◌∷◌, length, slice_range}
-use Rattle.std.specs.Str.Lines.{lines}
 use Rattle.paw_base.specs.Bytes.{Bytes, Lines}
 use Rattle.paw_lex.specs.declared.lines.Line.{Line}
 

@@ -1,7 +1,7 @@
 -- What a player's answers mean in the reading.
 use Rattle.std.specs.Prelude.{◌≡◌, List, [], ◌∷◌, ◌++◌, reverse}
 use Rattle.paw_base.specs.Bytes.{Lines, Seed, Text, Texts}
-use Rattle.std.specs.Prelude.{◌≡◌, ℕ, Bool, true, List, [], ◌∷◌, ◌++◌, reverse, Option, Some, None, MatchOption}
+use Rattle.std.specs.Prelude.{◌≡◌, Bool, true, List, [], ◌∷◌, ◌++◌, reverse, Option, Some, None, MatchOption}
 use Rattle.std.specs.Prelude.{MatchBool}
 use Rattle.std.specs.Option.{option_map_or}
 use Rattle.paw_base.specs.declared.words.TheConstants.{NO_WORD}

@@ -1,11 +1,11 @@
 -- The world of a game: definitions for contracts and proofs, besides those of specs/World.antt.
-use Rattle.std.specs.Prelude.{◌≡◌, ℕ, ◌-◌, ◌≤◌, not, List, length, Option, None, Some, slice_index, slice_set}
+use Rattle.std.specs.Prelude.{◌≡◌, ℕ, ◌≤◌, List, length, Option, None, Some, slice_index, slice_set}
 use Rattle.std.specs.Option.{option_map_or}
 use Rattle.paw_base.specs.Bytes.{Bytes, ObjectPlaces}
 use Rattle.paw_base.specs.declared.limits.TheConstants.{OBJECT_LIMIT, FLAG_COUNT}
 use Rattle.paw_base.specs.declared.parts.ObjectFacts.{ObjectFacts}
 use Rattle.paw_world.specs.inner.Places.{least_at, left_above}
-use Rattle.paw_world.specs.World.{Position, World, flag, place, first_carried, flags_with, kept_position}
+use Rattle.paw_world.specs.World.{Position, World, first_carried, flags_with, kept_position}
 use Rattle.paw_world.specs.World.{IsSavedFor, AreSavedFor}
 
 -- The flags at the start of a game with these objects.

@@ -1,4 +1,4 @@
-use Rattle.std.proofs.Common.{◌≡◌, ℕ, ◌<◌, ◌%◌, ◌∙◌, length, ap, arith}
+use Rattle.std.proofs.Common.{ℕ, ◌<◌, ◌%◌, ◌∙◌, length, ap, arith}
 use Rattle.paw_base.specs.declared.codes.TheConstants.{INDIRECT}
 use Rattle.paw_base.specs.declared.rows.TheConstants.{CONDACTS}
 use Rattle.paw_base.specs.Condacts.{CondactLine}

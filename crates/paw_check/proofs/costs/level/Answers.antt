@@ -1,4 +1,4 @@
-use Rattle.std.proofs.Common.{◌≡◌, ap, ◌∙◌, sym, arith, get_or, length, [], rules}
+use Rattle.std.proofs.Common.{◌≡◌, ap, ◌∙◌, length, [], rules}
 use Rattle.std.proofs.lemmas.Option.{unwrap_or-slice_get}
 use Rattle.paw_game.specs.Game.{GameLists}
 use Rattle.paw_check.specs.inner.Capped.{in_32_bits}

@@ -1,4 +1,4 @@
-use Rattle.std.proofs.Common.{◌∙◌, sym, arith}
+use Rattle.std.proofs.Common.{◌∙◌, sym}
 use Rattle.paw_check.proofs.DecidingLaws.{too_many, too_long, in_bounds}
 use Rattle.paw_check.proofs.deciding.bound_or_cause.Goals as goal
 

@@ -1,5 +1,4 @@
-use Rattle.std.proofs.Common.{◌≡◌, ◌∙◌, sym, ap, Some, None}
-use Rattle.paw_base.specs.declared.limits.TheConstants.{LEVEL_LIMIT}
+use Rattle.std.proofs.Common.{◌≡◌, ◌∙◌, sym, ap}
 use Rattle.paw_game.specs.Game.{GameLists}
 use Rattle.paw_check.specs.Verdicts.{bounds}
 use Rattle.paw_check.specs.declared.spots.Wanted.TheVariants as wanted

@@ -1,4 +1,4 @@
-use Rattle.std.proofs.Common.{◌≡◌, ap, ◌∙◌, max, drop, map, ℕ, List, ◌+◌, []}
+use Rattle.std.proofs.Common.{ap, ◌∙◌, max, drop, map, ℕ, List, ◌+◌, []}
 use Rattle.std.proofs.lemmas.Option.{unwrap_or-slice_get}
 use Rattle.paw_check.specs.Measures.{greatest}
 use Rattle.paw_check.specs.inner.Capped.{in_32_bits}

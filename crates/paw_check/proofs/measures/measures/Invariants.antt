@@ -1,6 +1,3 @@
-use Rattle.std.proofs.Common.{◌≡◌, ℕ, ◌<◌, ◌≤◌, length}
-use Rattle.std.specs.List.{slice_index_or}
-use Rattle.paw_check.specs.inner.Capped.{in_32_bits}
 use Rattle.paw_check.specs.inner.Own.{measure_at}
 use Rattle.paw_check.proofs.Rows.{HoldsUpTo}
 use Rattle.paw_check.proofs.measures.measures.Given as goal

@@ -1,4 +1,4 @@
-use Rattle.std.proofs.Common.{◌≡◌, ◌*◌}
+use Rattle.std.proofs.Common.{◌*◌}
 use Rattle.std.specs.List.{slice_index_or}
 use Rattle.paw_check.specs.inner.Capped.{cell_at}
 use Rattle.paw_check.proofs.RangeSums.{range_one_more}

@@ -1,6 +1,3 @@
-use Rattle.std.proofs.Common.{◌≡◌, ◌+◌, ℕ, cond, take, get_or, refl}
-use Rattle.std.specs.Prelude.{count_by}
-use Rattle.paw_check.specs.Calls.{is_call_of}
 use Rattle.paw_check.proofs.Rows.{counts_more, counts_all}
 use Rattle.paw_check.proofs.sums.count_calls.Goals as goal
 

@@ -1,6 +1,4 @@
 use Rattle.std.proofs.Common.{refl}
-use Rattle.std.specs.Prelude.{count_by}
-use Rattle.paw_check.specs.inner.Capped.{is_doall, over_verb}
 use Rattle.paw_check.proofs.Rows.{holds_none}
 use Rattle.paw_check.proofs.sums.verb_doalls.Goals as goal
 

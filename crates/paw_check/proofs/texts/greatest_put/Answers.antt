@@ -1,4 +1,4 @@
-use Rattle.std.proofs.Common.{◌≡◌, ap, ◌∙◌, max, drop, map, ℕ, ◌+◌}
+use Rattle.std.proofs.Common.{ap, ◌∙◌, max, drop, map, ℕ, ◌+◌}
 use Rattle.std.specs.List.{slice_index_or}
 use Rattle.paw_check.specs.Measures.{greatest}
 use Rattle.paw_check.proofs.Greatest.{mapped_more, mapped_all}

@@ -1,4 +1,3 @@
-use Rattle.std.proofs.Common.{arith}
 use Rattle.paw_check.specs.inner.Found.{found_taken}
 use Rattle.paw_check.proofs.Rows.{upto_none, upto_more, upto_all}
 use Rattle.paw_check.proofs.sums.TableSums.row.Goals as goal
