@@ -2,7 +2,8 @@
 
 ghost use Rattle.std.specs.Prelude.{◌≡◌, ◌≤◌, ◌&&◌, ◌==◌, IfOk, false, length, nat_lt, slice_get, slice_index, true};
 ghost use Rattle.std.specs.List.Sorted.{IsNonDecreasing, IsPartitionPoint, IsPermutation};
-ghost use Rattle.paw_image.specs.inner.Orders.{is_indexed_for, is_match, is_pair, indexed_word, lower, entry_rank, ranks_at};
+ghost use Rattle.paw_image.specs.inner.Orders.{is_indexed_for, is_match, is_pair, indexed_word, lower};
+ghost use Rattle.paw_image.specs.inner.Orders.{entry_rank, ranks_at};
 ghost use Rattle.paw_image.specs.inner.Orders.{AreStarts, IsBefore, IsLeast, IsMatch, IsNextAny, IsOrder, IsRun};
 ghost use Rattle.paw_image.specs.inner.Orders.{IsSorted, IsStart};
 
@@ -24,7 +25,7 @@ pub struct Order {
     pub next_any: Vec<u16>,
 }
 
-// The word that is kept of an entry's word: the same for both words that match any.
+// The word that stands in the index for an entry's word: the same for both words that match any.
 fn indexed_word(word: u8) -> u8
     ensures value { result ≡ indexed_word word }
 {
@@ -71,7 +72,7 @@ fn sorted_ranks(alloc: Global, bytes: &[u8], offsets: &[u32]) -> Result<Vec<u32>
     ensures few { IfOk result (λ v. length v.items ≤ ENTRY_LIMIT) }
 {
     let mut ranks = ranks_at(alloc, bytes, offsets)?;
-    // The entries of a game mostly stand in runs that rise, which this sort finds and only merges.
+    // This sort finds the runs that rise already, and only merges them.
     ranks.sort()?;
     Ok(ranks)
 }
@@ -205,8 +206,8 @@ fn lower(first: Option<u16>, second: Option<u16>) -> Option<u16>
     }
 }
 
-// The least entry not below `from` that is kept with this verb, and whose noun matches. Where the
-// sentence has no noun, one search is enough: both would be the same.
+// The least entry not below `from` that has this verb in the index, and whose noun matches. Where the sentence has no
+// noun only entries for any noun match, so one search is enough.
 fn first_for(order: &Order, verb: u8, noun: u8, from: u16) -> Option<u16>
     requires sorted { IsSorted order.now }
     ensures least { IsLeast (IsMatch order.now.ranks.items (λ v n. (v == verb) && is_indexed_for n noun) from) result }
@@ -231,7 +232,8 @@ fn any_from(order: &Order, from: u16) -> Option<u16>
 // matches any noun too, as most do that come next in games.
 fn first_for_any(order: &Order, noun: u8, from: u16) -> Option<u16>
     requires sorted { IsSorted order.now }
-    ensures least { IsLeast (IsMatch order.now.ranks.items (λ v n. (v == NO_WORD) && is_indexed_for n noun) from) result }
+    ensures least { IsLeast
+        (IsMatch order.now.ranks.items (λ v n. (v == NO_WORD) && is_indexed_for n noun) from) result }
 {
     let none = any_from(order, from);
     let run = run_of(&order.ranks, &order.starts, NO_WORD);

@@ -13,7 +13,7 @@ use Rattle.paw_image.specs.inner.Images.{EachIsByte}
 
 -- ---- ranks ----
 
--- The word that is kept of an entry's word: the same for both words that match any.
+-- The word that stands in the index for an entry's word: the same for both words that match any.
 abbrev pub indexed_word : ℕ → ℕ
 indexed_word word = if is_wildcard word then NO_WORD else word
 
@@ -25,7 +25,8 @@ entry_rank verb noun entry = (verb * 256 + noun) * 65536 + entry
 abbrev pub ranks_at : Bytes → ℕ → List ℕ → List ℕ
 ranks_at bytes n [] = []
 ranks_at bytes n (p ∷ ps) =
-    entry_rank (indexed_word (slice_index bytes p)) (indexed_word (slice_index bytes (p + 1))) n ∷ ranks_at bytes (suc n) ps
+    entry_rank (indexed_word (slice_index bytes p)) (indexed_word (slice_index bytes (p + 1))) n
+    ∷ ranks_at bytes (suc n) ps
 
 -- The same for entries.
 abbrev pub ranks_of : ℕ → List Entry → List ℕ
@@ -61,11 +62,11 @@ abbrev pub IsLeast : (ℕ → Type 0) → Option ℕ → Type 0
 IsLeast P None = (e : ℕ) → P e → ⊥
 IsLeast P (Some e) = P e × ((f : ℕ) → P f → e ≤ f)
 
--- Whether a word that was kept matches the value of a flag.
+-- Whether a word of the index matches the value of a flag.
 abbrev pub is_indexed_for : ℕ → ℕ → Bool
 is_indexed_for word flag = (word == NO_WORD) || (word == flag)
 
--- Whether a verb and a noun that were kept match this verb and noun.
+-- Whether a verb and a noun of the index match this verb and noun.
 abbrev pub is_match : ℕ → ℕ → ℕ → ℕ → Bool
 is_match verb noun v n = is_indexed_for v verb && is_indexed_for n noun
 
@@ -73,7 +74,7 @@ is_match verb noun v n = is_indexed_for v verb && is_indexed_for n noun
 abbrev pub is_pair : ℕ → ℕ → ℕ → ℕ → Bool
 is_pair verb noun v n = (v == verb) && (n == noun)
 
--- An entry that isn't below `from`, of which a verb and a noun were kept with a property.
+-- An entry that isn't below `from`, whose verb and noun in the index have a property.
 pub record IsMatch (ranks : List ℕ) (has : ℕ → ℕ → Bool) (from e : ℕ) : Type 0 where
   pub reached : from ≤ e
   pub verb : ℕ
