@@ -103,7 +103,8 @@ pub(crate) fn write_and_sync<S: Stage>(
 ) -> Result<(), StageCall>
     requires attached { S.Tells stage.old → IsSome (S.standing stage.old).attached }
     requires within { S.Tells stage.old → at ≤ length (S.standing stage.old).disk.bytes }
-    ensures call { WritesStore S.Stage result (HoldsPut at bytes.now) (InWriteAndSync at bytes.now) stage.old stage.new }
+    ensures call { WritesStore S.Stage result (HoldsPut at bytes.now) (InWriteAndSync at bytes.now)
+        stage.old stage.new }
     ensures few { IfTelling S.Stage stage.old stage.new (WritesAtMost (length bytes.now)) }
 {
     write(stage, at, bytes)?;

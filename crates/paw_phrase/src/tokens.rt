@@ -14,8 +14,8 @@ pub(crate) struct Lexeme {
     pub(crate) end: usize,
 }
 
-/// What each byte is in a token: a digit, or a letter as a capital; 0 for a byte that ends one. It is a table because one
-/// look-up takes less than comparisons for each byte of a line.
+/// What each byte is in a token: a digit, or a letter as a capital; 0 for a byte that ends one. It is a table because
+/// one look-up takes less than comparisons for each byte of a line.
 static LETTER_OF_BYTE: [u8; 256] = [
     0, 0, 0, 0, 0, 0, 0, 0, 0, 0, 0, 0, 0, 0, 0, 0, 0, 0, 0, 0, 0, 0, 0, 0, 0, 0, 0, 0, 0, 0, 0, 0,
     0, 0, 0, 0, 0, 0, 0, 0, 0, 0, 0, 0, 0, 0, 0, 0, 48, 49, 50, 51, 52, 53, 54, 55, 56, 57, 0, 0,

@@ -238,7 +238,8 @@ impl<T: Tables, F: Fn(u8, u8) -> u8> StoryReader<'_, T, F> {
             (Left acted (looping world.old machine.old.turning r)))
             result machine.new.frames (looping world.new machine.new.turning r) }
         ensures after { HasMoved (T.game self.now.tables.now) machine.old world.old result machine.new world.new }
-        ensures falls { machine_work machine.new ≤ frames_work (below machine.old.frames) + loop_work machine.old.turning }
+        ensures falls { machine_work machine.new
+            ≤ frames_work (below machine.old.frames) + loop_work machine.old.turning }
     {
         let level = machine.depth() - 1;
         match machine.turning() {

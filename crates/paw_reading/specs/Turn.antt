@@ -98,9 +98,9 @@ at_main g go r (line ∷ lines) =
     else if is_timeout line then saying (timeout_text g.game r.world) (go AtTimeFrame) (with_line_heard line s)
     else go AtPhrase (record s { world = with_timeout false r.world; pending = line; earlier = NO_WORD })
 
--- How a turn goes on with the next phrase. A sentence counts a turn and is responded to. For a phrase with no known word
--- a message is shown, and the rest of the line is dropped. Where no phrase is left the prompt is shown, the piece is
--- closed, and a line is awaited.
+-- How a turn goes on with the next phrase. A sentence counts a turn and is responded to. For a phrase with no known
+-- word a message is shown, and the rest of the line is dropped. Where no phrase is left the prompt is shown, the piece
+-- is closed, and a line is awaited.
 abbrev pub after_phrase : Story → (TurnPhase → Sequel) → Run → Parsed → Ending
 after_phrase g go r (IsSentence s rest) =
     go AtResponse (with_world (turn_counted (taken_phrase s rest r).world) (taken_phrase s rest r))

@@ -103,8 +103,8 @@ impl<R: Read + Drop> LineReader<R> {
         self.read_on(into, begun)
     }
 
-    // Goes on with the line that is being read, of which nothing may have been taken yet, by reading until its end comes. One read
-    // of a file gives many lines; at a terminal each comes through here, after a wait for the player.
+    // Goes on with the line that is being read, of which nothing may have been taken yet, by reading until its end
+    // comes. One read of a file gives many lines; at a terminal each comes through here, after a wait for the player.
     #[cold]
     fn read_on(
         &mut self,
@@ -133,8 +133,8 @@ impl<R: Read + Drop> LineReader<R> {
         Ok(Some(begun.len))
     }
 
-    // Takes the bytes of the line being read that were read ahead, and its LF where that is among them. Gives whether it
-    // is.
+    // Takes the bytes of the line being read that were read ahead, and its LF where that is among them. Gives whether
+    // it is.
     fn take_part(&mut self, into: &mut [u8; LINE_LIMIT], begun: &mut LineBegun) -> bool
         requires short { begun.old.len < longest_line + 2 }
         ensures line { (first : Option Bytes) →
@@ -155,7 +155,7 @@ impl<R: Read + Drop> LineReader<R> {
     }
 }
 
-// Keeps the bytes before the first LF, or all where there is none, after those that were taken of the line being read, as
+// Copies the bytes before the first LF, or all where there is none, to those that were taken of the line being read, as
 // far as they are among its first 255. Gives how many they are. It looks for the LF while it copies, so that most lines
 // are gone over once.
 fn keep_line(bytes: &[u8], into: &mut [u8; LINE_LIMIT], taken: u32) -> usize

@@ -124,7 +124,8 @@ with_session comes moments = record {
 abbrev pub meaning : Command → CommandMeaning
 meaning (Compile source image) =
     storeless (call.Save ∷ call.Show ∷ load_calls) (memory_at.Source ∷ load_memory) (λ answers. Compiles source image)
-meaning (Decompile image) = storeless (call.Show ∷ load_calls) (memory_at.Print ∷ load_memory) (λ answers. Decompiles image)
+meaning (Decompile image) =
+    storeless (call.Show ∷ load_calls) (memory_at.Print ∷ load_memory) (λ answers. Decompiles image)
 meaning (Walk image seed) =
     storeless (load_calls ++ walk_calls) (memory_at.Play ∷ load_memory) (λ answers. WalksAs reading answers image seed)
 meaning (Play image store seed) =
@@ -137,7 +138,8 @@ meaning (Trace image seed) =
     (λ answers. WalksAs reading_traced answers image seed)
 meaning (Trial n) = storeless (call.Show ∷ []) (memory_at.Trial ∷ []) (λ answers. Tries n)
 meaning (Check image) = storeless (call.Show ∷ load_calls) (memory_at.Check ∷ load_memory) (λ answers. Checks image)
-meaning (Wrap width text) = storeless (call.Show ∷ load_calls) (memory_at.Wrap ∷ load_memory) (λ answers. Wraps width text)
+meaning (Wrap width text) =
+    storeless (call.Show ∷ load_calls) (memory_at.Wrap ∷ load_memory) (λ answers. Wraps width text)
 
 -- ---- from words to a command ----
 

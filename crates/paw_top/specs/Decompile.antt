@@ -14,7 +14,8 @@ use Rattle.paw_top.specs.declared.outcome.MemoryAt.TheVariants as memory
 
 -- How a command that shows a text of a game ends, and what it leaves. The text follows from the game, and memory may be
 -- lacking for it.
-pub data ShowsTextOf (text_of : GameLists → Text) (at : MemoryAt) (name : Name) (old new : Standing) : Outcome → Type 0 where
+pub data ShowsTextOf (text_of : GameLists → Text) (at : MemoryAt) (name : Name) (old new : Standing)
+    : Outcome → Type 0 where
   -- The file is the image of a game, and its text was shown.
   done : (g : GameLists) → Holds old name g → new ≡ with_shown (text_of g) old →
       ShowsTextOf text_of at name old new outcome.Done

@@ -25,8 +25,8 @@ KeepsPart old new taken count bytes =
     take (bytes_kept (taken + count)) new
     ≡ take (bytes_kept taken) old ++ take (bytes_kept (taken + count) - bytes_kept taken) bytes
 
--- Of the line being read this number of bytes was taken from the first bytes, with no LF among them. Their first 255 stand
--- in a buffer, and `ends_with_return` says that the last of them is a CR.
+-- Of the line being read this number of bytes was taken from the first bytes, with no LF among them. Their first 255
+-- stand in a buffer, and `ends_with_return` says that the last of them is a CR.
 pub record Gathers (first left : Option Bytes) (into : Bytes) (len : ℕ) (ends_with_return : Bool) : Type 0 where
   pub taken : Bytes
   pub consumed : Consumes first left taken

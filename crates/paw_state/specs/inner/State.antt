@@ -37,7 +37,8 @@ abbrev pub StateOfParts : Type 0
 StateOfParts =
     (line_count : ℕ) (at : Prompt) (m : OpenTables) (r : Run) → r.turning ≡ m.turning →
     state_at line_count at (reverse m.frames) r
-    ≡ state_of r.world m (record { bytes = r.pending; earlier = r.earlier }) at line_count (length (last_piece r.pieces))
+    ≡ state_of r.world m (record { bytes = r.pending; earlier = r.earlier })
+    at line_count (length (last_piece r.pieces))
 
 -- The state of these fields.
 abbrev pub state_in : GameLists → Fields → State
