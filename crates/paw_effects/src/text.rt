@@ -25,6 +25,10 @@ fn split_at_underscore(text: &[u8]) -> Option<(&[u8], &[u8])>
         with_name name text.now ≡ (p.0.now ++ name) ++ with_name name p.1.now) }
     ensures shorter { IfSome result (λ p. length p.1.now < length text.now) }
 {
+    // Most texts have none, which `contains` says soonest: it goes over many bytes at a time in short texts too.
+    if !text.contains(&b'_') {
+        return None;
+    }
     let at = memchr(b'_', text)?;
     Some((&text[..at], &text[at + 1..]))
 }
@@ -53,8 +57,13 @@ fn object_text<T: Tables>(tables: &T, o: u8) -> &[u8]
     text_of(tables, GamePart::Objects, o)
 }
 
-// Prints a text with the text of the object last referred to in place of each underscore.
-fn print_with_name<T: Tables>(tables: &T, world: &World, piece: &mut Piece, text: &[u8]) -> bool
+/// Prints a text as a game prints it: with the text of the object last referred to in place of each underscore.
+pub(crate) fn print_text<T: Tables>(
+    tables: &T,
+    world: &World,
+    piece: &mut Piece,
+    text: &[u8],
+) -> bool
     ensures puts { Puts piece.old piece.new result (printed_text (T.game tables.now) world.now text.now) }
 {
     let mut rest = text;
@@ -66,23 +75,6 @@ fn print_with_name<T: Tables>(tables: &T, world: &World, piece: &mut Piece, text
         rest = after;
     }
     piece.push(rest)
-}
-
-/// Prints a text as a game prints it: with the text of the object last referred to in place of each underscore.
-pub(crate) fn print_text<T: Tables>(
-    tables: &T,
-    world: &World,
-    piece: &mut Piece,
-    text: &[u8],
-) -> bool
-    ensures puts { Puts piece.old piece.new result (printed_text (T.game tables.now) world.now text.now) }
-{
-    // Most texts have no underscore, and are printed whole.
-    if text.contains(&b'_') {
-        print_with_name(tables, world, piece, text)
-    } else {
-        piece.push(text)
-    }
 }
 
 /// Prints a text and a newline; nothing where it is empty.

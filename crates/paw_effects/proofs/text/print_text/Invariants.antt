@@ -1,6 +1,6 @@
 use Rattle.std.proofs.Common.{◌≡◌, ◌++◌, length}
 use Rattle.paw_effects.specs.Texts.{printed_text}
-use Rattle.paw_effects.proofs.text.print_with_name.Given as goal
+use Rattle.paw_effects.proofs.text.print_text.Given as goal
 
 -- What the piece holds, and what is still to print, are the whole.
 abbrev pub invariant-loop-before : goal.invariant-loop-before
