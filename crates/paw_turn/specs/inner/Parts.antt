@@ -1,13 +1,14 @@
 -- The parts of a player: what is lent of it, and a player that stands with such parts.
 use Rattle.std.specs.Prelude.{◌≡◌, ℕ, ◌<◌, List, [], None, length, reverse}
 use Rattle.paw_base.specs.Bytes.{Lines, Text, Texts}
+use Rattle.paw_base.specs.declared.limits.TheConstants.{STEP_LIMIT}
 use Rattle.paw_base.specs.inner.Steps.{KeptSteps}
 use Rattle.paw_game.specs.Game.{GameLists}
 use Rattle.paw_world.specs.World.{World}
 use Rattle.paw_phrase.specs.Pending.{PendingLine}
+use Rattle.paw_routines.specs.declared.routines.Routines.{Routines}
 use Rattle.paw_effects.specs.declared.act.Prompt.{Prompt}
 use Rattle.paw_effects.specs.declared.act.Prompt.TheVariants as prompt
-use Rattle.paw_routines.specs.declared.routines.Routines.{Routines}
 use Rattle.paw_effects.specs.inner.Standing.{IsWorldOf}
 use Rattle.paw_effects.specs.Story.{Story}
 use Rattle.paw_reading.specs.Run.{StepRow}
@@ -15,11 +16,8 @@ use Rattle.paw_reading.specs.Turn.{going_on_from}
 use Rattle.paw_reading.specs.Bounds.{IsLine}
 use Rattle.paw_process.specs.declared.machine.TheConstants.{MOST_FRAMES}
 use Rattle.paw_process.specs.inner.OpenTables.{OpenTables}
-use Rattle.paw_process.specs.inner.Kept.{machine_kept}
-use Rattle.paw_process.specs.inner.Kept.{frames_fault}
-use Rattle.paw_base.specs.declared.limits.TheConstants.{STEP_LIMIT}
 use Rattle.paw_process.specs.inner.OpenTables.{refilled_to_keep}
-use Rattle.paw_process.specs.inner.Kept.{machine_restored, waiting_at}
+use Rattle.paw_process.specs.inner.Kept.{machine_kept, frames_fault, machine_restored, waiting_at}
 use Rattle.paw_process.specs.inner.Kept.{WaitsAtPrompt as MachineStandsAt}
 use Rattle.paw_process.specs.declared.kept.Frames.{Frames}
 use Rattle.paw_turn.specs.declared.Step.{Step}
