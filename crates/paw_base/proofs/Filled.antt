@@ -1,5 +1,5 @@
 -- Names that are filled up with spaces.
-use Rattle.std.proofs.Common.{◌≡◌, ℕ, zero, suc, ◌-◌, ◌≤◌, ◌==◌, Bool, true, false, not, ◌&&◌, ◌||◌, List, [], ◌∷◌}
+use Rattle.std.proofs.Common.{◌≡◌, ℕ, zero, suc, ◌-◌, ◌≤◌, ◌==◌, Bool, true, false, not, ◌&&◌, ◌||◌, [], ◌∷◌}
 use Rattle.std.proofs.Common.{◌++◌, length}
 use Rattle.std.proofs.Common.{drop, replicate, nat_le, refl, sym, ap, ◌∙◌, bytes_eq, arith}
 use Rattle.std.specs.List.{list_any, prefix_len}
@@ -10,11 +10,11 @@ use Rattle.std.proofs.lemmas.List.{map-append, drop-replicate}
 use Rattle.std.proofs.Math.ListN.{length-map}
 use Rattle.std.proofs.Math.Numerals.{one-add}
 use Rattle.std.proofs.Math.Seq.{take-append_seam}
-use Rattle.paw_base.specs.Bytes.{Name}
+use Rattle.paw_base.specs.Bytes.{Name, Bytes}
 use Rattle.paw_base.specs.Condacts.{capitals}
 use Rattle.paw_base.specs.inner.Condacts.{filled_up, before_space, is_plain}
 
-abbrev pub has_space : List ℕ → Bool
+abbrev pub has_space : Name → Bool
 has_space name = list_any (λ byte. byte == 32) name
 
 split_plain : (short spaced : Bool) → (short && not spaced) ≡ true → spaced ≡ false
@@ -45,10 +45,10 @@ pub before_space-filled_up : (name : Name) → has_space name ≡ false → befo
 before_space-filled_up name h =
     rw (prefix_len-filled name (8 - length name) h) (take-append_seam name (replicate (8 - length name) 32))
 
-filled_up_same : (a b : List ℕ) → has_space a ≡ false → has_space b ≡ false → filled_up a ≡ filled_up b → a ≡ b
+filled_up_same : (a b : Name) → has_space a ≡ false → has_space b ≡ false → filled_up a ≡ filled_up b → a ≡ b
 filled_up_same a b ha hb e = sym (before_space-filled_up a ha) ∙ ap before_space e ∙ before_space-filled_up b hb
 
-pub bytes_eq-filled_up : (a b : List ℕ) → has_space a ≡ false → has_space b ≡ false → bytes_eq (filled_up a) (filled_up b) ≡ bytes_eq a b
+pub bytes_eq-filled_up : (a b : Name) → has_space a ≡ false → has_space b ≡ false → bytes_eq (filled_up a) (filled_up b) ≡ bytes_eq a b
 bytes_eq-filled_up a b ha hb =
     same_from_decides (bytes_eq (filled_up a) (filled_up b)) (bytes_eq a b)
     (Decides-like (bytes_eq (filled_up a) (filled_up b)) (filled_up_same a b ha hb) (λ e. ap filled_up e) (bytes_eq-Decides (filled_up a) (filled_up b)))
@@ -84,6 +84,6 @@ capitals-filled_up name =
 pub is_plain_from : (name : Name) → length name ≤ 8 → has_space name ≡ false → is_plain name ≡ true
 is_plain_from name short none = grind (arith, nat_tests)
 
-pub filled_in_code : (name copied filled : List ℕ) → copied ≡ name
+pub filled_in_code : (name copied : Name) (filled : Bytes) → copied ≡ name
     → filled ≡ capitals (copied ++ drop (length name) (replicate 8 32)) → filled ≡ filled_up (capitals name)
 filled_in_code name copied filled c f = rw (f, c) (capitals-filled_up name)

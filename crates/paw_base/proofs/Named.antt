@@ -16,7 +16,7 @@ use Rattle.paw_base.specs.Condacts.{CondactLine, no_line, condact_lines, plain_l
 use Rattle.paw_base.specs.Condacts.{code_named, is_indirect}
 use Rattle.paw_base.specs.inner.Condacts.{filled_up, HasName, IsPlainCode, is_plain}
 
-abbrev code_with : List ℕ → Option ℕ
+abbrev code_with : Name → Option ℕ
 code_with name = position (λ line. bytes_eq line.name name) condact_lines
 
 -- ---- no two codes have one name
@@ -83,7 +83,7 @@ none_unless (Some code) h = absurd (h code refl)
 has_no_code : (name : Name) → is_plain name ≡ false → (code : ℕ) → code_named name ≡ Some code → ⊥
 has_no_code name h code e =
     let has = code_named_found name code e in
-    let plain : is_plain (capitals name) ≡ true = subst (λ (s : List ℕ). is_plain s ≡ true) has.1 (is_plain-name_of code (plain_is code has.0)) in
+    let plain : is_plain (capitals name) ≡ true = subst (λ (s : Name). is_plain s ≡ true) has.1 (is_plain-name_of code (plain_is code has.0)) in
     let capital = is_plain-capitals name in
     cc
 

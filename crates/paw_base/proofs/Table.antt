@@ -1,6 +1,6 @@
 -- The table of condacts: as the code holds it, and what is true of each code.
 use Rattle.std.proofs.Common.{◌≡◌, ℕ, zero, suc, ◌-◌, ◌%◌, ◌≤◌, ◌<◌, ◌==◌, Bool, true, false, not, ◌&&◌, ◌||◌, inl, inr}
-use Rattle.std.proofs.Common.{subst, arith, Option, Some, None, SomeIff, List, length, map, refl, sym, ap, ◌∙◌, nat_le}
+use Rattle.std.proofs.Common.{subst, arith, Option, Some, None, SomeIff, length, map, refl, sym, ap, ◌∙◌, nat_le}
 use Rattle.std.proofs.Common.{nat_lt, bytes_eq}
 use Rattle.std.specs.Prelude.{if◌then◌else◌}
 use Rattle.std.specs.List.{slice_index_or, list_all}
@@ -9,6 +9,7 @@ use Rattle.std.proofs.lemmas.Bool.Decides.{Decides-below_and}
 use Rattle.std.proofs.lemmas.Bool.{eqb-true, leb-true, ltb-true, lt-ltb, le-ltb, lt-leb, le-leb, cases_lt, or_cases, and_parts}
 use Rattle.std.proofs.lemmas.Slice.Eq.{bytes_eq-Decides}
 use Rattle.std.proofs.lemmas.List.{get_or-map, get_or_past}
+use Rattle.paw_base.specs.Bytes.{Bytes}
 use Rattle.paw_base.proofs.Filled.{has_space-plain, before_space-filled_up}
 use Rattle.paw_base.specs.declared.rows.CondactRow.{CondactRow}
 use Rattle.paw_base.specs.declared.rows.ParamKind.{ParamKind}
@@ -23,7 +24,7 @@ use Rattle.paw_base.specs.inner.Condacts.{IsPlainCode, is_plain}
 -- ---- the code's table is the definition's
 
 abbrev pub Held : Type 0
-Held = List ℕ × ParamKind × ParamKind × Bool
+Held = Bytes × ParamKind × ParamKind × Bool
 
 abbrev pub held : CondactLine → Held
 held line = (filled_up line.name, line.first, line.second, line.acts)

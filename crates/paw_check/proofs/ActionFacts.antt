@@ -2,7 +2,7 @@
 -- with a word for each usual kind of action.
 use Rattle.std.proofs.Common.{◌≡◌, ℕ, ◌==◌, ◌<◌, ◌≤◌, Bool, true, false, List, [], ◌∷◌, Option, Some, None}
 use Rattle.std.proofs.Common.{refl, sym, subst, length, inl, arith}
-use Rattle.paw_base.specs.Bytes.{Texts}
+use Rattle.paw_base.specs.Bytes.{Texts, Text}
 use Rattle.paw_base.specs.declared.codes.TheConstants.{PARSE, DESC, SAVE, LOAD, RESET}
 use Rattle.paw_base.specs.declared.flags.TheConstants.{VERB_FLAG}
 use Rattle.paw_base.specs.declared.parts.Condact.{Condact}
@@ -101,7 +101,7 @@ abbrev pub Given : Type 0 → Type 0
 Given A = Story → World → Condact → A
 
 -- An action by its three parts.
-abbrev pub action : Given (List ℕ) → Given World → Given Act → Meaning
+abbrev pub action : Given Text → Given World → Given Act → Meaning
 action text world act = Acts (λ s w c. record { text = text s w c; world = world s w c; act = act s w c })
 
 -- ---- words for what is printed ----
@@ -117,7 +117,7 @@ prints why = record { within = why }
 -- ---- words for how the verb is left ----
 
 -- The world stays as it is.
-pub still : {code : ℕ} {text : Given (List ℕ)} {act : Given Act} → VerbLeft code (action text (λ s w c. w) act)
+pub still : {code : ℕ} {text : Given Text} {act : Given Act} → VerbLeft code (action text (λ s w c. w) act)
 still = record { kept = λ n s w c is spares of k. inl k }
 
 -- The verb is left for this reason.
@@ -165,7 +165,7 @@ set_second {code} {x} among = record {
 pub leads : {code : ℕ} {done : Given Done} → LeadsBy code (Acts done) → Way code (Acts done)
 leads why = record { led = why }
 
-module _ {code : ℕ} {text : Given (List ℕ)} {world : Given World} where
+module _ {code : ℕ} {text : Given Text} {world : Given World} where
   -- Reading goes on at the next condact, with the line as it is or without it.
   pub going : {line loop : Bool}
       → Way code (action text world (λ s w c. record { effect = effect.Go; drop_line = line; cancel_loop = loop }))

@@ -9,7 +9,7 @@ use Rattle.std.proofs.lemmas.Nat.{mul-le}
 use Rattle.std.proofs.lemmas.List.Filters.{sum_by-filter_both, length-filter_both}
 use Rattle.std.proofs.lemmas.List.FromFn.{length-range_with_len}
 use Rattle.std.proofs.lemmas.List.Sums.{sum_by-cons}
-use Rattle.paw_base.specs.Bytes.{Texts}
+use Rattle.paw_base.specs.Bytes.{Texts, Text}
 use Rattle.paw_base.specs.declared.messages.TheConstants.{SEEN_MESSAGE, INVENTORY_MESSAGE, IS_WORN_MESSAGE}
 use Rattle.paw_base.specs.declared.messages.TheConstants.{EMPTY_HANDED_MESSAGE}
 use Rattle.paw_base.specs.declared.flags.TheConstants.{LOCATION_FLAG}
@@ -31,21 +31,21 @@ use Rattle.paw_check.proofs.Lengths.{put_most, say_most}
 -- ---- sums ----
 
 -- The texts of these objects take so much.
-abbrev texts_take : (ℕ → List ℕ) → List ℕ → ℕ
+abbrev texts_take : (ℕ → Text) → List ℕ → ℕ
 texts_take f os = sum_by (λ o. length (f o)) os
 
-takes_more : (f : ℕ → List ℕ) (o : ℕ) (os : List ℕ) → texts_take f (o ∷ os) ≡ length (f o) + texts_take f os
+takes_more : (f : ℕ → Text) (o : ℕ) (os : List ℕ) → texts_take f (o ∷ os) ≡ length (f o) + texts_take f os
 takes_more f o os = sum_by-cons (λ (x : ℕ). length (f x)) o os
 
 -- Each text takes at most so much more.
-each_more : (f h : ℕ → List ℕ) (m : ℕ) → ((o : ℕ) → length (h o) ≤ length (f o) + m) → (os : List ℕ)
+each_more : (f h : ℕ → Text) (m : ℕ) → ((o : ℕ) → length (h o) ≤ length (f o) + m) → (os : List ℕ)
     → texts_take h os ≤ texts_take f os + length os * m
 each_more f h m more [] = omega arith
 each_more f h m more (o ∷ os) = omega (arith, more o, each_more f h m more os, takes_more f o os, takes_more h o os)
 
 -- ---- a list in lines, and as a sentence ----
 
-lines_most : (f : ℕ → List ℕ) (os : List ℕ) → length (as_lines (map f os)) ≤ texts_take f os + 5 * length os
+lines_most : (f : ℕ → Text) (os : List ℕ) → length (as_lines (map f os)) ≤ texts_take f os + 5 * length os
 lines_most f [] = omega arith
 lines_most f (o ∷ os) =
     omega (
@@ -60,7 +60,7 @@ joint_most : (texts : Texts) → length (joint texts) ≤ 5
 joint_most [] = omega arith
 joint_most (text ∷ texts) = omega arith
 
-others_most : (f : ℕ → List ℕ) (os : List ℕ) → length (others_joined (map f os)) ≤ texts_take f os + 5 * length os + 2
+others_most : (f : ℕ → Text) (os : List ℕ) → length (others_joined (map f os)) ≤ texts_take f os + 5 * length os + 2
 others_most f [] = omega arith
 others_most f (o ∷ os) =
     omega (
@@ -72,27 +72,27 @@ others_most f (o ∷ os) =
       length-append (joint (map f os)) (f o ++ others_joined (map f os)),
     )
 
-sentence_most : (f : ℕ → List ℕ) (os : List ℕ) → length (as_sentence (map f os)) ≤ texts_take f os + 5 * length os + 2
+sentence_most : (f : ℕ → Text) (os : List ℕ) → length (as_sentence (map f os)) ≤ texts_take f os + 5 * length os + 2
 sentence_most f [] = omega arith
 sentence_most f (o ∷ os) = omega (arith, others_most f os, takes_more f o os, length-append (f o) (others_joined (map f os)))
 
-either_most : (b : Bool) (x y : List ℕ) (n : ℕ) → length x ≤ n → length y ≤ n → length (if b then x else y) ≤ n
+either_most : (b : Bool) (x y : Text) (n : ℕ) → length x ≤ n → length y ≤ n → length (if b then x else y) ≤ n
 either_most true x y n h k = h
 either_most false x y n h k = k
 
-listed_most : (w : World) (f : ℕ → List ℕ) (os : List ℕ) → length (list_of w (map f os)) ≤ texts_take f os + 5 * length os + 2
+listed_most : (w : World) (f : ℕ → Text) (os : List ℕ) → length (list_of w (map f os)) ≤ texts_take f os + 5 * length os + 2
 listed_most w f os =
     let lines : length (as_lines (map f os)) ≤ texts_take f os + 5 * length os + 2 = omega (arith, lines_most f os) in
     either_most (lists_are_sentences w) (as_sentence (map f os)) (as_lines (map f os)) (texts_take f os + 5 * length os + 2)
     (sentence_most f os) lines
 
 -- A list, or what is said where it is empty.
-list_or_most : (g : GameLists) (w : World) (s n : ℕ) (f : ℕ → List ℕ) (os : List ℕ) → texts_take f os + 5 * length os + 2 ≤ n
+list_or_most : (g : GameLists) (w : World) (s n : ℕ) (f : ℕ → Text) (os : List ℕ) → texts_take f os + 5 * length os + 2 ≤ n
     → length (list_or_say g w s (map f os)) ≤ max n (most_said g s)
 list_or_most g w s n f [] within = omega (arith, say_most g w s)
 list_or_most g w s n f (o ∷ os) within = omega (arith, listed_most w f (o ∷ os))
 
-seen_most : (g : GameLists) (w : World) (n : ℕ) (f : ℕ → List ℕ) (os : List ℕ) → texts_take f os + 5 * length os + 2 ≤ n
+seen_most : (g : GameLists) (w : World) (n : ℕ) (f : ℕ → Text) (os : List ℕ) → texts_take f os + 5 * length os + 2 ≤ n
     → length (seen_text g w (map f os)) ≤ most_said g SEEN_MESSAGE + n
 seen_most g w n f [] within = omega arith
 seen_most g w n f (o ∷ os) within =
@@ -106,7 +106,7 @@ seen_most g w n f (o ∷ os) within =
 -- ---- the objects of a game ----
 
 -- The texts of all objects, by their numbers.
-numbered : (f : ℕ → List ℕ) (os : List ObjectRow) (a : ℕ)
+numbered : (f : ℕ → Text) (os : List ObjectRow) (a : ℕ)
     → ((i j : ℕ) → j ≡ a + i → f j ≡ unwrap_or (option_map (λ (r : ObjectRow). r.text) (slice_get os i)) [])
     → texts_take f (range_with_len a (length os)) ≡ sum_by (λ (r : ObjectRow). length r.text) os
 numbered f [] a at = refl

@@ -1,10 +1,10 @@
 -- Through all phases of all turns no piece takes more than it may.
-use Rattle.std.proofs.Common.{◌≡◌, ◌≢◌, ℕ, zero, suc, ◌+◌, ◌*◌, ◌≤◌, ◌<◌, Bool, true, false, List, [], ◌∷◌, Option}
+use Rattle.std.proofs.Common.{◌≡◌, ◌≢◌, ℕ, zero, suc, ◌+◌, ◌*◌, ◌≤◌, ◌<◌, Bool, true, false, [], ◌∷◌, Option}
 use Rattle.std.proofs.Common.{Some, None, refl, length, arith}
 use Rattle.std.proofs.Common.{length-append}
 use Rattle.std.specs.Prelude.{if◌then◌else◌, All}
 use Rattle.std.proofs.lemmas.Bool.{le-leb}
-use Rattle.paw_base.specs.Bytes.{Lines, Seed}
+use Rattle.paw_base.specs.Bytes.{Lines, Seed, Text}
 use Rattle.paw_base.specs.declared.flags.TheConstants.{LOCATION_FLAG, VERB_FLAG, PRONOUN_NOUN_FLAG}
 use Rattle.paw_base.specs.declared.flags.TheConstants.{PRONOUN_ADJECTIVE_FLAG}
 use Rattle.paw_base.specs.declared.limits.TheConstants.{PIECE_LIMIT, LINE_LIMIT}
@@ -65,14 +65,14 @@ module _ (g : Story) (valid : ValidStory g) (condacts text : ℕ) (k : Takes) (e
 
   -- ---- what is said ----
 
-  saying_stays : (words : List ℕ) (go : Run → Ending) (r : Run) → length r.current + length words ≤ text → Stays (go (text_printed words r)) →
+  saying_stays : (words : Text) (go : Run → Ending) (r : Run) → length r.current + length words ≤ text → Stays (go (text_printed words r)) →
       Stays (saying words go r)
   saying_stays words go r within h =
       let fit : fits r words ≡ true =
       le-leb (length r.current + length words) PIECE_LIMIT (omega (arith, enough.limit)) in rw fit h
 
   -- What is said takes no more than it may, and what follows it stays within the bound.
-  says_on : (a b most : ℕ) (words : List ℕ) (go : Run → Ending) (r : Run) → length words ≤ most → Room a (most + b) r →
+  says_on : (a b most : ℕ) (words : Text) (go : Run → Ending) (r : Run) → length words ≤ most → Room a (most + b) r →
       (Room a b (text_printed words r) → Stays (go (text_printed words r))) → Stays (saying words go r)
   says_on a b most words go r within h on =
       saying_stays words go r (omega (arith, h.short)) (on (said g valid condacts text k a b most words r within h))
@@ -198,7 +198,7 @@ module _ (g : Story) (valid : ValidStory g) (condacts text : ℕ) (k : Takes) (e
     -- The prompt closes the piece.
     prompt_stays : (r : Run) → Room 0 0 r → Stays (saying (prompt_text g.game r.world) (λ s. at_main g go (piece_closed s) s.events) r)
     prompt_stays r h =
-        let words : List ℕ = prompt_text g.game r.world in
+        let words : Text = prompt_text g.game r.world in
         let s : Run = text_printed words r in
         let size : length s.current ≡ length r.current + length words = length-append r.current words in
         let s_in : IsIn s = with_words g valid condacts text r h.ready s.current in
@@ -229,7 +229,7 @@ module _ (g : Story) (valid : ValidStory g) (condacts text : ℕ) (k : Takes) (e
   turn_stays zero s r h = tt
   turn_stays (suc n) AtDescribe r h =
       let w : World = location_described r.world in
-      let view : List ℕ = view_text g.game w in
+      let view : Text = view_text g.game w in
       says_on (k.reads 1 + k.reads 2) (k.prints 1 + k.prints 2) k.view view (λ q. table_done g (turn g n) 1 (table_read g 1 q)) (with_world w r) (says.view w)
       (moved g valid condacts text k (reads_of k AtDescribe) (text_of k AtDescribe) r h w (described_of g.game valid.game r.world h.ready.world))
       (table_stays (turn g n) (turn_stays n) 1 (omega arith) (text_printed view (with_world w r)))

@@ -3,7 +3,7 @@ use Rattle.std.proofs.Common.{◌≡◌, ℕ, zero, suc, ◌+◌, ◌≤◌, ◌
 use Rattle.std.proofs.Common.{length, arith, length-append}
 use Rattle.std.specs.Prelude.{All}
 use Rattle.std.proofs.lemmas.List.Elements.{All-append}
-use Rattle.paw_base.specs.Bytes.{Line, Lines, Seed}
+use Rattle.paw_base.specs.Bytes.{Line, Lines, Seed, Bytes, Text}
 use Rattle.paw_base.specs.declared.limits.TheConstants.{LINE_LIMIT}
 use Rattle.paw_base.specs.declared.words.TheConstants.{NO_WORD}
 use Rattle.paw_base.specs.declared.tables.TheConstants.{FRAME_TABLE}
@@ -109,7 +109,7 @@ module _ (g : Story) (valid : ValidStory g) (condacts text : ℕ) where
   -- With another world, another line, another verb before it, other words in the open piece and other lines to come.
   pub changed : (r : Run) → Ready r → (w : World) → IsWorldOf g.game w → (line : Line) → length line ≤ LINE_LIMIT
       → (earlier : ℕ) → earlier < 256 →
-      (words : List ℕ) (lines : Lines) → All IsLine lines →
+      (words : Text) (lines : Lines) → All IsLine lines →
       Ready (record r { world = w; pending = line; earlier = earlier; current = words; events = lines })
   changed r h w world line short earlier early words lines are = record {
     world = world;
@@ -127,7 +127,7 @@ module _ (g : Story) (valid : ValidStory g) (condacts text : ℕ) where
       → Ready (record r { pending = line })
   with_line r h line short = changed r h r.world h.world line short r.earlier h.earlier r.current r.events h.lines
 
-  pub with_words : (r : Run) → Ready r → (words : List ℕ) → Ready (record r { current = words })
+  pub with_words : (r : Run) → Ready r → (words : Text) → Ready (record r { current = words })
   with_words r h words = changed r h r.world h.world r.pending h.line r.earlier h.earlier words r.events h.lines
 
   pub with_events : (r : Run) → Ready r → (lines : Lines) → All IsLine lines → Ready (record r { events = lines })
@@ -141,7 +141,7 @@ module _ (g : Story) (valid : ValidStory g) (condacts text : ℕ) where
       changed r h (with_timeout false r.world) (timeout_of g.game valid.game false r.world h.world) line is.short
       NO_WORD (omega arith) r.current r.events h.lines
 
-  pub taken_ready : (r : Run) → Ready r → (s : Sentence) (left : List ℕ) → length left < length r.pending → coming_phrase g r ≡ IsSentence s left →
+  pub taken_ready : (r : Run) → Ready r → (s : Sentence) (left : Bytes) → length left < length r.pending → coming_phrase g r ≡ IsSentence s left →
       Ready (with_world (turn_counted (taken_phrase s left r).world) (taken_phrase s left r))
   taken_ready r h s left shorter e =
       let spoken_so = phrase_of g.game valid.game g.answers r h.world h.earlier s left e in
@@ -188,7 +188,7 @@ module _ (g : Story) (valid : ValidStory g) (condacts text : ℕ) where
     moved a b r h w world = record { ready = in_world r h.ready w world; few = h.few; short = h.short }
 
     -- Words are printed.
-    pub said : (a b most : ℕ) (words : List ℕ) (r : Run) → length words ≤ most → HasRoom a (most + b) r → HasRoom a b (text_printed words r)
+    pub said : (a b most : ℕ) (words : Text) (r : Run) → length words ≤ most → HasRoom a (most + b) r → HasRoom a b (text_printed words r)
     said a b most words r within h = record {
       ready = with_words r h.ready (r.current ++ words);
       few = h.few;

@@ -1,8 +1,9 @@
 -- What a turn says beside its tables isn't longer than it is measured.
-use Rattle.std.proofs.Common.{ℕ, ◌+◌, ◌≤◌, ◌==◌, Bool, true, false, List, [], ◌∷◌, refl, length, slice_get, arith}
+use Rattle.std.proofs.Common.{ℕ, ◌+◌, ◌≤◌, ◌==◌, Bool, true, false, [], ◌∷◌, refl, length, slice_get, arith}
 use Rattle.std.proofs.Common.{length-append}
 use Rattle.std.specs.Prelude.{if◌then◌else◌, max, nat_lt}
 use Rattle.std.specs.Option.{unwrap_or}
+use Rattle.paw_base.specs.Bytes.{Text}
 use Rattle.paw_base.specs.declared.flags.TheConstants.{LOCATION_FLAG, VERB_FLAG, PROMPT_FLAG}
 use Rattle.paw_base.specs.declared.messages.TheConstants.{DARK_MESSAGE, UNKNOWN_MESSAGE, NO_WAY_MESSAGE}
 use Rattle.paw_base.specs.declared.messages.TheConstants.{IMPOSSIBLE_MESSAGE, TIMEOUT_MESSAGE, PROMPT_MESSAGE}
@@ -20,7 +21,7 @@ use Rattle.paw_check.proofs.Lengths.{among_most, ended_most, put_most, say_most,
 
 -- ---- the location ----
 
-either_most : (b : Bool) (x y : List ℕ) (m n : ℕ) → length x ≤ m + 1 → length y ≤ n + 1 → length (if b then x else y) ≤ max m n + 1
+either_most : (b : Bool) (x y : Text) (m n : ℕ) → length x ≤ m + 1 → length y ≤ n + 1 → length (if b then x else y) ≤ max m n + 1
 either_most true x y m n h k = omega arith
 either_most false x y m n h k = omega arith
 

@@ -5,6 +5,7 @@ use Rattle.std.proofs.Common.{nat_le, arith, length-append}
 use Rattle.std.specs.Prelude.{if◌then◌else◌, decimal, codes}
 use Rattle.std.specs.List.{list_all, slice_index_or}
 use Rattle.std.proofs.lemmas.Bool.{and_parts, leb-true}
+use Rattle.paw_base.specs.Bytes.{Text}
 use Rattle.paw_base.specs.declared.flags.TheConstants.{SCORE_FLAG, LOW_TURNS_FLAG, HIGH_TURNS_FLAG}
 use Rattle.paw_base.specs.declared.messages.TheConstants.{TURNS_MESSAGE, TURN_MESSAGE, PLURAL_MESSAGE}
 use Rattle.paw_base.specs.declared.messages.TheConstants.{TURNS_END_MESSAGE}
@@ -60,9 +61,9 @@ parameter_most k x small = omega (arith, byte_digits x small)
 
 pub sign_most : (c : Condact) → c.a < 256 → c.b < 256 → length (sign_text c) ≤ 20
 sign_most c first second =
-    let end : List ℕ = codes "]\n" in
-    let b : List ℕ = parameter_text (second_kind c.code) c.b in
-    let a : List ℕ = parameter_text (first_kind c.code) c.a in
+    let end : Text = codes "]\n" in
+    let b : Text = parameter_text (second_kind c.code) c.b in
+    let a : Text = parameter_text (first_kind c.code) c.a in
     omega (
       arith,
       name_short c.code,
@@ -84,9 +85,9 @@ turns_small w bytes = omega (arith, byte_at w.flags LOW_TURNS_FLAG bytes, byte_a
 
 pub turns_most : (g : GameLists) (w : World) → AreBytes w.flags → length (turns_text g w) ≤ most_count g
 turns_most g w bytes =
-    let number : List ℕ = decimal (turns_taken w) in
-    let plural : List ℕ = if turns_taken w == 1 then [] else put_text g w PLURAL_MESSAGE in
-    let end : List ℕ = say_text g w TURNS_END_MESSAGE in
+    let number : Text = decimal (turns_taken w) in
+    let plural : Text = if turns_taken w == 1 then [] else put_text g w PLURAL_MESSAGE in
+    let end : Text = say_text g w TURNS_END_MESSAGE in
     omega (
       arith,
       put_most g w TURNS_MESSAGE,
@@ -102,7 +103,7 @@ turns_most g w bytes =
 
 pub score_most : (g : GameLists) (w : World) → AreBytes w.flags → length (score_text g w) ≤ most_score g
 score_most g w bytes =
-    let number : List ℕ = decimal (flag w SCORE_FLAG) in
+    let number : Text = decimal (flag w SCORE_FLAG) in
     omega (
       arith,
       put_most g w SCORE_MESSAGE,

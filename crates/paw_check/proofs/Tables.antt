@@ -8,7 +8,7 @@ use Rattle.std.proofs.lemmas.Bool.{and_parts}
 use Rattle.std.proofs.lemmas.List.Elements.{All-tail}
 use Rattle.std.proofs.lemmas.List.Sums.{sum_by-cons, sum_by-append}
 use Rattle.std.proofs.lemmas.Option.{none-some}
-use Rattle.paw_base.specs.Bytes.{Line, Lines, Texts}
+use Rattle.paw_base.specs.Bytes.{Line, Lines, Texts, Text}
 use Rattle.paw_base.specs.declared.limits.TheConstants.{READ_LIMIT, PIECE_LIMIT}
 use Rattle.paw_base.specs.declared.codes.TheConstants.{PROCESS, DOALL, PARSE}
 use Rattle.paw_base.specs.declared.parts.Condact.{Condact}
@@ -275,7 +275,7 @@ module _ (g : Story) (valid : ValidStory g) (kind : SpentKind) (limit pending : 
 
     over_ends : (P : Run → Type 0) (n : ℕ) (r : Run) → Is lv r → used kind r ≤ 0 → Ends P n (over g r)
     over_ends P n r k u =
-        let text : List ℕ = goodbye g r in
+        let text : Text = goodbye g r in
         let most : used kind (text_printed text r) ≤ limit = first_use kind limit r text u (bye r.world k.world) in
         may_print (Ends P n) kind text game_over r (omega (arith, most, low)) (game_over_ends P n (text_printed text r) most k.closed) (λ h. h)
 
@@ -397,7 +397,7 @@ module _ (g : Story) (valid : ValidStory g) (kind : SpentKind) (limit pending : 
       after_test_ends c m r truth.Yes k fits uses asks = goes_go f.acted m (step_noted f c true r) k (uses true) fits
       after_test_ends c m r truth.No k fits uses asks = goes_next f.acted m (step_noted f c false r) k (uses false) fits
       after_test_ends c m r truth.Ask k fits uses asks =
-          let text : List ℕ = quit_question g r in
+          let text : Text = quit_question g r in
           let s : Run = text_printed text (step_noted f c true r) in
           may_print (Ends (Inside lv (m + once) (m + (once + more))) (m + (once + more))) kind text (waits g prompt.Quit f go) (step_noted f c true r)
           (omega (arith, asks refl, fits, low))

@@ -1,8 +1,8 @@
 -- What a turn does beside its tables leaves the world one of the game.
-use Rattle.std.proofs.Common.{◌≡◌, ℕ, ◌+◌, ◌-◌, ◌<◌, ◌≤◌, ◌/◌, ◌%◌, Bool, true, false, List, Some, refl, map, length}
+use Rattle.std.proofs.Common.{◌≡◌, ℕ, ◌+◌, ◌-◌, ◌<◌, ◌≤◌, ◌/◌, ◌%◌, Bool, true, false, Some, refl, map, length}
 use Rattle.std.proofs.Common.{min, arith}
 use Rattle.std.proofs.Math.Nat.{min-le_left}
-use Rattle.paw_base.specs.Bytes.{RoutineAnswers, Seed}
+use Rattle.paw_base.specs.Bytes.{RoutineAnswers, Seed, Bytes}
 use Rattle.paw_base.specs.declared.flags.TheConstants.{LOCATION_FLAG, VERB_FLAG, LOW_TURNS_FLAG, HIGH_TURNS_FLAG}
 use Rattle.paw_base.specs.declared.flags.TheConstants.{TIMED_OUT_FLAG, NOUN_FLAG, ADJECTIVE_FLAG, ADVERB_FLAG}
 use Rattle.paw_base.specs.declared.flags.TheConstants.{PREPOSITION_FLAG, SECOND_NOUN_FLAG, SECOND_ADJECTIVE_FLAG}
@@ -93,7 +93,7 @@ module _ (g : GameLists) (v : Valid g) where
       PRONOUN_NOUN_FLAG s.pronoun_noun b.pronoun_noun) PRONOUN_ADJECTIVE_FLAG s.pronoun_adjective b.pronoun_adjective
 
   -- The world in which the sentence of the line's next phrase stands, and its verb is a byte.
-  pub phrase_of : (answers : RoutineAnswers) (r : Run) → IsWorldOf g r.world → r.earlier < 256 → (s : Sentence) (left : List ℕ) →
+  pub phrase_of : (answers : RoutineAnswers) (r : Run) → IsWorldOf g r.world → r.earlier < 256 → (s : Sentence) (left : Bytes) →
       coming_phrase (record { game = g; answers = answers }) r ≡ IsSentence s left → IsWorldOf g (with_sentence s r.world) × (s.verb < 256)
   phrase_of answers r k early s left e =
       let words =

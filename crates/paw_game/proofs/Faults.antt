@@ -8,7 +8,7 @@ use Rattle.std.specs.Ordering.{is_lt, nat_cmp}
 use Rattle.std.specs.Cmp.Lexicographic.{slice_cmp}
 use Rattle.std.proofs.lemmas.Bool.{cases_Bool, and_parts, false≢true, leb-true}
 use Rattle.std.proofs.lemmas.Bool.Decides.{nat_tests}
-use Rattle.paw_base.specs.Bytes.{Letters, Texts}
+use Rattle.paw_base.specs.Bytes.{Letters, Texts, Bytes}
 use Rattle.paw_base.specs.declared.limits.TheConstants.{WORD_LIMIT, SYSTEM_LIMIT, MESSAGE_LIMIT, OBJECT_LIMIT}
 use Rattle.paw_base.specs.declared.limits.TheConstants.{LOCATION_LEAST, LOCATION_LIMIT, TABLE_LEAST, TABLE_LIMIT}
 use Rattle.paw_game.specs.declared.parts.Word.{Word}
@@ -54,7 +54,7 @@ is_none-first_bad rule (x ∷ xs) =
 -- ---- words
 
 -- The words rise after these letters.
-unfoldable pub rise_after : List ℕ → List Word → Bool
+unfoldable pub rise_after : Bytes → List Word → Bool
 rise_after before [] = true
 rise_after before (w ∷ ws) = is_lt (slice_cmp nat_cmp before w.letters) && rise_after w.letters ws
 
@@ -65,7 +65,7 @@ bad_word_step true false true rise rest n h = refl
 bad_word_step true false false rise rest n h = refl
 bad_word_step false l all rise rest n h = refl
 
-is_none-bad_word : (n : ℕ) (before : List ℕ) (ws : List Word) → is_none (bad_word n before ws) ≡ (list_all is_word ws && rise_after before ws)
+is_none-bad_word : (n : ℕ) (before : Bytes) (ws : List Word) → is_none (bad_word n before ws) ≡ (list_all is_word ws && rise_after before ws)
 unfolding rise_after
 is_none-bad_word n before [] = refl
 is_none-bad_word n before (w ∷ ws) =

@@ -9,7 +9,7 @@ use Rattle.std.specs.Option.{option_copied, option_map, unwrap_or}
 use Rattle.std.proofs.lemmas.Option.{none-some, same_Some, slice_get_within, slice_get_past}
 use Rattle.std.proofs.lemmas.Bool.{and_from, and_parts, cases_lt, leb-true, ltb-true}
 use Rattle.std.proofs.lemmas.Bool.Decides.{nat_tests}
-use Rattle.paw_base.specs.Bytes.{Bytes}
+use Rattle.paw_base.specs.Bytes.{Bytes, Text}
 use Rattle.paw_base.specs.Condacts.{is_code, first_kind, second_kind}
 use Rattle.paw_base.specs.inner.Condacts.{IsCode}
 use Rattle.paw_base.specs.declared.limits.TheConstants.{SYSTEM_LIMIT, MESSAGE_LIMIT, OBJECT_LIMIT, LOCATION_LEAST}
@@ -98,7 +98,7 @@ facts-weight g v o f e =
 
 -- ---- texts
 
-pub text_kept : (g : GameLists) → Valid g → (p : GamePart) (n : ℕ) (t : List ℕ) → text_at g p n ≡ Some t → IsTrue (is_text t)
+pub text_kept : (g : GameLists) → Valid g → (p : GamePart) (n : ℕ) (t : Text) → text_at g p n ≡ Some t → IsTrue (is_text t)
 text_kept g v part.Words n t e = absurd (none-some t e)
 text_kept g v part.System n t e = list_all-at is_text g.system n t (second_of_and (nat_le (length g.system) SYSTEM_LIMIT) _ v.system) e
 text_kept g v part.Messages n t e = list_all-at is_text g.messages n t (second_of_and (nat_le (length g.messages) MESSAGE_LIMIT) _ v.messages) e
@@ -112,7 +112,7 @@ text_kept g v part.Locations n t e =
 text_kept g v part.Exits n t e = absurd (none-some t e)
 text_kept g v part.Tables n t e = absurd (none-some t e)
 
-pub text-short : (t : List ℕ) → IsTrue (is_text t) → length t ≤ TEXT_LIMIT
+pub text-short : (t : Text) → IsTrue (is_text t) → length t ≤ TEXT_LIMIT
 text-short t h = leb-true (length t) TEXT_LIMIT (first_of_and _ _ h)
 
 printed_byte : (b : ℕ) → IsTrue (is_text_byte b) → b < 256
@@ -125,7 +125,7 @@ printed-bytes first (b ∷ bs) zero d h l =
 printed-bytes first (b ∷ bs) (suc k) d h l =
     printed-bytes (b == 10) bs k d (second_of_and (is_text_byte b && not (first && begins_no_line b)) _ h) (omega arith)
 
-pub text-bytes : (t : List ℕ) → IsTrue (is_text t) → All (λ b. b < 256) t
+pub text-bytes : (t : Text) → IsTrue (is_text t) → All (λ b. b < 256) t
 text-bytes t h = λ k d high. printed-bytes true t k d (second_of_and (nat_le (length t) TEXT_LIMIT) _ h) high
 
 -- ---- exits

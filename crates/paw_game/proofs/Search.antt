@@ -20,7 +20,7 @@ use Rattle.paw_game.specs.declared.parts.Word.{Word}
 use Rattle.paw_game.specs.Valid.{words_rise}
 use Rattle.paw_game.specs.Tables.{word_of}
 
-abbrev pub compared : List ℕ → Word → Ordering
+abbrev pub compared : Letters → Word → Ordering
 compared letters w = slice_cmp nat_cmp w.letters letters
 
 Less-from_is_lt : (o : Ordering) → IsTrue (is_lt o) → o ≡ Less

@@ -23,7 +23,7 @@ use Rattle.paw_gen.proofs.Computed.{system_texts, location_texts, object_texts}
 use Rattle.paw_gen.proofs.Valids.{words_of, each_word}
 
 -- Rows of at most this many bytes.
-flat_short : {A : Type 0} (bytes : A → List ℕ) (most : ℕ) (xs : List A) → list_all (λ x. nat_le (length (bytes x)) most) xs ≡ true
+flat_short : {A : Type 0} (bytes : A → Bytes) (most : ℕ) (xs : List A) → list_all (λ x. nat_le (length (bytes x)) most) xs ≡ true
     → length (flat_map bytes xs) ≤ most * length xs
 flat_short bytes most [] h = omega arith
 flat_short bytes most (x ∷ xs) h =
@@ -65,7 +65,7 @@ tables_size : length (flat_map table_image (answer_entries ∷ listing ∷ [] �
 unfolding condact_lines plain_line line_of is_indirect
 tables_size = refl
 
-total : (a b c d e f g h : List ℕ)
+total : (a b c d e f g h : Bytes)
     → length (a ++ b ++ c ++ d ++ e ++ f ++ g ++ h) ≡ length a + length b + length c + length d + length e + length f + length g + length h
 total a b c d e f g h = simp length-append
 
@@ -83,7 +83,7 @@ limited : (all head words system none objects locations exits tables things plac
 limited all head words system none objects locations exits tables things places a b c d e f g h i j k = omega arith
 
 -- Rows of which each is that short.
-rows_short : {A : Type 0} (bytes : A → List ℕ) (row : ℕ → A) (most n : ℕ) → ((k : ℕ) → k < n → length (bytes (row k)) ≤ most)
+rows_short : {A : Type 0} (bytes : A → Bytes) (row : ℕ → A) (most n : ℕ) → ((k : ℕ) → k < n → length (bytes (row k)) ≤ most)
     → length (flat_map bytes (rows n row)) ≤ most * n
 rows_short bytes row most n h =
     let short : length (flat_map bytes (rows n row)) ≤ most * length (rows n row) =

@@ -1,5 +1,5 @@
 -- Words in a map by their letters.
-use Rattle.std.proofs.Common.{◌≡◌, ℕ, Bool, true, false, cond, List, [], ◌∷◌, Option, Some, None, option_map, refl, sym}
+use Rattle.std.proofs.Common.{◌≡◌, Bool, true, false, cond, List, [], ◌∷◌, Option, Some, None, option_map, refl, sym}
 use Rattle.std.proofs.Common.{ap, ◌∙◌, bytes_eq}
 use Rattle.std.specs.declared.cmp.Ordering.TheVariants.{Less, Equal, Greater}
 use Rattle.std.specs.Ordering.{nat_cmp, match_ordering, is_eq, is_lt}
@@ -9,6 +9,7 @@ use Rattle.std.specs.BTreeMap.{is_at, insert_entry}
 use Rattle.std.proofs.lemmas.Bool.Decides.{same_from_decides, Decides-like}
 use Rattle.std.proofs.lemmas.Slice.Eq.{bytes_eq-Decides}
 use Rattle.std.proofs.lemmas.Map.Text.{is_eq-slice_cmp}
+use Rattle.paw_base.specs.Bytes.{Letters}
 use Rattle.paw_game.specs.declared.parts.Word.{Word}
 use Rattle.paw_game.specs.Tables.{word_of}
 use Rattle.paw_grammar.specs.declared.vocabulary.WordMeaning.{WordMeaning}
@@ -16,23 +17,23 @@ use Rattle.paw_grammar.specs.inner.WordMap.{word_from, words_in}
 use Rattle.paw_grammar.specs.Vocabulary.{words_with}
 
 abbrev Entry : Type 0
-Entry = List ℕ × WordMeaning
+Entry = Letters × WordMeaning
 
-bytes_eq-sym : (a b : List ℕ) → bytes_eq a b ≡ bytes_eq b a
+bytes_eq-sym : (a b : Letters) → bytes_eq a b ≡ bytes_eq b a
 bytes_eq-sym a b =
     same_from_decides (bytes_eq a b) (bytes_eq b a)
     (Decides-like (bytes_eq a b) (λ (e : a ≡ b). sym e) (λ (e : b ≡ a). sym e) (bytes_eq-Decides a b))
     (bytes_eq-Decides b a)
 
 -- What the map holds at some letters is the word with these letters.
-pub found : (es : List Entry) (k : List ℕ) → option_map (λ m. word_from (k, m)) (lookup (is_at (slice_cmp nat_cmp k)) es) ≡ word_of k (words_in es)
+pub found : (es : List Entry) (k : Letters) → option_map (λ m. word_from (k, m)) (lookup (is_at (slice_cmp nat_cmp k)) es) ≡ word_of k (words_in es)
 found [] k = refl
 found (e ∷ es) k =
     rw (is_eq-slice_cmp k e.0, bytes_eq-sym e.0 k)
     (elim (bytes_eq k e.0) as (λ b. bytes_eq k e.0 ≡ b
     → option_map (λ m. word_from (k, m)) (cond b (Some e.1) (lookup (is_at (slice_cmp nat_cmp k)) es))
     ≡ cond b (Some (word_from e)) (word_of k (words_in es))) [
-      | true ↦ λ h. ap (λ (x : List ℕ). Some (word_from (x, e.1))) ((bytes_eq-Decides k e.0).0 h)
+      | true ↦ λ h. ap (λ (x : Letters). Some (word_from (x, e.1))) ((bytes_eq-Decides k e.0).0 h)
       | false ↦ λ h. found es k
     ] refl)
 
@@ -40,7 +41,7 @@ none_here : (b : Bool) (w : Word) (rest : Option Word) → cond b (Some w) rest 
 none_here true w rest h = absurd cc
 none_here false w rest h = (refl, h)
 
-is_same : (k l : List ℕ) → slice_cmp nat_cmp k l ≡ Equal → bytes_eq l k ≡ true
+is_same : (k l : Letters) → slice_cmp nat_cmp k l ≡ Equal → bytes_eq l k ≡ true
 is_same k l e = bytes_eq-sym l k ∙ sym (is_eq-slice_cmp k l) ∙ ap is_eq e
 
 -- A word with new letters goes to its place.

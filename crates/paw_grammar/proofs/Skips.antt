@@ -5,7 +5,7 @@ use Rattle.std.proofs.Common.{Result, Ok, Err, refl, sym, ap, subst, ◌∙◌, 
 use Rattle.std.proofs.lemmas.List.{append-nil}
 use Rattle.std.specs.Option.{ok_or}
 use Rattle.std.proofs.lemmas.Bool.{and_parts}
-use Rattle.paw_base.specs.Bytes.{Name, Tokens}
+use Rattle.paw_base.specs.Bytes.{Name, Tokens, Token}
 use Rattle.paw_base.specs.declared.fault.SourceKind.{SourceKind}
 use Rattle.paw_base.specs.declared.fault.SourceKind.TheVariants as fault
 use Rattle.paw_base.specs.declared.parts.Condact.{Condact}
@@ -33,13 +33,13 @@ use Rattle.paw_grammar.specs.Condacts.{condact, condacts_in, with_more_condacts}
 -- Before the rest stand n tokens, none or one.
 data Takes (n : ℕ) (ts rest : Tokens) : Type 0 where
   none : n ≡ 0 → ts ≡ rest → Takes n ts rest
-  one : (t : List ℕ) → n ≡ 1 → ts ≡ t ∷ rest → Takes n ts rest
+  one : (t : Token) → n ≡ 1 → ts ≡ t ∷ rest → Takes n ts rest
 
-takes_meaning : {A : Type 0} (k : SourceKind) (meaning : List ℕ → Option A) (ts rest : Tokens) (x : A)
+takes_meaning : {A : Type 0} (k : SourceKind) (meaning : Token → Option A) (ts rest : Tokens) (x : A)
     → read_by k meaning ts ≡ Ok (x, rest) → Takes 1 ts rest
 takes_meaning {A} k meaning ts rest x e = let m = meant k meaning ts (x, rest) e in one m.first refl m.all
 
-takes_number : (rule : ℕ → Bool) (k : SourceKind) (meaning : List ℕ → Option ℕ) (ts rest : Tokens) (x : ℕ)
+takes_number : (rule : ℕ → Bool) (k : SourceKind) (meaning : Token → Option ℕ) (ts rest : Tokens) (x : ℕ)
     → (read_by k meaning ts >>= in_range rule) ≡ Ok (x, rest) → Takes 1 ts rest
 takes_number rule k meaning ts rest x e = takes_meaning k meaning ts rest x (ranged rule (read_by k meaning ts) (x, rest) e).is
 

@@ -36,18 +36,18 @@ bind_bind (Ok x) f g h same = same x
 bind_bind (Err left) f g h same = refl
 
 -- To pass over m rows and then over n is to pass over m + n.
-pub each_add : (pass : List ℕ → Passing) (m n : ℕ) (bytes : Bytes) → each pass (m + n) bytes ≡ (each pass m bytes >>= each pass n)
+pub each_add : (pass : Bytes → Passing) (m n : ℕ) (bytes : Bytes) → each pass (m + n) bytes ≡ (each pass m bytes >>= each pass n)
 unfolding each
 each_add pass zero n bytes = let k : 0 + n ≡ n = omega arith in rw k refl
 each_add pass (suc m) n bytes =
     let k : suc m + n ≡ suc (m + n) = omega arith in
     rw k (bind_bind (pass bytes) (each pass m) (each pass n) (each pass (m + n)) (λ b. each_add pass m n b))
 
-pub each_none : (pass : List ℕ → Passing) (bytes : Bytes) → each pass 0 bytes ≡ Ok bytes
+pub each_none : (pass : Bytes → Passing) (bytes : Bytes) → each pass 0 bytes ≡ Ok bytes
 unfolding each
 each_none pass bytes = refl
 
-pub each_more : (pass : List ℕ → Passing) (m n k : ℕ) (bytes rest : Bytes) → k ≡ m + n → each pass m bytes ≡ Ok rest
+pub each_more : (pass : Bytes → Passing) (m n k : ℕ) (bytes rest : Bytes) → k ≡ m + n → each pass m bytes ≡ Ok rest
     → each pass k bytes ≡ each pass n rest
 each_more pass m n k bytes rest sum e = rw (sum, each_add pass m n bytes, e) refl
 
@@ -85,7 +85,7 @@ pub condacts_walked : (d : ImagePreface) (n : ℕ) (bytes rest : Bytes) → IsBy
     → Walked n bytes rest
 unfolding each
 condacts_walked d zero bytes rest fits e =
-    at_ok (λ (r : List ℕ). Walked 0 bytes r) bytes rest e (record { past = refl; end = end_whole bytes; short = omega arith })
+    at_ok (λ (r : Bytes). Walked 0 bytes r) bytes rest e (record { past = refl; end = end_whole bytes; short = omega arith })
 condacts_walked d (suc n) bytes rest fits e =
     bind_then _ (after_condact d bytes) _ rest e (λ after after_ok e.
     let first = condact_sound d bytes after fits after_ok in
@@ -122,11 +122,11 @@ get_drop (suc n) (x ∷ xs) k = let at : suc n + k ≡ suc (n + k) = omega arith
 -- ---- milestones ----
 
 -- From a number on, there is a milestone after each of this many eights.
-abbrev pub MilestonesSoFar : List ℕ → (start eights : ℕ) → List ℕ → Type 0
+abbrev pub MilestonesSoFar : List ℕ → (start eights : ℕ) → Bytes → Type 0
 MilestonesSoFar milestones start eights condacts =
     (k : ℕ) → k < eights → (milestone : ℕ) × (slice_get milestones (start + k) ≡ Some milestone) × GoesOnAt (suc k * 8) condacts milestone
 
-pub one_more_milestone : (milestones condacts : List ℕ) (start eights milestone : ℕ) → length milestones ≡ start + eights
+pub one_more_milestone : (milestones : List ℕ) (condacts : Bytes) (start eights milestone : ℕ) → length milestones ≡ start + eights
     → MilestonesSoFar milestones start eights condacts
     → GoesOnAt (suc eights * 8) condacts milestone → MilestonesSoFar (milestones ++ milestone ∷ []) start (eights + 1) condacts
 one_more_milestone milestones condacts start eights milestone len so_far goes_on k lt =
@@ -142,7 +142,7 @@ one_more_milestone milestones condacts start eights milestone len so_far goes_on
           )
     ]
 
-pub all_milestones : (milestones condacts : List ℕ) (start count : ℕ) → MilestonesSoFar milestones start ((count - 1) / 8) condacts
+pub all_milestones : (milestones : List ℕ) (condacts : Bytes) (start count : ℕ) → MilestonesSoFar milestones start ((count - 1) / 8) condacts
     → AreMilestones (drop start milestones) count condacts
 all_milestones milestones condacts start count so_far k lt =
     let m = so_far k (omega (arith, lt)) in
@@ -153,10 +153,10 @@ pub milestone_is : (d : ImagePreface) (n : ℕ) (bytes rest : Bytes) → IsBytes
     → GoesOnAt n bytes (length bytes - length rest)
 milestone_is d n bytes rest fits e =
     let walked = condacts_walked d n bytes rest fits e in
-    walked.past ∙ ap (λ (r : List ℕ). Ok r) (sym walked.end)
+    walked.past ∙ ap (λ (r : Bytes). Ok r) (sym walked.end)
 
 -- Milestones that are kept milestone the same entry.
-pub entry_kept : (first : ℕ) (milestones more bytes : List ℕ) → BeginsWithList milestones more
+pub entry_kept : (first : ℕ) (milestones more : List ℕ) (bytes : Bytes) → BeginsWithList milestones more
     → EntryMilestones (drop first milestones) bytes → EntryMilestones (drop first more) bytes
 entry_kept first milestones more [] keeps h = tt
 entry_kept first milestones more (verb ∷ []) keeps h = tt
@@ -165,8 +165,8 @@ entry_kept first milestones more (verb ∷ noun ∷ count ∷ condacts) keeps h 
     let m = h k lt in
     (m.0, get_drop first more k ∙ keeps (first + k) m.0 (sym (get_drop first milestones k) ∙ m.1), m.2)
 
-pub one_more_entry : (all offsets firsts milestones more : List ℕ) (p : ℕ) → length offsets ≡ length firsts → EntriesMilestones all offsets firsts milestones
-    → BeginsWithList milestones more → EntryMilestones (drop (length milestones) more) (drop p all)
+pub one_more_entry : (all : Bytes) (offsets firsts milestones more : List ℕ) (p : ℕ) → length offsets ≡ length firsts
+    → EntriesMilestones all offsets firsts milestones → BeginsWithList milestones more → EntryMilestones (drop (length milestones) more) (drop p all)
     → EntriesMilestones all (offsets ++ p ∷ []) (firsts ++ length milestones ∷ []) more
 one_more_entry all offsets firsts milestones more p same so_far keeps last e q found =
     elim (cases_lt e (length offsets)) [
@@ -186,14 +186,14 @@ one_more_entry all offsets firsts milestones more p same so_far keeps last e q f
 -- ---- a condact by its milestone ----
 
 -- A condact that isn't among the first eight has the milestone of its eight.
-pub milestone_of : (milestones condacts : List ℕ) (count at eights : ℕ) → AreMilestones milestones count condacts → at < count → at / 8 ≡ suc eights
+pub milestone_of : (milestones : List ℕ) (condacts : Bytes) (count at eights : ℕ) → AreMilestones milestones count condacts → at < count → at / 8 ≡ suc eights
     → (milestone : ℕ) × (slice_get milestones eights ≡ Some milestone) × GoesOnAt (at / 8 * 8) condacts milestone
 milestone_of milestones condacts count at eights are lt e =
     let m = are eights (omega (arith, lt, e)) in
     (m.0, m.1, subst (λ (n : ℕ). GoesOnAt (n * 8) condacts m.0) (sym e) m.2)
 
 -- The milestones of the entry at the front, whose first three bytes are its verb, its noun and its number of condacts.
-pub milestones_at : (milestones row : List ℕ) → 3 ≤ length row → EntryMilestones milestones row
+pub milestones_at : (milestones : List ℕ) (row : Bytes) → 3 ≤ length row → EntryMilestones milestones row
     → AreMilestones milestones (get_or row 2 0) (take (length row - 3) (drop 3 row))
 milestones_at milestones [] le h = absurd (omega (arith, le))
 milestones_at milestones (verb ∷ []) le h = absurd (omega (arith, le))
@@ -204,7 +204,7 @@ milestones_at milestones (verb ∷ noun ∷ count ∷ condacts) le h =
 -- ---- as they are passed over ----
 
 -- The first fault of eight rows after some others is that of all.
-pub eights_fail : (pass : List ℕ → Passing) (i count : ℕ) (bytes rest : Bytes) (e : ReadError ℕ) → i * 8 + 8 ≤ count
+pub eights_fail : (pass : Bytes → Passing) (i count : ℕ) (bytes rest : Bytes) (e : ReadError ℕ) → i * 8 + 8 ≤ count
     → each pass (i * 8) bytes ≡ Ok rest → Fails e (each pass 8 rest) → Fails e (each pass count bytes)
 eights_fail pass i count bytes rest e le so_far h =
     let n = count - (i * 8 + 8) in
@@ -215,11 +215,11 @@ pub milestone_small : (d : ImagePreface) (n : ℕ) (bytes rest : Bytes) → IsBy
     → length bytes - length rest < 2 ^ 16
 milestone_small d n bytes rest fits e le = omega (arith, (condacts_walked d n bytes rest fits e).short, le)
 
-byte_is : (bytes : Bytes) (b : ℕ) (rest : List ℕ) → byte_at bytes ≡ Ok (b, rest) → bytes ≡ b ∷ rest
+byte_is : (bytes : Bytes) (b : ℕ) (rest : Bytes) → byte_at bytes ≡ Ok (b, rest) → bytes ≡ b ∷ rest
 byte_is [] b rest e = absurd cc
-byte_is (x ∷ xs) b rest e = at_ok (λ (y : ℕ × List ℕ). x ∷ xs ≡ y.0 ∷ y.1) (x, xs) (b, rest) e refl
+byte_is (x ∷ xs) b rest e = at_ok (λ (y : ℕ × Bytes). x ∷ xs ≡ y.0 ∷ y.1) (x, xs) (b, rest) e refl
 
-pub milestones_of_entry : (milestones bytes nouns counts rest : List ℕ) (verb noun count : ℕ) → byte_at bytes ≡ Ok (verb, nouns)
+pub milestones_of_entry : (milestones : List ℕ) (bytes nouns counts rest : Bytes) (verb noun count : ℕ) → byte_at bytes ≡ Ok (verb, nouns)
     → byte_at nouns ≡ Ok (noun, counts) → byte_at counts ≡ Ok (count, rest) → AreMilestones milestones count rest → EntryMilestones milestones bytes
 milestones_of_entry milestones bytes nouns counts rest verb noun count e1 e2 e3 h =
     rw (byte_is bytes verb nouns e1, byte_is nouns noun counts e2, byte_is counts count rest e3) h

@@ -1,5 +1,5 @@
 -- The condacts that a cursor stands at.
-use Rattle.std.proofs.Common.{◌≡◌, ℕ, zero, suc, ◌+◌, ◌-◌, ◌<◌, ◌≤◌, List, [], ◌∷◌, length, take, drop, get_or, Option}
+use Rattle.std.proofs.Common.{◌≡◌, ℕ, zero, suc, ◌+◌, ◌-◌, ◌<◌, ◌≤◌, [], ◌∷◌, length, take, drop, get_or, Option}
 use Rattle.std.proofs.Common.{Some, None, Ok}
 use Rattle.std.proofs.Common.{refl, sym, ap, subst, ◌∙◌, inl, inr, arith}
 use Rattle.std.proofs.lemmas.Bool.{cases_lt, lt-ltb, le-ltb}
@@ -35,11 +35,11 @@ drop_end (suc n) (b ∷ bytes) = end_of_end (b ∷ bytes) bytes (drop n bytes) (
 -- Condacts that were walked over end where the last of the bytes begin.
 pub walked_end : (n : ℕ) (bytes rest : Bytes) → IsBytes bytes → each past_condact n bytes ≡ Ok rest → IsEnd bytes rest
 unfolding each
-walked_end zero bytes rest fits e = at_ok (λ (r : List ℕ). IsEnd bytes r) bytes rest e (end_whole bytes)
+walked_end zero bytes rest fits e = at_ok (λ (r : Bytes). IsEnd bytes r) bytes rest e (end_whole bytes)
 walked_end (suc n) bytes rest fits e =
     bind_then _ (past_condact bytes) _ rest e (λ after after_ok e.
     bind_then _ (leading_condact bytes) _ after after_ok (λ c c_ok same.
-    let first = at_ok (λ (r : List ℕ). IsEnd bytes r) c.1 after same (end_taken bytes _ c.1 (condact_takes bytes c fits c_ok)) in
+    let first = at_ok (λ (r : Bytes). IsEnd bytes r) c.1 after same (end_taken bytes _ c.1 (condact_takes bytes c fits c_ok)) in
     end_of_end bytes after rest first (walked_end n after rest (end_fits bytes after fits first) e)))
 
 -- ---- condacts after others ----
@@ -51,11 +51,11 @@ pub among_none : (k : ℕ) (bytes : Bytes) → condact_among k 0 bytes ≡ None
 among_none k bytes = among_past k 0 bytes (omega arith)
 
 -- No condact is left from a number on that isn't below their count.
-pub none_from : (at count : ℕ) (condacts rest : List ℕ) → count ≤ at → AreFrom at count condacts 0 rest
+pub none_from : (at count : ℕ) (condacts rest : Bytes) → count ≤ at → AreFrom at count condacts 0 rest
 none_from at count condacts rest le k = among_none k rest ∙ sym (among_past (at + k) count condacts (omega (arith, le)))
 
 -- Past the first m condacts stand those from number m on.
-pub among_from : (m count left : ℕ) (condacts rest : List ℕ) → each past_condact m condacts ≡ Ok rest → count ≡ m + left
+pub among_from : (m count left : ℕ) (condacts rest : Bytes) → each past_condact m condacts ≡ Ok rest → count ≡ m + left
     → AreFrom m count condacts left rest
 among_from m count left condacts rest e sum k =
     elim (cases_lt k left) [
@@ -65,7 +65,7 @@ among_from m count left condacts rest e sum k =
     ]
 
 -- Where there is a fault among the condacts before, none stands from there on.
-pub fault_from : (m n at count : ℕ) (condacts rest end : List ℕ) → each past_condact m condacts ≡ Ok rest → IsFault (each past_condact n rest)
+pub fault_from : (m n at count : ℕ) (condacts rest end : Bytes) → each past_condact m condacts ≡ Ok rest → IsFault (each past_condact n rest)
     → at ≡ m + n → AreFrom at count condacts 0 end
 fault_from m n at count condacts rest end e fault sum k =
     let walk = each_more past_condact m (n + k) (at + k) condacts rest (omega (arith, sum)) e ∙ each_add past_condact n k rest in
@@ -80,27 +80,27 @@ fault_from m n at count condacts rest end e fault sum k =
 
 -- ---- the condacts of the entry at the front ----
 
-nth_from : (at left : ℕ) (row rest : List ℕ) → 3 ≤ length row → AreFrom at (get_or row 2 0) (take (length row - 3) (drop 3 row)) left rest
+nth_from : (at left : ℕ) (row rest : Bytes) → 3 ≤ length row → AreFrom at (get_or row 2 0) (take (length row - 3) (drop 3 row)) left rest
     → AreNth at row left rest
 unfolding nth_condact
 nth_from at left [] rest le h = absurd (omega (arith, le))
 nth_from at left (verb ∷ []) rest le h = absurd (omega (arith, le))
 nth_from at left (verb ∷ noun ∷ []) rest le h = absurd (omega (arith, le))
 nth_from at left (verb ∷ noun ∷ count ∷ condacts) rest le h =
-    subst (λ (cs : List ℕ). AreFrom at count cs left rest) (take_all (length (verb ∷ noun ∷ count ∷ condacts) - 3) condacts (omega arith)) h
+    subst (λ (cs : Bytes). AreFrom at count cs left rest) (take_all (length (verb ∷ noun ∷ count ∷ condacts) - 3) condacts (omega arith)) h
 
-condacts_end : (row : List ℕ) → 3 ≤ length row → IsEnd row (take (length row - 3) (drop 3 row))
+condacts_end : (row : Bytes) → 3 ≤ length row → IsEnd row (take (length row - 3) (drop 3 row))
 condacts_end row le = subst (IsEnd row) (sym (take_all (length row - 3) (drop 3 row) (omega (arith, length-drop 3 row)))) (drop_end 3 row)
 
 -- They are those that begin at an offset of the bytes.
-pub nth_read : (bytes : Bytes) (start at left : ℕ) (row rest : List ℕ) → row ≡ drop start bytes → 3 ≤ length row
+pub nth_read : (bytes : Bytes) (start at left : ℕ) (row rest : Bytes) → row ≡ drop start bytes → 3 ≤ length row
     → AreFrom at (get_or row 2 0) (take (length row - 3) (drop 3 row)) left rest → IsEnd (take (length row - 3) (drop 3 row)) rest
     → AreNth at (drop start bytes) left (drop (length bytes - length rest) bytes)
 nth_read bytes start at left row rest same le from end =
     let within = end_of_end row (take (length row - 3) (drop 3 row)) rest (condacts_end row le) end in
     let all = end_of_end bytes row rest (subst (IsEnd bytes) (sym same) (drop_end start bytes)) within in
-    subst (λ (r : List ℕ). AreNth at r left (drop (length bytes - length rest) bytes)) same
-    (subst (λ (r : List ℕ). AreNth at row left r) (sym all) (nth_from at left row rest le from))
+    subst (λ (r : Bytes). AreNth at r left (drop (length bytes - length rest) bytes)) same
+    (subst (λ (r : Bytes). AreNth at row left r) (sym all) (nth_from at left row rest le from))
 
 -- ---- the condact at the front, and the next ----
 

@@ -13,8 +13,8 @@ use Rattle.paw_image.specs.declared.offsets.TableIndex.{TableIndex}
 
 -- ---- rows ----
 
-module _ (pass : List ℕ → Passing) (count i : ℕ) (bytes : Bytes) (total : Passing) where
-  pub each_goes_on : (after : List ℕ) → i < count → pass bytes ≡ Ok after → each pass (count - i) bytes ≡ total → each pass (count - (i + 1)) after ≡ total
+module _ (pass : Bytes → Passing) (count i : ℕ) (bytes : Bytes) (total : Passing) where
+  pub each_goes_on : (after : Bytes) → i < count → pass bytes ≡ Ok after → each pass (count - i) bytes ≡ total → each pass (count - (i + 1)) after ≡ total
   unfolding each
   each_goes_on after lt h so_far =
       let k : count - i ≡ suc (count - (i + 1)) = omega arith in
@@ -39,7 +39,7 @@ module _ (pass : List ℕ → Passing) (count i : ℕ) (bytes : Bytes) (total : 
 -- ---- exits ----
 
 module _ (d : ImagePreface) (verbs : List ℕ) (count i : ℕ) (bytes : Bytes) (total : Passing) where
-  pub exits_go_on : (verb : ℕ) (after : List ℕ) → i < count → checked_exit d verbs bytes ≡ Ok (verb, after) → after_exits_of d verbs (count - i) bytes ≡ total
+  pub exits_go_on : (verb : ℕ) (after : Bytes) → i < count → checked_exit d verbs bytes ≡ Ok (verb, after) → after_exits_of d verbs (count - i) bytes ≡ total
       → after_exits_of d (verb ∷ verbs) (count - (i + 1)) after ≡ total
   unfolding after_exits_of
   exits_go_on verb after lt h so_far =
@@ -64,8 +64,8 @@ module _ (d : ImagePreface) (verbs : List ℕ) (count i : ℕ) (bytes : Bytes) (
 
 -- ---- offsets ----
 
-module _ (pass : List ℕ → Passing) (total : ℕ) (front : List ℕ) (count i : ℕ) (bytes : Bytes) (whole : List ℕ) where
-  pub begins_go_on : (after : List ℕ) → i < count → pass bytes ≡ Ok after → front ++ begins pass total (count - i) bytes ≡ whole
+module _ (pass : Bytes → Passing) (total : ℕ) (front : List ℕ) (count i : ℕ) (bytes : Bytes) (whole : List ℕ) where
+  pub begins_go_on : (after : Bytes) → i < count → pass bytes ≡ Ok after → front ++ begins pass total (count - i) bytes ≡ whole
       → (front ++ (total - length bytes) ∷ []) ++ begins pass total (count - (i + 1)) after ≡ whole
   unfolding begins
   begins_go_on after lt h so_far =
@@ -81,7 +81,7 @@ module _ (pass : List ℕ → Passing) (total : ℕ) (front : List ℕ) (count i
       sym one ∙ so_far
 
 module _ (d : ImagePreface) (total : ℕ) (front : List TableIndex) (count i : ℕ) (bytes : Bytes) (whole : TableOffsets) where
-  pub tables_go_on : (t : TableIndex) (after : List ℕ) → i < count → after_table d bytes ≡ Ok after → t.entries.items ≡ entries_begin d total bytes
+  pub tables_go_on : (t : TableIndex) (after : Bytes) → i < count → after_table d bytes ≡ Ok after → t.entries.items ≡ entries_begin d total bytes
       → entries_of front ++ tables_begin d total (count - i) bytes ≡ whole
       → entries_of (front ++ t ∷ []) ++ tables_begin d total (count - (i + 1)) after ≡ whole
   unfolding tables_begin

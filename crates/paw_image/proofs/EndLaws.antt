@@ -1,5 +1,5 @@
 -- The last of all bytes: what is left after rows at their front is the last of them too.
-use Rattle.std.proofs.Common.{◌≡◌, ℕ, ◌+◌, ◌-◌, ◌≤◌, Bool, List, length, drop, Ok, refl, sym, ap, subst, ◌∙◌, arith}
+use Rattle.std.proofs.Common.{◌≡◌, ℕ, ◌+◌, ◌-◌, ◌≤◌, Bool, length, drop, Ok, refl, sym, ap, subst, ◌∙◌, arith}
 use Rattle.std.specs.List.{flat_map}
 use Rattle.std.proofs.lemmas.List.{drop_at, drop-drop, length-drop, get_or-drop}
 use Rattle.paw_base.specs.Bytes.{Bytes}
@@ -26,24 +26,24 @@ end_taken bytes text rest t =
     let n : length bytes - length rest ≡ length text = omega (arith, taken_length bytes text rest t) in
     rw n (ap (drop (length text)) t.parts ∙ drop_at text rest (length text) refl)
 
-pub end_length : (all bytes : List ℕ) → IsEnd all bytes → length bytes ≤ length all
-end_length all bytes p = omega (arith, length-drop (length all - length bytes) all, ap (λ (l : List ℕ). length l) p)
+pub end_length : (all bytes : Bytes) → IsEnd all bytes → length bytes ≤ length all
+end_length all bytes p = omega (arith, length-drop (length all - length bytes) all, ap (λ (l : Bytes). length l) p)
 
-pub end_of_end : (all bytes rest : List ℕ) → IsEnd all bytes → IsEnd bytes rest → IsEnd all rest
+pub end_of_end : (all bytes rest : Bytes) → IsEnd all bytes → IsEnd bytes rest → IsEnd all rest
 end_of_end all bytes rest p q =
     let before = length all - length bytes in
     let between = length bytes - length rest in
     let n : length all - length rest ≡ before + between = omega (arith, end_length all bytes p, end_length bytes rest q) in
     rw n (sym (drop-drop between before all) ∙ ap (drop between) p ∙ q)
 
-pub end_fits : (all bytes : List ℕ) → IsBytes all → IsEnd all bytes → IsBytes bytes
+pub end_fits : (all bytes : Bytes) → IsBytes all → IsEnd all bytes → IsBytes bytes
 end_fits all bytes fits p =
     subst IsBytes p (λ i. rw (get_or-drop (length all - length bytes) all i 0) (fits (length all - length bytes + i)))
 
 -- ---- after rows ----
 
-module _ (all bytes rest : List ℕ) (fits : IsBytes all) (end : IsEnd all bytes) where
-  pub rows_end : {A : Type 0} (pass : List ℕ → Passing) (row : List ℕ → Reading A) (image : A → List ℕ) (rule : A → Bool)
+module _ (all bytes rest : Bytes) (fits : IsBytes all) (end : IsEnd all bytes) where
+  pub rows_end : {A : Type 0} (pass : Bytes → Passing) (row : Bytes → Reading A) (image : A → Bytes) (rule : A → Bool)
       → TakesRow row image → SoundRow pass row rule → (n : ℕ) → each pass n bytes ≡ Ok rest → IsEnd all rest
   rows_end pass row image rule takes sound n e =
       let here = end_fits all bytes fits end in
@@ -79,4 +79,4 @@ module _ (all bytes rest : List ℕ) (fits : IsBytes all) (end : IsEnd all bytes
       bind_then _ (number_at bytes) _ (n, rest) e (λ x x_ok e.
       let both = kept_ok (is_within least most x.0) (Ok x) (length bytes) (n, rest) e in
       let taken = (number_takes bytes x here x_ok).0 in
-      at_ok (λ (y : ℕ × List ℕ). IsEnd all y.1) x (n, rest) both.1 (end_of_end all bytes x.1 end (end_taken bytes (two_bytes x.0) x.1 taken)))
+      at_ok (λ (y : ℕ × Bytes). IsEnd all y.1) x (n, rest) both.1 (end_of_end all bytes x.1 end (end_taken bytes (two_bytes x.0) x.1 taken)))

@@ -1,10 +1,10 @@
 -- Looking for the exit of a verb, as a loop does.
-use Rattle.std.proofs.Common.{◌≡◌, ℕ, suc, ◌+◌, ◌-◌, ◌<◌, ◌≤◌, List, Some, None, refl, arith}
+use Rattle.std.proofs.Common.{◌≡◌, ℕ, suc, ◌+◌, ◌-◌, ◌<◌, ◌≤◌, Some, None, refl, arith}
 use Rattle.paw_base.specs.Bytes.{Bytes}
 use Rattle.paw_game.specs.declared.parts.Exit.{Exit}
 use Rattle.paw_image.specs.inner.Rows.{exit_here, exit_or_next, exit_in}
 
-pub exit_step : (verb count i : ℕ) (bytes : Bytes) (x : Exit × List ℕ) → i < count → exit_here bytes ≡ Some x
+pub exit_step : (verb count i : ℕ) (bytes : Bytes) (x : Exit × Bytes) → i < count → exit_here bytes ≡ Some x
     → exit_in verb (count - i) bytes ≡ exit_or_next verb (exit_in verb (count - (i + 1))) (Some x)
 unfolding exit_in
 exit_step verb count i bytes x lt h =

@@ -1,5 +1,5 @@
 -- Where a first step has no value, what follows it has none.
-use Rattle.std.proofs.Common.{◌≡◌, ℕ, suc, ◌+◌, ◌-◌, ◌<◌, List, None, Result, Ok, Err, refl, sym, subst, ◌∙◌, arith}
+use Rattle.std.proofs.Common.{◌≡◌, ℕ, suc, ◌+◌, ◌-◌, ◌<◌, None, Result, Ok, Err, refl, sym, subst, ◌∙◌, arith}
 use Rattle.paw_base.specs.Bytes.{Bytes}
 use Rattle.paw_read_error.specs.declared.read_error.ReadError.{ReadError}
 use Rattle.paw_read_error.specs.declared.read_error.ReadError.TheVariants as fault
@@ -31,7 +31,7 @@ fails_next fault.Memory r f h = tt
 fails_next (fault.Fault left) r f h = rw h refl
 
 -- Where one row has no value, all of them together have none.
-pub each_fault : (pass : List ℕ → Passing) (count i : ℕ) (bytes : Bytes) (total : Passing) → i < count
+pub each_fault : (pass : Bytes → Passing) (count i : ℕ) (bytes : Bytes) (total : Passing) → i < count
     → IsFault (pass bytes) → each pass (count - i) bytes ≡ total → IsFault total
 unfolding each
 each_fault pass count i bytes total lt h so_far =

@@ -1,6 +1,6 @@
 -- A field that is read is the field that was written, and what was written is read again.
 use Rattle.std.proofs.Common.{◌≡◌, ℕ, suc, ◌+◌, ◌^◌, ◌<◌, ◌≤◌, Bool, true, false, cond, ltb}
-use Rattle.std.proofs.Common.{List, [], ◌∷◌, ◌++◌, length, get_or, take, drop, Result, Ok, Err}
+use Rattle.std.proofs.Common.{[], ◌∷◌, ◌++◌, length, get_or, take, drop, Result, Ok, Err}
 use Rattle.std.proofs.Common.{refl, sym, ap, subst, ◌∙◌, append_assoc, arith, inl, inr}
 use Rattle.std.specs.Int.{w16, from_le_bytes}
 use Rattle.std.proofs.lemmas.Bool.{cases_lt, ltb-false, le-ltb}
@@ -12,7 +12,7 @@ use Rattle.paw_game.specs.Image.{two_bytes}
 use Rattle.paw_read_error.specs.Bind.{◌>>=◌}
 use Rattle.paw_image.specs.Reading.{byte_at, bytes_at, number_at}
 
-abbrev pub IsBytes : List ℕ → Type 0
+abbrev pub IsBytes : Bytes → Type 0
 IsBytes bytes = (i : ℕ) → get_or bytes i 0 < 256
 
 IsBytes-drop : (n : ℕ) (bytes : Bytes) → IsBytes bytes → IsBytes (drop n bytes)
@@ -57,39 +57,39 @@ pub record Takes (bytes text rest : Bytes) : Type 0 where
   pub parts : bytes ≡ text ++ rest
   pub rest_fits : IsBytes rest
 
-pub Takes-then : {a b c : List ℕ} (x y : List ℕ) → Takes a x b → Takes b y c → Takes a (x ++ y) c
-Takes-then {c = c} x y p q = record { parts = p.parts ∙ ap (λ (t : List ℕ). x ++ t) q.parts ∙ sym (append_assoc x y c); rest_fits = q.rest_fits }
+pub Takes-then : {a b c : Bytes} (x y : Bytes) → Takes a x b → Takes b y c → Takes a (x ++ y) c
+Takes-then {c = c} x y p q = record { parts = p.parts ∙ ap (λ (t : Bytes). x ++ t) q.parts ∙ sym (append_assoc x y c); rest_fits = q.rest_fits }
 
 -- ---- bytes ----
 
-pub byte_takes : (bytes : Bytes) (x : ℕ × List ℕ) → IsBytes bytes → byte_at bytes ≡ Ok x → Takes bytes (x.0 ∷ []) x.1 × (x.0 < 256)
+pub byte_takes : (bytes : Bytes) (x : ℕ × Bytes) → IsBytes bytes → byte_at bytes ≡ Ok x → Takes bytes (x.0 ∷ []) x.1 × (x.0 < 256)
 byte_takes [] x fits e = absurd cc
 byte_takes (b ∷ bytes) x fits e =
-    at_ok (λ (y : ℕ × List ℕ). Takes (b ∷ bytes) (y.0 ∷ []) y.1 × (y.0 < 256)) (b, bytes) x e (record { parts = refl; rest_fits = λ i. fits (suc i) }, fits 0)
+    at_ok (λ (y : ℕ × Bytes). Takes (b ∷ bytes) (y.0 ∷ []) y.1 × (y.0 < 256)) (b, bytes) x e (record { parts = refl; rest_fits = λ i. fits (suc i) }, fits 0)
 
-pub bytes_take : (n : ℕ) (bytes : Bytes) (x : List ℕ × List ℕ) → IsBytes bytes → bytes_at n bytes ≡ Ok x → Takes bytes x.0 x.1 × (length x.0 ≡ n) × IsBytes x.0
+pub bytes_take : (n : ℕ) (bytes : Bytes) (x : Bytes × Bytes) → IsBytes bytes → bytes_at n bytes ≡ Ok x → Takes bytes x.0 x.1 × (length x.0 ≡ n) × IsBytes x.0
 bytes_take n bytes x fits e =
     let is_long = guard_ok (ltb (length bytes) n) _ _ x e in
     let long : n ≤ length bytes = ltb-false _ _ is_long.0 in
-    at_ok (λ (y : List ℕ × List ℕ). Takes bytes y.0 y.1 × (length y.0 ≡ n) × IsBytes y.0) _ x is_long.1
+    at_ok (λ (y : Bytes × Bytes). Takes bytes y.0 y.1 × (length y.0 ≡ n) × IsBytes y.0) _ x is_long.1
     (record { parts = sym (take-append-drop n bytes); rest_fits = IsBytes-drop n bytes fits }, omega (arith, length-take n bytes), IsBytes-take n bytes fits)
 
-pub bytes_again : (n : ℕ) (front rest : List ℕ) → length front ≡ n → bytes_at n (front ++ rest) ≡ Ok (front, rest)
+pub bytes_again : (n : ℕ) (front rest : Bytes) → length front ≡ n → bytes_at n (front ++ rest) ≡ Ok (front, rest)
 bytes_again n front rest len =
     let long : ltb (length (front ++ rest)) n ≡ false = le-ltb _ _ (omega (arith, length-append front rest)) in
     rw (long, take_at front rest n len, drop_at front rest n len) refl
 
 -- ---- numbers of two bytes ----
 
-pub number_takes : (bytes : Bytes) (x : ℕ × List ℕ) → IsBytes bytes → number_at bytes ≡ Ok x → Takes bytes (two_bytes x.0) x.1 × (x.0 < 2 ^ 16)
+pub number_takes : (bytes : Bytes) (x : ℕ × Bytes) → IsBytes bytes → number_at bytes ≡ Ok x → Takes bytes (two_bytes x.0) x.1 × (x.0 < 2 ^ 16)
 unfolding number_at
 number_takes bytes x fits e =
     bind_then _ (bytes_at 2 bytes) _ x e (λ two two_ok e.
     let two_taken = bytes_take 2 bytes two fits two_ok in
     let back : two_bytes (from_le_bytes w16 two.0) ≡ two.0 = le_bytes_2 two.0 _ two_taken.1 two_taken.2 refl in
-    at_ok (λ (y : ℕ × List ℕ). Takes bytes (two_bytes y.0) y.1 × (y.0 < 2 ^ 16)) _ x e
-    (subst (λ (y : List ℕ). Takes bytes y two.1) (sym back) two_taken.0, omega (arith, two_taken.2 0, two_taken.2 1)))
+    at_ok (λ (y : ℕ × Bytes). Takes bytes (two_bytes y.0) y.1 × (y.0 < 2 ^ 16)) _ x e
+    (subst (λ (y : Bytes). Takes bytes y two.1) (sym back) two_taken.0, omega (arith, two_taken.2 0, two_taken.2 1)))
 
-pub number_again : (n : ℕ) (rest : List ℕ) → n < 2 ^ 16 → number_at (two_bytes n ++ rest) ≡ Ok (n, rest)
+pub number_again : (n : ℕ) (rest : Bytes) → n < 2 ^ 16 → number_at (two_bytes n ++ rest) ≡ Ok (n, rest)
 unfolding number_at
 number_again n rest lt = rw (bytes_again 2 (two_bytes n) rest refl, from_le_bytes-to_le_bytes_2 n lt) refl

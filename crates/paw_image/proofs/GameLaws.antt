@@ -1,6 +1,6 @@
 -- The two laws of the whole image: what is read has the bytes as its image, and the image of a valid game is read as
 -- that game.
-use Rattle.std.proofs.Common.{◌≡◌, ℕ, ◌&&◌, eqb, List, [], ◌++◌, length, Ok, Err, Bool, true, refl, sym, ap, ◌∙◌}
+use Rattle.std.proofs.Common.{◌≡◌, ℕ, ◌&&◌, eqb, [], ◌++◌, length, Ok, Err, Bool, true, refl, sym, ap, ◌∙◌}
 use Rattle.std.proofs.Common.{append_assoc}
 use Rattle.std.specs.Prelude.{if◌then◌else◌}
 use Rattle.std.specs.List.{flat_map}
@@ -25,22 +25,22 @@ use Rattle.paw_image.proofs.ValidLaws.{parts_of, valid_fits}
 use Rattle.paw_image.proofs.VersionLaws.{needed_by, needed_byte}
 
 -- The lists after the words one after another, from each on, and what follows them.
-abbrev pub from_tables : GameLists → List ℕ → List ℕ
+abbrev pub from_tables : GameLists → Bytes → Bytes
 from_tables g rest = flat_map table_image g.tables ++ rest
 
-abbrev pub from_exits : GameLists → List ℕ → List ℕ
+abbrev pub from_exits : GameLists → Bytes → Bytes
 from_exits g rest = flat_map exits_image g.exits ++ from_tables g rest
 
-abbrev pub from_locations : GameLists → List ℕ → List ℕ
+abbrev pub from_locations : GameLists → Bytes → Bytes
 from_locations g rest = flat_map text_image g.locations ++ from_exits g rest
 
-abbrev pub from_objects : GameLists → List ℕ → List ℕ
+abbrev pub from_objects : GameLists → Bytes → Bytes
 from_objects g rest = flat_map object_image g.objects ++ from_locations g rest
 
-abbrev pub from_messages : GameLists → List ℕ → List ℕ
+abbrev pub from_messages : GameLists → Bytes → Bytes
 from_messages g rest = flat_map text_image g.messages ++ from_objects g rest
 
-abbrev pub lists_image : GameLists → List ℕ → List ℕ
+abbrev pub lists_image : GameLists → Bytes → Bytes
 lists_image g rest = flat_map text_image g.system ++ from_messages g rest
 
 -- What declares as many rows as there are is what the game declares.
@@ -51,11 +51,11 @@ declared_is : (d : ImagePreface) (g : GameLists) → g.words ≡ d.words → len
 declared_is d g words a b c e f h = rw (words, a, b, c, e, f, h) refl
 
 -- Lists that were read.
-pub record AreTaken (d : ImagePreface) (bytes : Bytes) (x : GameLists × List ℕ) : Type 0 where
+pub record AreTaken (d : ImagePreface) (bytes : Bytes) (x : GameLists × Bytes) : Type 0 where
   pub parts : bytes ≡ lists_image x.0 x.1
   pub declared : length d.words ≡ d.counts.words → d ≡ declared_as d.version x.0
 
-pub lists_take : (d : ImagePreface) (bytes : Bytes) (x : GameLists × List ℕ) → IsBytes bytes → lists_at d bytes ≡ Ok x
+pub lists_take : (d : ImagePreface) (bytes : Bytes) (x : GameLists × Bytes) → IsBytes bytes → lists_at d bytes ≡ Ok x
     → AreTaken d bytes x
 unfolding lists_at
 lists_take d bytes x fits e =
@@ -82,13 +82,13 @@ lists_take d bytes x fits e =
     let to_objects = objects_taken.0.parts ∙ ap (λ t. flat_map object_image objects.0 ++ t) to_locations in
     let to_messages = messages_taken.0.parts ∙ ap (λ t. flat_map text_image messages.0 ++ t) to_objects in
     let lists = game_with d.words system.0 messages.0 objects.0 locations.0 exits.0 tables.0 in
-    at_ok (λ (y : GameLists × List ℕ). AreTaken d bytes y) _ x e (record {
+    at_ok (λ (y : GameLists × Bytes). AreTaken d bytes y) _ x e (record {
       parts = system_taken.0.parts ∙ ap (λ t. flat_map text_image system.0 ++ t) to_messages;
       declared = λ many. declared_is d lists refl many system_taken.1 messages_taken.1 objects_taken.1
           locations_taken.1 tables_taken.1;
     })))))))
 
-lists_again : (v : Version) (g : GameLists) (rest : List ℕ) → FitsGame g
+lists_again : (v : Version) (g : GameLists) (rest : Bytes) → FitsGame g
     → lists_at (declared_as v g) (lists_image g rest) ≡ Ok (g, rest)
 unfolding lists_at
 lists_again v g rest fits =

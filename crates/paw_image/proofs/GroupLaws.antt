@@ -28,7 +28,7 @@ first_of x y o Less e h = let lt : x < y = ranked x y Less e in omega (arith, lt
 first_of x y o Equal e h = let same : x ≡ y = ranked x y Equal e in omega (arith, same)
 first_of x y o Greater e h = absurd cc
 
-first_letters : (a b : List ℕ) → slice_cmp nat_cmp a b ≡ Less → get_or a 0 0 ≤ get_or b 0 0
+first_letters : (a b : Letters) → slice_cmp nat_cmp a b ≡ Less → get_or a 0 0 ≤ get_or b 0 0
 first_letters [] b h = omega arith
 first_letters (x ∷ xs) [] h = absurd cc
 first_letters (x ∷ xs) (y ∷ ys) h = first_of x y (slice_cmp nat_cmp xs ys) (nat_cmp x y) refl h
@@ -63,7 +63,7 @@ take_rises (suc (suc n)) (w ∷ v ∷ vs) h =
 -- ---- the word with some letters ----
 
 -- Letters of another group are others.
-other_letters : (a b : List ℕ) → (first_group a ≡ first_group b → ⊥) → bytes_eq a b ≡ false
+other_letters : (a b : Letters) → (first_group a ≡ first_group b → ⊥) → bytes_eq a b ≡ false
 other_letters a b other = by (bytes_eq a b) refl
   where
     by : (t : Bool) → bytes_eq a b ≡ t → t ≡ false

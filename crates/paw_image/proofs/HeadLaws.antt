@@ -47,7 +47,7 @@ told (suc (suc (suc byte))) h =
     let high = leb-true (suc (suc (suc byte))) 2 (and_parts (leb 1 (suc (suc (suc byte)))) _ h).1 in
     absurd (omega (arith, high))
 
-version_takes : (bytes : Bytes) (x : Version × List ℕ) → IsBytes bytes → checked_version bytes ≡ Ok x
+version_takes : (bytes : Bytes) (x : Version × Bytes) → IsBytes bytes → checked_version bytes ≡ Ok x
     → Takes bytes (codes "PAWI" ++ version_byte x.0 ∷ []) x.1
 unfolding checked_version
 version_takes bytes x fits e =
@@ -56,12 +56,12 @@ version_takes bytes x fits e =
     let signature_taken = (bytes_take 4 bytes signature fits signature_ok).0 in
     let byte_taken = (byte_takes signature.1 byte signature_taken.rest_fits byte_ok).0 in
     let is_signature = (bytes_eq-Decides signature.0 (codes "PAWI")).0 signature_kept in
-    at_ok (λ (y : Version × List ℕ). Takes bytes (codes "PAWI" ++ version_byte y.0 ∷ []) y.1) _ x e
+    at_ok (λ (y : Version × Bytes). Takes bytes (codes "PAWI" ++ version_byte y.0 ∷ []) y.1) _ x e
     (Takes-then (codes "PAWI") (version_byte (version_of_byte byte.0) ∷ [])
-    (subst (λ (m : List ℕ). Takes bytes m signature.1) is_signature signature_taken)
+    (subst (λ (m : Bytes). Takes bytes m signature.1) is_signature signature_taken)
     (subst (λ (b : ℕ). Takes signature.1 (b ∷ []) byte.1) (told byte.0 byte_kept) byte_taken))))
 
-version_passes : (v : Version) (rest : List ℕ) → checked_version (codes "PAWI" ++ (version_byte v ∷ rest)) ≡ Ok (v, rest)
+version_passes : (v : Version) (rest : Bytes) → checked_version (codes "PAWI" ++ (version_byte v ∷ rest)) ≡ Ok (v, rest)
 unfolding checked_version
 version_passes One rest = rw (bytes_again 4 (codes "PAWI") (1 ∷ rest) refl) refl
 version_passes Two rest = rw (bytes_again 4 (codes "PAWI") (2 ∷ rest) refl) refl
@@ -69,7 +69,7 @@ version_passes Two rest = rw (bytes_again 4 (codes "PAWI") (2 ∷ rest) refl) re
 -- ---- counts ----
 
 -- The six counts.
-abbrev pub counts_image : Counts → List ℕ
+abbrev pub counts_image : Counts → Bytes
 counts_image c =
     two_bytes c.words ++ two_bytes c.system ++ two_bytes c.messages ++ two_bytes c.objects ++ two_bytes c.locations
     ++ two_bytes c.tables
@@ -84,14 +84,14 @@ pub record AreFew (c : Counts) : Type 0 where
   pub tables : is_within TABLE_LEAST TABLE_LIMIT c.tables ≡ true
 
 -- What follows from a number that kept its limits.
-within_then : {B : Type 0} (P : Type 0) (least most : ℕ) (bytes : Bytes) (f : ℕ × List ℕ → Result B ℕ) (y : B)
+within_then : {B : Type 0} (P : Type 0) (least most : ℕ) (bytes : Bytes) (f : ℕ × Bytes → Result B ℕ) (y : B)
     → IsBytes bytes → (checked_number least most bytes >>= f) ≡ Ok y
-    → ((x : ℕ × List ℕ) → Takes bytes (two_bytes x.0) x.1 → is_within least most x.0 ≡ true → f x ≡ Ok y → P) → P
+    → ((x : ℕ × Bytes) → Takes bytes (two_bytes x.0) x.1 → is_within least most x.0 ≡ true → f x ≡ Ok y → P) → P
 within_then P least most bytes f y fits e go =
     kept_then P (is_within least most) number_at bytes f y e
     (λ x x_ok x_kept e. go x (number_takes bytes x fits x_ok).0 x_kept e)
 
-counts_take : (bytes : Bytes) (x : Counts × List ℕ) → IsBytes bytes → checked_counts bytes ≡ Ok x
+counts_take : (bytes : Bytes) (x : Counts × Bytes) → IsBytes bytes → checked_counts bytes ≡ Ok x
     → Takes bytes (counts_image x.0) x.1 × AreFew x.0
 unfolding checked_counts
 counts_take bytes x fits e =
@@ -104,10 +104,10 @@ counts_take bytes x fits e =
     within_then _ TABLE_LEAST TABLE_LIMIT locations.1 _ x locations_taken.rest_fits e (λ tables tables_taken t e.
     let four = Takes-then _ _ objects_taken (Takes-then _ _ locations_taken tables_taken) in
     let taken = Takes-then _ _ words_taken (Takes-then _ _ system_taken (Takes-then _ _ messages_taken four)) in
-    at_ok (λ (y : Counts × List ℕ). Takes bytes (counts_image y.0) y.1 × AreFew y.0) _ x e
+    at_ok (λ (y : Counts × Bytes). Takes bytes (counts_image y.0) y.1 × AreFew y.0) _ x e
     (taken, record { words = w; system = s; messages = m; objects = o; locations = l; tables = t })))))))
 
-counts_pass : (g : GameLists) (rest : List ℕ) → AreFew (counts_of g)
+counts_pass : (g : GameLists) (rest : Bytes) → AreFew (counts_of g)
     → checked_counts (counts_image (counts_of g) ++ rest) ≡ Ok (counts_of g, rest)
 unfolding checked_counts
 counts_pass g rest h =
@@ -137,12 +137,12 @@ few_counts g v = record {
 
 -- ---- words ----
 
-record IsNext (before bytes : List ℕ) (x : Word × List ℕ) : Type 0 where
+record IsNext (before bytes : Bytes) (x : Word × Bytes) : Type 0 where
   taken : Takes bytes (word_image x.0) x.1
   keeps : is_word x.0 ≡ true
   above : is_lt (slice_cmp nat_cmp before x.0.letters) ≡ true
 
-word_takes : (before bytes : List ℕ) (x : Word × List ℕ) → IsBytes bytes → checked_word before bytes ≡ Ok x
+word_takes : (before bytes : Bytes) (x : Word × Bytes) → IsBytes bytes → checked_word before bytes ≡ Ok x
     → IsNext before bytes x
 unfolding checked_word
 word_takes before bytes x fits e =
@@ -154,38 +154,38 @@ word_takes before bytes x fits e =
     let letters_taken = (bytes_take WORD_LENGTH bytes letters fits letters_ok).0 in
     let value_taken = (byte_takes letters.1 value letters_taken.rest_fits value_ok).0 in
     let class_taken = (byte_takes value.1 class value_taken.rest_fits class_ok).0 in
-    at_ok (λ (y : Word × List ℕ). IsNext before bytes y) _ x e (record {
+    at_ok (λ (y : Word × Bytes). IsNext before bytes y) _ x e (record {
       taken = Takes-then letters.0 (value.0 ∷ class.0 ∷ []) letters_taken
           (Takes-then (value.0 ∷ []) (class.0 ∷ []) value_taken class_taken);
       keeps = rw (both.0, value_kept, class_kept) refl;
       above = both.1;
     }))))
 
-record AreNext (before : List ℕ) (n : ℕ) (bytes : Bytes) (x : List Word × List ℕ) : Type 0 where
+record AreNext (before : Bytes) (n : ℕ) (bytes : Bytes) (x : List Word × Bytes) : Type 0 where
   taken : Takes bytes (flat_map word_image x.0) x.1
   many : length x.0 ≡ n
   keep : list_all is_word x.0 ≡ true
   rise : rise_after before x.0 ≡ true
 
-words_take : (before : List ℕ) (n : ℕ) (bytes : Bytes) (x : List Word × List ℕ) → IsBytes bytes
+words_take : (before : Bytes) (n : ℕ) (bytes : Bytes) (x : List Word × Bytes) → IsBytes bytes
     → words_above before n bytes ≡ Ok x → AreNext before n bytes x
 unfolding words_above rise_after
 words_take before zero bytes x fits e =
-    at_ok (λ (y : List Word × List ℕ). AreNext before 0 bytes y) ([], bytes) x e
+    at_ok (λ (y : List Word × Bytes). AreNext before 0 bytes y) ([], bytes) x e
     (record { taken = record { parts = refl; rest_fits = fits }; many = refl; keep = refl; rise = refl })
 words_take before (suc n) bytes x fits e =
     bind_then _ (checked_word before bytes) _ x e (λ first first_ok e.
     bind_then _ (words_above first.0.letters n first.1) _ x e (λ others others_ok e.
     let w = word_takes before bytes first fits first_ok in
     let ws = words_take first.0.letters n first.1 others w.taken.rest_fits others_ok in
-    at_ok (λ (y : List Word × List ℕ). AreNext before (suc n) bytes y) _ x e (record {
+    at_ok (λ (y : List Word × Bytes). AreNext before (suc n) bytes y) _ x e (record {
       taken = Takes-then (word_image first.0) (flat_map word_image others.0) w.taken ws.taken;
       many = ap suc ws.many;
       keep = rw (w.keeps, ws.keep) refl;
       rise = rw (w.above, ws.rise) refl;
     })))
 
-word_passes : (before : List ℕ) (w : Word) (rest : List ℕ) → is_word w ≡ true
+word_passes : (before : Bytes) (w : Word) (rest : Bytes) → is_word w ≡ true
     → is_lt (slice_cmp nat_cmp before w.letters) ≡ true → checked_word before (word_image w ++ rest) ≡ Ok (w, rest)
 unfolding checked_word
 word_passes before w rest h above =
@@ -196,7 +196,7 @@ word_passes before w rest h above =
     let again = bytes_again WORD_LENGTH w.letters (w.value ∷ w.class ∷ rest) (letters_fit w.letters letters.0) in
     ap (checked_word before) regrouped ∙ rw (again, letters.0, above, value.0, value.1) refl
 
-words_pass : (before : List ℕ) (ws : List Word) (rest : List ℕ) → list_all is_word ws ≡ true
+words_pass : (before : Bytes) (ws : List Word) (rest : Bytes) → list_all is_word ws ≡ true
     → rise_after before ws ≡ true → words_above before (length ws) (flat_map word_image ws ++ rest) ≡ Ok (ws, rest)
 unfolding words_above rise_after
 words_pass before [] rest h rise = refl
@@ -212,23 +212,23 @@ words_pass before (w ∷ ws) rest h rise =
 -- ---- the front ----
 
 -- Mark, a byte for the version, counts and words.
-abbrev pub front_with : ℕ → Counts → List Word → List ℕ
+abbrev pub front_with : ℕ → Counts → List Word → Bytes
 front_with byte counts words = codes "PAWI" ++ (byte ∷ (counts_image counts ++ flat_map word_image words))
 
-abbrev pub front_image : ImagePreface → List ℕ
+abbrev pub front_image : ImagePreface → Bytes
 front_image d = front_with (version_byte d.version) d.counts d.words
 
 pub front_length : (d : ImagePreface) → length (front_image d) ≡ 17 + length (flat_map word_image d.words)
 front_length d = omega (arith, length-append (counts_image d.counts) (flat_map word_image d.words))
 
-pub record Fronted (bytes : Bytes) (x : ImagePreface × List ℕ) : Type 0 where
+pub record Fronted (bytes : Bytes) (x : ImagePreface × Bytes) : Type 0 where
   pub taken : Takes bytes (front_image x.0) x.1
   pub few : AreFew x.0.counts
   pub many : length x.0.words ≡ x.0.counts.words
   pub keep : list_all is_word x.0.words ≡ true
   pub rise : rise_after [] x.0.words ≡ true
 
-pub front_takes : (bytes : Bytes) (x : ImagePreface × List ℕ) → IsBytes bytes → front bytes ≡ Ok x → Fronted bytes x
+pub front_takes : (bytes : Bytes) (x : ImagePreface × Bytes) → IsBytes bytes → front bytes ≡ Ok x → Fronted bytes x
 unfolding front
 front_takes bytes x fits e =
     bind_then _ (checked_version bytes) _ x e (λ version version_ok e.
@@ -238,7 +238,7 @@ front_takes bytes x fits e =
     let six = counts_take version.1 counts first.rest_fits counts_ok in
     let ws = words_take [] counts.0.words counts.1 words six.0.rest_fits words_ok in
     let after_version = Takes-then (counts_image counts.0) (flat_map word_image words.0) six.0 ws.taken in
-    at_ok (λ (y : ImagePreface × List ℕ). Fronted bytes y) _ x e (record {
+    at_ok (λ (y : ImagePreface × Bytes). Fronted bytes y) _ x e (record {
       taken = Takes-then (codes "PAWI" ++ version_byte version.0 ∷ []) _ first after_version;
       few = six.1;
       many = ws.many;
@@ -246,7 +246,7 @@ front_takes bytes x fits e =
       rise = ws.rise;
     }))))
 
-pub front_passes : (version : Version) (g : GameLists) (rest : List ℕ) → ValidParts g
+pub front_passes : (version : Version) (g : GameLists) (rest : Bytes) → ValidParts g
     → front (front_image (declared_as version g) ++ rest) ≡ Ok (declared_as version g, rest)
 unfolding front
 front_passes version g rest v =

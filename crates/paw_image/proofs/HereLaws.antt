@@ -1,5 +1,5 @@
 -- What stands at an offset of bytes: the head of an entry, or a condact.
-use Rattle.std.proofs.Common.{◌≡◌, ℕ, zero, suc, ◌+◌, ◌<◌, List, [], ◌∷◌, length, drop, get_or, Some, None, Ok, refl, sym, ap, ◌∙◌}
+use Rattle.std.proofs.Common.{◌≡◌, ℕ, zero, suc, ◌+◌, ◌<◌, [], ◌∷◌, length, drop, get_or, Some, None, Ok, refl, sym, ap, ◌∙◌}
 use Rattle.std.proofs.Common.{Bool, true, false, inl, inr, arith}
 use Rattle.std.specs.Prelude.{slice_get, IfSome, ◌≤◌}
 use Rattle.std.proofs.lemmas.List.{drop-drop}
@@ -50,7 +50,7 @@ pub no_head : (p : ℕ) (bytes : Bytes) → slice_get bytes (p + 2) ≡ None →
 no_head p bytes h = let two : p + 2 ≡ suc (suc p) = omega arith in no_head_from p bytes (rw two at h)
 
 -- The third byte of a row is the number in its head.
-pub few_in_row : (row same : List ℕ) (n : ℕ) → same ≡ row → 3 ≤ length same → n ≤ get_or same 2 0 → IfSome (head_here row) (λ x. n ≤ x.1)
+pub few_in_row : (row same : Bytes) (n : ℕ) → same ≡ row → 3 ≤ length same → n ≤ get_or same 2 0 → IfSome (head_here row) (λ x. n ≤ x.1)
 unfolding head_here
 few_in_row [] same n e long few = tt
 few_in_row (b ∷ []) same n e long few = tt
@@ -59,7 +59,7 @@ few_in_row (b ∷ c ∷ d ∷ row) same n e long few = rw e at few
 
 -- ---- the first condact of an entry ----
 
-among_head : (row : List ℕ) (head : ℕ × ℕ) (left k : ℕ) → head_here row ≡ Some (head, left)
+among_head : (row : Bytes) (head : ℕ × ℕ) (left k : ℕ) → head_here row ≡ Some (head, left)
     → condact_among k left (drop 3 row) ≡ nth_condact k row
 unfolding head_here nth_condact
 among_head [] head left k h = absurd (none-some (head, left) h)
@@ -126,7 +126,7 @@ byte_there p bytes h =
 pub parameter_there : (k : ParamKind) (p : ℕ) (bytes : Bytes) → (k ≡ kind.Absent → ⊥) → (IsFault (parameter_at k (drop p bytes)) → ⊥) → p < length bytes
 parameter_there k p bytes other h = byte_there p bytes (λ none. h (no_parameter k p bytes other none))
 
-abbrev by_count : ℕ → List ℕ → Reading ℕ
+abbrev by_count : ℕ → Bytes → Reading ℕ
 by_count zero bytes = Ok (0, bytes)
 by_count (suc n) bytes = byte_at bytes
 
@@ -160,7 +160,7 @@ pub plain_second : (code : ℕ) (k : ParamKind) (bytes : Bytes) → IsCode code 
 plain_second code k bytes is e = same_parameter (second_kind code) k bytes ((as_many code is).1 ∙ ap param_count (sym e))
 
 -- What is read of a condact from its code on.
-abbrev parameters_at : ℕ → List ℕ → Reading Condact
+abbrev parameters_at : ℕ → Bytes → Reading Condact
 parameters_at code bytes =
     parameter_at (first_kind code) bytes >>= λ a. parameter_at (second_kind code) a.1 >>= λ b.
     Ok (record { code = code; a = a.0; b = b.0 }, b.1)

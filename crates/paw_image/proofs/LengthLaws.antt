@@ -4,7 +4,7 @@ use Rattle.std.proofs.Common.{arith, suc-mul}
 use Rattle.std.specs.List.{flat_map, list_all}
 use Rattle.std.proofs.lemmas.Bool.{and_parts, leb-true}
 use Rattle.std.proofs.lemmas.List.{length-append}
-use Rattle.paw_base.specs.Bytes.{Text}
+use Rattle.paw_base.specs.Bytes.{Text, Bytes}
 use Rattle.paw_base.specs.declared.parts.Condact.{Condact}
 use Rattle.paw_base.specs.declared.rows.ParamKind.{ParamKind}
 use Rattle.paw_base.specs.declared.rows.ParamKind.TheVariants as kind
@@ -23,7 +23,7 @@ use Rattle.paw_image.proofs.ValidLaws.{word_fits, parts_of, tables_few}
 
 -- ---- rows ----
 
-pub rows_at_most : {A : Type 0} (image : A → List ℕ) (rule : A → Bool) (most : ℕ) → ((x : A) → rule x ≡ true → length (image x) ≤ most)
+pub rows_at_most : {A : Type 0} (image : A → Bytes) (rule : A → Bool) (most : ℕ) → ((x : A) → rule x ≡ true → length (image x) ≤ most)
     → (xs : List A) → list_all rule xs ≡ true → length (flat_map image xs) ≤ length xs * most
 rows_at_most image rule most each [] h = omega arith
 rows_at_most image rule most each (x ∷ xs) h =

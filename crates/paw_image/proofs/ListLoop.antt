@@ -19,7 +19,7 @@ abbrev pub with_front : {A : Type 0} → List A → Reading (List A) → Reading
 with_front front reading = reading >>= λ x. Ok (front ++ x.0, x.1)
 
 -- A row, and what is still read after it.
-abbrev pub one_more : {A : Type 0} → Reading A → (A → List ℕ → Reading (List A)) → Reading (List A)
+abbrev pub one_more : {A : Type 0} → Reading A → (A → Bytes → Reading (List A)) → Reading (List A)
 one_more one others = one >>= λ x. others x.0 x.1 >>= λ y. Ok (x.0 ∷ y.0, y.1)
 
 regroup : {A : Type 0} (front : List A) (x : A) (reading : Reading (List A))
@@ -27,9 +27,9 @@ regroup : {A : Type 0} (front : List A) (x : A) (reading : Reading (List A))
 regroup {A} front x (Ok y) = ap (λ (xs : List A). Ok (xs, y.1)) (simp append_assoc)
 regroup front x (Err left) = refl
 
-module _ {A : Type 0} (front : List A) (one : Reading A) (others : A → List ℕ → Reading (List A))
+module _ {A : Type 0} (front : List A) (one : Reading A) (others : A → Bytes → Reading (List A))
     (all total : Reading (List A)) (is : all ≡ one_more one others) (so_far : with_front front all ≡ total) where
-  pub goes_on : (x : A) (after : List ℕ) → one ≡ Ok (x, after) → with_front (front ++ x ∷ []) (others x after) ≡ total
+  pub goes_on : (x : A) (after : Bytes) → one ≡ Ok (x, after) → with_front (front ++ x ∷ []) (others x after) ≡ total
   goes_on x after h =
       let next : one_more one others ≡ (others x after >>= λ y. Ok (x ∷ y.0, y.1)) = rw h refl in
       sym (regroup front x (others x after)) ∙ sym (ap (with_front front) (is ∙ next)) ∙ so_far
@@ -46,7 +46,7 @@ is_done {A} front bytes all total none so_far =
 
 -- ---- rows ----
 
-module _ {A : Type 0} (row : List ℕ → Reading A) (count i : ℕ) (bytes : Bytes) where
+module _ {A : Type 0} (row : Bytes → Reading A) (count i : ℕ) (bytes : Bytes) where
   pub row_more : i < count → leading_rows row (count - i) bytes ≡ one_more (row bytes) (λ _. leading_rows row (count - (i + 1)))
   unfolding leading_rows
   row_more lt = let k : count - i ≡ suc (count - (i + 1)) = omega arith in rw k refl
@@ -57,7 +57,7 @@ module _ {A : Type 0} (row : List ℕ → Reading A) (count i : ℕ) (bytes : By
 
 -- ---- words ----
 
-module _ (before : List ℕ) (count i : ℕ) (bytes : Bytes) where
+module _ (before : Bytes) (count i : ℕ) (bytes : Bytes) where
   pub word_more : i < count
       → words_above before (count - i) bytes
       ≡ one_more (checked_word before bytes) (λ w. words_above w.letters (count - (i + 1)))

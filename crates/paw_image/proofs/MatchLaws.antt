@@ -52,11 +52,11 @@ indexed_is_for word flag =
 
 -- ---- ranks ----
 
-byte_at_place : (bytes front rest : List ℕ) (at k : ℕ) → drop at bytes ≡ front ++ rest → get_or bytes (at + k) 0 ≡ get_or (front ++ rest) k 0
-byte_at_place bytes front rest at k e = sym (get_or-drop at bytes k 0) ∙ ap (λ (l : List ℕ). get_or l k 0) e
+byte_at_place : (bytes front rest : Bytes) (at k : ℕ) → drop at bytes ≡ front ++ rest → get_or bytes (at + k) 0 ≡ get_or (front ++ rest) k 0
+byte_at_place bytes front rest at k e = sym (get_or-drop at bytes k 0) ∙ ap (λ (l : Bytes). get_or l k 0) e
 
 module _ (bytes rest : Bytes) (x : Entry) (xs : List Entry) (at : ℕ) (e : drop at bytes ≡ flat_map entry_image (x ∷ xs) ++ rest) where
-  others : List ℕ
+  others : Bytes
   others = flat_map entry_image xs ++ rest
 
   entry_first : drop at bytes ≡ entry_image x ++ others

@@ -11,7 +11,7 @@ use Rattle.std.specs.Cmp.{nat_cmp_is, ranked}
 use Rattle.std.specs.Cmp.Lexicographic.{slice_cmp}
 use Rattle.std.proofs.lemmas.List.{drop-map, take-map, get_or-map, length-map, map_more, take_all}
 use Rattle.std.proofs.lemmas.List.Elements.{All-drop, All-push, All-take}
-use Rattle.paw_base.specs.Bytes.{Letters}
+use Rattle.paw_base.specs.Bytes.{Letters, Bytes}
 use Rattle.paw_base.specs.declared.limits.TheConstants.{WORD_LENGTH}
 use Rattle.paw_game.specs.declared.parts.Word.{Word}
 use Rattle.paw_game.proofs.Search.{compared}
@@ -19,7 +19,7 @@ use Rattle.paw_image.specs.inner.Images.{EachIsByte}
 use Rattle.paw_image.specs.inner.Numbers.{number_followed_by, letters_as_number, AreFiveBytes, AreNumbers}
 
 -- What bytes follow makes no difference to the order of two numbers.
-below : (xs ys : List ℕ) (m n : ℕ) → length xs ≡ length ys → EachIsByte xs → EachIsByte ys → m < n → number_followed_by m xs < number_followed_by n ys
+below : (xs ys : Bytes) (m n : ℕ) → length xs ≡ length ys → EachIsByte xs → EachIsByte ys → m < n → number_followed_by m xs < number_followed_by n ys
 below [] [] m n long small others h = h
 below [] (y ∷ ys) m n long small others h = absurd (omega arith)
 below (x ∷ xs) [] m n long small others h = absurd (omega arith)
@@ -27,7 +27,7 @@ below (x ∷ xs) (y ∷ ys) m n long small others h =
     below xs ys (m * 256 + x) (n * 256 + y) (omega arith) (λ i. small (suc i)) (λ i. others (suc i)) (omega (arith, small 0, others 0, h))
 
 -- Two first bytes, and the order of what follows where they are the same.
-first : (x y n : ℕ) (xs ys : List ℕ) (o : Ordering) → o ≡ nat_cmp x y → length xs ≡ length ys → EachIsByte (x ∷ xs) → EachIsByte (y ∷ ys)
+first : (x y n : ℕ) (xs ys : Bytes) (o : Ordering) → o ≡ nat_cmp x y → length xs ≡ length ys → EachIsByte (x ∷ xs) → EachIsByte (y ∷ ys)
     → slice_cmp nat_cmp xs ys ≡ nat_cmp (number_followed_by (n * 256 + x) xs) (number_followed_by (n * 256 + x) ys)
     → ordering_then o (slice_cmp nat_cmp xs ys) ≡ nat_cmp (number_followed_by (n * 256 + x) xs) (number_followed_by (n * 256 + y) ys)
 first x y n xs ys Less e long small others rest =
@@ -40,7 +40,7 @@ first x y n xs ys Greater e long small others rest =
     let lt : y < x = ranked x y Greater e in
     nat_cmp_is _ _ Greater (below ys xs (n * 256 + y) (n * 256 + x) (sym long) (λ i. others (suc i)) (λ i. small (suc i)) (omega (arith, lt)))
 
-in_order : (xs ys : List ℕ) (n : ℕ) → length xs ≡ length ys → EachIsByte xs → EachIsByte ys
+in_order : (xs ys : Bytes) (n : ℕ) → length xs ≡ length ys → EachIsByte xs → EachIsByte ys
     → slice_cmp nat_cmp xs ys ≡ nat_cmp (number_followed_by n xs) (number_followed_by n ys)
 in_order [] [] n long small others = nat_cmp_is n n Equal refl
 in_order [] (y ∷ ys) n long small others = absurd (omega arith)
@@ -50,7 +50,7 @@ in_order (x ∷ xs) (y ∷ ys) n long small others =
     first x y n xs ys (nat_cmp x y) refl tails small others (in_order xs ys (n * 256 + x) tails (λ i. small (suc i)) (λ i. others (suc i)))
 
 -- Letters stand in the order of their numbers.
-letters_in_order : (a b : List ℕ) → AreFiveBytes a → AreFiveBytes b → slice_cmp nat_cmp a b ≡ nat_cmp (letters_as_number a) (letters_as_number b)
+letters_in_order : (a b : Letters) → AreFiveBytes a → AreFiveBytes b → slice_cmp nat_cmp a b ≡ nat_cmp (letters_as_number a) (letters_as_number b)
 letters_in_order a b h k = in_order a b 0 (h.five ∙ sym k.five) h.bytes k.bytes
 
 -- The number of five letters, as the code writes it.

@@ -3,6 +3,7 @@ use Rattle.std.proofs.Common.{◌≡◌, ℕ, ◌^◌, ◌<◌, ◌≤◌, ◌&&
 use Rattle.std.proofs.Common.{[], ◌∷◌, ◌++◌, length, Ok, refl, ap, ◌∙◌, append_assoc, arith, lit<}
 use Rattle.std.specs.List.{flat_map, list_all, list_any}
 use Rattle.std.proofs.lemmas.Bool.{and_parts, leb-true, le-leb}
+use Rattle.paw_base.specs.Bytes.{Bytes}
 use Rattle.paw_base.specs.declared.parts.ObjectFacts.{ObjectFacts}
 use Rattle.paw_base.specs.declared.rows.ParamKind.{ParamKind}
 use Rattle.paw_base.specs.declared.rows.ParamKind.TheVariants as kind
@@ -27,7 +28,7 @@ use Rattle.paw_image.proofs.Stands.{and_true, PassesRow, each_passes}
 
 -- ---- numbers ----
 
-pub within_passes : (least most n : ℕ) (rest : List ℕ) → most < 2 ^ 16 → is_within least most n ≡ true
+pub within_passes : (least most n : ℕ) (rest : Bytes) → most < 2 ^ 16 → is_within least most n ≡ true
     → checked_number least most (two_bytes n ++ rest) ≡ Ok (n, rest)
 within_passes least most n rest small h =
     let le : n ≤ most = leb-true _ _ (and_parts (leb least n) (leb n most) h).1 in
@@ -51,7 +52,7 @@ text_passes text rest h =
 
 -- ---- objects ----
 
-facts_pass : (d : ImagePreface) (f : ObjectFacts) (weight : ℕ) (rest : List ℕ)
+facts_pass : (d : ImagePreface) (f : ObjectFacts) (weight : ℕ) (rest : Bytes)
     → facts_are_valid d.words d.counts.locations f ≡ true → after_facts d (f.noun ∷ f.adjective ∷ f.start ∷ weight ∷ rest)
     ≡ Ok rest
 unfolding after_facts
@@ -72,7 +73,7 @@ object_passes d o rest h =
 
 -- ---- exits ----
 
-exits_pass_of : (d : ImagePreface) (verbs : List ℕ) (xs : List Exit) (rest : List ℕ) → none_of verbs xs ≡ true → are_exits d.words d.counts.locations xs ≡ true
+exits_pass_of : (d : ImagePreface) (verbs : List ℕ) (xs : List Exit) (rest : Bytes) → none_of verbs xs ≡ true → are_exits d.words d.counts.locations xs ≡ true
     → after_exits_of d verbs (length xs) (flat_map exit_image xs ++ rest) ≡ Ok rest
 unfolding after_exits_of checked_exit
 exits_pass_of d verbs [] rest none h = refl
@@ -92,7 +93,7 @@ exits_pass d xs rest h = exits_pass_of d [] xs rest (none_of-none xs) (and_parts
 
 -- ---- tables ----
 
-byte_passes : (rule : ℕ → Bool) (x : ℕ) (rest : List ℕ) → rule x ≡ true → (checked_field rule byte_at (x ∷ rest) >>= λ y. Ok y.1) ≡ Ok rest
+byte_passes : (rule : ℕ → Bool) (x : ℕ) (rest : Bytes) → rule x ≡ true → (checked_field rule byte_at (x ∷ rest) >>= λ y. Ok y.1) ≡ Ok rest
 byte_passes rule x rest h = rw h refl
 
 parameter_passes : (d : ImagePreface) (k : ParamKind) → PassesRow (after_parameter d k) (parameter_image k) (is_parameter d.counts d.words k)
@@ -106,7 +107,7 @@ condact_passes d c rest h =
     let both = and_parts (is_parameter d.counts d.words (first_kind c.code) c.a) (is_parameter d.counts d.words (second_kind c.code) c.b) code.1 in
     let first = parameter_image (first_kind c.code) c.a in
     let second = parameter_image (second_kind c.code) c.b in
-    let regrouped : condact_image c ++ rest ≡ c.code ∷ (first ++ (second ++ rest)) = ap (λ (t : List ℕ). c.code ∷ t) (append_assoc first second rest) in
+    let regrouped : condact_image c ++ rest ≡ c.code ∷ (first ++ (second ++ rest)) = ap (λ (t : Bytes). c.code ∷ t) (append_assoc first second rest) in
     ap (after_condact d) regrouped
     ∙ rw (code.0, parameter_passes d (first_kind c.code) c.a (second ++ rest) both.0, parameter_passes d (second_kind c.code) c.b rest both.1) refl
 

@@ -45,7 +45,7 @@ text_again text rest fits = rw (number_again (length text) (text ++ rest) fits, 
 
 -- ---- objects ----
 
-abbrev pub facts_image : ObjectFacts → List ℕ
+abbrev pub facts_image : ObjectFacts → Bytes
 facts_image f = f.noun ∷ f.adjective ∷ f.start ∷ weight_byte f.weight f.container f.wearable ∷ []
 
 -- A bit that is 0 or 1, times its worth.
@@ -97,7 +97,7 @@ facts_take bytes x fits e =
     let adjective_taken = (byte_takes noun.1 adjective noun_taken.rest_fits adjective_ok).0 in
     let start_taken = (byte_takes adjective.1 start adjective_taken.rest_fits start_ok).0 in
     let weight_taken = byte_takes start.1 weight start_taken.rest_fits weight_ok in
-    at_ok (λ (y : ObjectFacts × List ℕ). Takes bytes (facts_image y.0) y.1) _ x e
+    at_ok (λ (y : ObjectFacts × Bytes). Takes bytes (facts_image y.0) y.1) _ x e
     (subst (λ (w : ℕ). Takes bytes (noun.0 ∷ adjective.0 ∷ start.0 ∷ w ∷ []) weight.1) (sym (weight_takes weight.0 weight_taken.1))
     (Takes-then (noun.0 ∷ []) (adjective.0 ∷ start.0 ∷ weight.0 ∷ []) noun_taken
     (Takes-then (adjective.0 ∷ []) (start.0 ∷ weight.0 ∷ []) adjective_taken (Takes-then (start.0 ∷ []) (weight.0 ∷ []) start_taken weight_taken.0))))))))
@@ -113,7 +113,7 @@ object_takes bytes x fits e =
     bind_then _ (leading_facts text.1) _ x e (λ facts facts_ok e.
     let text_taken = text_takes bytes text fits text_ok in
     let facts_taken = facts_take text.1 facts text_taken.rest_fits facts_ok in
-    at_ok (λ (y : ObjectRow × List ℕ). Takes bytes (object_image y.0) y.1) _ x e (Takes-then (text_image text.0) (facts_image facts.0) text_taken facts_taken)))
+    at_ok (λ (y : ObjectRow × Bytes). Takes bytes (object_image y.0) y.1) _ x e (Takes-then (text_image text.0) (facts_image facts.0) text_taken facts_taken)))
 
 pub object_again : ReadsAgain object_at object_image FitsObject
 unfolding object_at
@@ -130,14 +130,14 @@ pair_takes bytes x fits e =
     bind_then _ (byte_at first.1) _ x e (λ second second_ok e.
     let first_taken = (byte_takes bytes first fits first_ok).0 in
     let second_taken = (byte_takes first.1 second first_taken.rest_fits second_ok).0 in
-    at_ok (λ (y : (ℕ × ℕ) × List ℕ). Takes bytes (y.0.0 ∷ y.0.1 ∷ []) y.1) _ x e
+    at_ok (λ (y : (ℕ × ℕ) × Bytes). Takes bytes (y.0.0 ∷ y.0.1 ∷ []) y.1) _ x e
     (Takes-then (first.0 ∷ []) (second.0 ∷ []) first_taken second_taken)))
 
 pub exit_takes : TakesRow leading_exit exit_image
 unfolding leading_exit
 exit_takes bytes x fits e =
     bind_then _ (pair_at bytes) _ x e (λ pair pair_ok e.
-    at_ok (λ (y : Exit × List ℕ). Takes bytes (exit_image y.0) y.1) _ x e (pair_takes bytes pair fits pair_ok))
+    at_ok (λ (y : Exit × Bytes). Takes bytes (exit_image y.0) y.1) _ x e (pair_takes bytes pair fits pair_ok))
 
 exit_again : ReadsAgain leading_exit exit_image FitsExit
 unfolding leading_exit pair_at
@@ -156,18 +156,18 @@ exits_again xs rest fits = few_again leading_exit exit_image FitsExit exit_again
 -- ---- tables ----
 
 pub parameter_takes : (k : ParamKind) → TakesRow (parameter_at k) (parameter_image k)
-parameter_takes kind.Absent bytes x fits e = at_ok (λ (y : ℕ × List ℕ). Takes bytes [] y.1) (0, bytes) x e (record { parts = refl; rest_fits = fits })
+parameter_takes kind.Absent bytes x fits e = at_ok (λ (y : ℕ × Bytes). Takes bytes [] y.1) (0, bytes) x e (record { parts = refl; rest_fits = fits })
 parameter_takes _ bytes x fits e = (byte_takes bytes x fits e).0
 
 parameter_again : (k : ParamKind) → ReadsAgain (parameter_at k) (parameter_image k) (FitsParameter k)
 parameter_again kind.Absent x rest fits = ap (λ (y : ℕ). Ok (y, rest)) (sym fits)
 parameter_again _ x rest fits = refl
 
-code_takes : (bytes : Bytes) (x : ℕ × List ℕ) → IsBytes bytes → code_at bytes ≡ Ok x → Takes bytes (x.0 ∷ []) x.1
+code_takes : (bytes : Bytes) (x : ℕ × Bytes) → IsBytes bytes → code_at bytes ≡ Ok x → Takes bytes (x.0 ∷ []) x.1
 code_takes [] x fits e = absurd cc
 code_takes (code ∷ bytes) x fits e = (byte_takes (code ∷ bytes) x fits (kept_ok (is_code code) (Ok (code, bytes)) (suc (length bytes)) x e).1).0
 
-code_again : (code : ℕ) (rest : List ℕ) → IsCode code → code_at (code ∷ rest) ≡ Ok (code, rest)
+code_again : (code : ℕ) (rest : Bytes) → IsCode code → code_at (code ∷ rest) ≡ Ok (code, rest)
 code_again code rest is = rw is refl
 
 pub condact_takes : TakesRow leading_condact condact_image
@@ -181,7 +181,7 @@ condact_takes bytes x fits e =
     let b_taken = parameter_takes (second_kind code.0) a.1 b a_taken.rest_fits b_ok in
     let first = parameter_image (first_kind code.0) a.0 in
     let second = parameter_image (second_kind code.0) b.0 in
-    at_ok (λ (y : Condact × List ℕ). Takes bytes (condact_image y.0) y.1) _ x e
+    at_ok (λ (y : Condact × Bytes). Takes bytes (condact_image y.0) y.1) _ x e
     (Takes-then (code.0 ∷ []) (first ++ second) code_taken (Takes-then first second a_taken b_taken)))))
 
 pub condact_again : ReadsAgain leading_condact condact_image FitsCondact
@@ -189,7 +189,7 @@ unfolding leading_condact
 condact_again c rest fits =
     let first = parameter_image (first_kind c.code) c.a in
     let second = parameter_image (second_kind c.code) c.b in
-    let regrouped : condact_image c ++ rest ≡ c.code ∷ (first ++ (second ++ rest)) = ap (λ (t : List ℕ). c.code ∷ t) (append_assoc first second rest) in
+    let regrouped : condact_image c ++ rest ≡ c.code ∷ (first ++ (second ++ rest)) = ap (λ (t : Bytes). c.code ∷ t) (append_assoc first second rest) in
     ap leading_condact regrouped
     ∙ rw (
       code_again c.code (first ++ (second ++ rest)) fits.code,
@@ -205,7 +205,7 @@ entry_takes bytes x fits e =
     let head_taken = pair_takes bytes head fits head_ok in
     let condacts_taken = few_take leading_condact condact_image condact_takes head.1 condacts head_taken.rest_fits condacts_ok in
     let images = length condacts.0 ∷ flat_map condact_image condacts.0 in
-    at_ok (λ (y : Entry × List ℕ). Takes bytes (entry_image y.0) y.1) _ x e
+    at_ok (λ (y : Entry × Bytes). Takes bytes (entry_image y.0) y.1) _ x e
     (Takes-then (head.0.0 ∷ head.0.1 ∷ []) images head_taken condacts_taken)))
 
 entry_again : ReadsAgain leading_entry entry_image FitsEntry

@@ -49,13 +49,13 @@ pub next_at : (bytes text rest : Bytes) (at : ℕ) → drop at bytes ≡ text ++
 next_at bytes text rest at e = sym (drop-drop (length text) at bytes) ∙ ap (drop (length text)) e ∙ drop_at text rest (length text) refl
 
 -- The row that stands at the offset where it begins.
-pub record RowAt {A : Type 0} (image : A → List ℕ) (bytes : Bytes) (found : Option A) (p : ℕ) : Type 0 where
+pub record RowAt {A : Type 0} (image : A → Bytes) (bytes : Bytes) (found : Option A) (p : ℕ) : Type 0 where
   pub row : A
-  pub after : List ℕ
+  pub after : Bytes
   pub is : found ≡ Some row
   pub lies : drop p bytes ≡ image row ++ after
 
-pub row_lies : {A : Type 0} (image : A → List ℕ) (bytes rest : Bytes) (xs : List A) (at : ℕ) → drop at bytes ≡ flat_map image xs ++ rest
+pub row_lies : {A : Type 0} (image : A → Bytes) (bytes rest : Bytes) (xs : List A) (at : ℕ) → drop at bytes ≡ flat_map image xs ++ rest
     → (k p : ℕ) → slice_get (offsets image at xs) k ≡ Some p → RowAt image bytes (slice_get xs k) p
 row_lies image bytes rest [] at e k p h = absurd (none-some p h)
 row_lies image bytes rest (x ∷ xs) at e zero p h =
@@ -65,12 +65,12 @@ row_lies image bytes rest (x ∷ xs) at e (suc k) p h =
     (next_at bytes (image x) (flat_map image xs ++ rest) at (e ∙ append_assoc (image x) (flat_map image xs) rest))
     k p h
 
-pub no_row : {A : Type 0} (image : A → List ℕ) (xs : List A) (at k : ℕ) → slice_get (offsets image at xs) k ≡ None → slice_get xs k ≡ None
+pub no_row : {A : Type 0} (image : A → Bytes) (xs : List A) (at k : ℕ) → slice_get (offsets image at xs) k ≡ None → slice_get xs k ≡ None
 no_row image [] at k h = refl
 no_row image (x ∷ xs) at zero h = absurd (none-some at (sym h))
 no_row image (x ∷ xs) at (suc k) h = no_row image xs (at + length (image x)) k h
 
-some_row : {A : Type 0} (image : A → List ℕ) (xs : List A) (at k p : ℕ) → slice_get (offsets image at xs) k ≡ Some p → slice_get xs k ≡ None → ⊥
+some_row : {A : Type 0} (image : A → Bytes) (xs : List A) (at k p : ℕ) → slice_get (offsets image at xs) k ≡ Some p → slice_get xs k ≡ None → ⊥
 some_row image [] at k p h none = none-some p h
 some_row image (x ∷ xs) at zero p h none = none-some x (sym none)
 some_row image (x ∷ xs) at (suc k) p h none = some_row image xs (at + length (image x)) k p h none
@@ -79,15 +79,15 @@ some_row image (x ∷ xs) at (suc k) p h none = some_row image xs (at + length (
 
 -- What stands where each list begins.
 pub record ListsAt (bytes : Bytes) (g : GameLists) : Type 0 where
-  pub after_system : List ℕ
+  pub after_system : Bytes
   pub system : drop (system_begins g) bytes ≡ flat_map text_image g.system ++ after_system
-  pub after_messages : List ℕ
+  pub after_messages : Bytes
   pub messages : drop (messages_begin g) bytes ≡ flat_map text_image g.messages ++ after_messages
-  pub after_objects : List ℕ
+  pub after_objects : Bytes
   pub objects : drop (objects_begin g) bytes ≡ flat_map object_image g.objects ++ after_objects
-  pub after_locations : List ℕ
+  pub after_locations : Bytes
   pub locations : drop (locations_begin g) bytes ≡ flat_map text_image g.locations ++ after_locations
-  pub after_exits : List ℕ
+  pub after_exits : Bytes
   pub exits : drop (exits_begin g) bytes ≡ flat_map exits_image g.exits ++ after_exits
   pub tables : drop (tables_begin_at g) bytes ≡ flat_map table_image g.tables ++ []
 
@@ -196,7 +196,7 @@ exit_first : (b : Bool) (x : Exit) (later : Option Exit) → cond b (Some x.to) 
 exit_first true x later = refl
 exit_first false x later = refl
 
-exit_found : (verb : ℕ) (xs : List Exit) (rest : List ℕ) → exit_in verb (length xs) (flat_map exit_image xs ++ rest) ≡ exit_of xs verb
+exit_found : (verb : ℕ) (xs : List Exit) (rest : Bytes) → exit_in verb (length xs) (flat_map exit_image xs ++ rest) ≡ exit_of xs verb
 unfolding exit_in
 exit_found verb [] rest = refl
 exit_found verb (x ∷ xs) rest =
@@ -220,7 +220,7 @@ no_exit g verb k h = rw (no_row exits_image g.exits (exits_begin g) k h) refl
 pub record TableAt (bytes : Bytes) (found : Option (List Entry)) (ps : List ℕ) : Type 0 where
   pub rows : List Entry
   pub at : ℕ
-  pub after : List ℕ
+  pub after : Bytes
   pub is : found ≡ Some rows
   pub begin : ps ≡ offsets entry_image at rows
   pub lies : drop at bytes ≡ flat_map entry_image rows ++ after
@@ -278,7 +278,7 @@ no_entry g t k h = no_entry_in g.tables (tables_begin_at g) t k h
 
 -- ---- condacts ----
 
-condacts_pass : (cs : List Condact) (rest : List ℕ) → AllByRecursion FitsCondact cs
+condacts_pass : (cs : List Condact) (rest : Bytes) → AllByRecursion FitsCondact cs
     → each past_condact (length cs) (flat_map condact_image cs ++ rest) ≡ Ok rest
 unfolding each
 condacts_pass [] rest fits = refl
@@ -288,7 +288,7 @@ condacts_pass (c ∷ cs) rest fits =
       condact_again c (flat_map condact_image cs ++ rest) fits.0,
     ) (condacts_pass cs rest fits.1)
 
-condact_found : (cs : List Condact) (rest : List ℕ) (k : ℕ) → AllByRecursion FitsCondact cs → k < length cs
+condact_found : (cs : List Condact) (rest : Bytes) (k : ℕ) → AllByRecursion FitsCondact cs → k < length cs
     → value_of (each past_condact k (flat_map condact_image cs ++ rest) >>= leading_condact) ≡ slice_get cs k
 unfolding each
 condact_found [] rest k fits lt = absurd (omega arith)
@@ -304,7 +304,7 @@ condact_found (c ∷ cs) rest (suc k) fits lt =
     ) (condact_found cs rest k fits.1 (omega arith))
 
 -- What the bytes of an entry say.
-pub condact_there : (e : Entry) (after : List ℕ) (k : ℕ) → AllByRecursion FitsCondact e.condacts
+pub condact_there : (e : Entry) (after : Bytes) (k : ℕ) → AllByRecursion FitsCondact e.condacts
     → nth_condact k (entry_image e ++ after) ≡ slice_get e.condacts k
 unfolding nth_condact
 condact_there e after k fits =
@@ -313,11 +313,11 @@ condact_there e after k fits =
       | inr le ↦ rw (le-ltb k (length e.condacts) le) (sym (slice_get_past e.condacts k le))
     ]
 
-pub head_there : (e : Entry) (after : List ℕ) → head_here (entry_image e ++ after) ≡ Some ((e.verb, e.noun), length e.condacts)
+pub head_there : (e : Entry) (after : Bytes) → head_here (entry_image e ++ after) ≡ Some ((e.verb, e.noun), length e.condacts)
 unfolding head_here
 head_there e after = refl
 
-pub entry_bytes_there : (e : Entry) (after : List ℕ) → AllByRecursion FitsCondact e.condacts → entry_here (entry_image e ++ after) ≡ Some (entry_image e)
+pub entry_bytes_there : (e : Entry) (after : Bytes) → AllByRecursion FitsCondact e.condacts → entry_here (entry_image e ++ after) ≡ Some (entry_image e)
 unfolding entry_here
 entry_bytes_there e after fits =
     let n : length (entry_image e ++ after) - length after ≡ length (entry_image e) = omega (arith, length-append (entry_image e) after) in

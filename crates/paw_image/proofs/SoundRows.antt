@@ -55,7 +55,7 @@ text_sound bytes rest fits e =
     ∙ (and_parts (leb 0 len.0) (leb len.0 TEXT_LIMIT) len_kept).1 in
     record {
       value = text.0;
-      reads = at_ok (λ (r : List ℕ). sized_text_at bytes ≡ Ok (text.0, r)) text.1 rest e (rw (len_ok, text_ok) refl);
+      reads = at_ok (λ (r : Bytes). sized_text_at bytes ≡ Ok (text.0, r)) text.1 rest e (rw (len_ok, text_ok) refl);
       keeps = and_true (leb (length text.0) TEXT_LIMIT) _ few text_kept;
     }))
 
@@ -75,7 +75,7 @@ facts_sound d bytes rest fits e =
     let facts = facts_with noun.0 adjective.0 start.0 weight.0 in
     record {
       value = facts;
-      reads = at_ok (λ (r : List ℕ). leading_facts bytes ≡ Ok (facts, r)) weight.1 rest e (rw (noun_ok, adjective_ok, start_ok, weight_ok) refl);
+      reads = at_ok (λ (r : Bytes). leading_facts bytes ≡ Ok (facts, r)) weight.1 rest e (rw (noun_ok, adjective_ok, start_ok, weight_ok) refl);
       keeps = rw (noun_kept, adjective_kept, start_kept, light weight.0) refl;
     }))))
 
@@ -127,13 +127,13 @@ exits_sound_of : (d : ImagePreface) (verbs : List ℕ) (n : ℕ) (bytes rest : B
     → after_exits_of d verbs n bytes ≡ Ok rest → Stands (leading_rows leading_exit n bytes) (keeps_after d verbs) rest
 unfolding after_exits_of checked_exit leading_rows leading_exit pair_at
 exits_sound_of d verbs zero bytes rest e =
-    record { value = []; reads = at_ok (λ (r : List ℕ). leading_rows leading_exit 0 bytes ≡ Ok ([], r)) bytes rest e refl; keeps = refl }
+    record { value = []; reads = at_ok (λ (r : Bytes). leading_rows leading_exit 0 bytes ≡ Ok ([], r)) bytes rest e refl; keeps = refl }
 exits_sound_of d verbs (suc n) bytes rest e =
     bind_then _ (checked_exit d verbs bytes) _ rest e (λ x x_ok e.
     kept_then _ (λ v. is_verb_value d.words v && not (list_any (λ earlier. eqb earlier v) verbs)) byte_at bytes _ x x_ok (λ verb verb_ok verb_kept x_ok.
     kept_then _ (λ l. ltb l d.counts.locations) byte_at verb.1 _ x x_ok (λ to to_ok to_kept x_ok.
     let e2 : after_exits_of d (verb.0 ∷ verbs) n to.1 ≡ Ok rest =
-    at_ok (λ (y : ℕ × List ℕ). after_exits_of d (y.0 ∷ verbs) n y.1 ≡ Ok rest) x (verb.0, to.1) (sym x_ok) e in
+    at_ok (λ (y : ℕ × Bytes). after_exits_of d (y.0 ∷ verbs) n y.1 ≡ Ok rest) x (verb.0, to.1) (sym x_ok) e in
     let others = exits_sound_of d (verb.0 ∷ verbs) n to.1 rest e2 in
     let first : Exit = record { verb = verb.0; to = to.0 } in
     let kept_verb = and_parts (is_verb_value d.words verb.0) _ verb_kept in
@@ -181,11 +181,11 @@ keeps_table d es = leb (length es) ENTRY_LIMIT && list_all (keeps_entry d) es
 byte_sound : (rule : ℕ → Bool) (bytes rest : Bytes) → (checked_field rule byte_at bytes >>= λ x. Ok x.1) ≡ Ok rest → Stands (byte_at bytes) rule rest
 byte_sound rule bytes rest e =
     kept_then _ rule byte_at bytes _ rest e (λ x x_ok x_kept e.
-    record { value = x.0; reads = at_ok (λ (r : List ℕ). byte_at bytes ≡ Ok (x.0, r)) x.1 rest e x_ok; keeps = x_kept })
+    record { value = x.0; reads = at_ok (λ (r : Bytes). byte_at bytes ≡ Ok (x.0, r)) x.1 rest e x_ok; keeps = x_kept })
 
 parameter_sound : (d : ImagePreface) (k : ParamKind) → SoundRow (after_parameter d k) (parameter_at k) (is_parameter d.counts d.words k)
 parameter_sound d kind.Absent bytes rest fits e =
-    record { value = 0; reads = at_ok (λ (r : List ℕ). parameter_at kind.Absent bytes ≡ Ok (0, r)) bytes rest e refl; keeps = refl }
+    record { value = 0; reads = at_ok (λ (r : Bytes). parameter_at kind.Absent bytes ≡ Ok (0, r)) bytes rest e refl; keeps = refl }
 parameter_sound d k bytes rest fits e = byte_sound (is_parameter d.counts d.words k) bytes rest e
 
 code_is : (bytes : Bytes) → code_at bytes ≡ checked_field is_code byte_at bytes
@@ -270,7 +270,7 @@ unfolding each leading_rows tables_begin
 tables_placed d zero bytes rest fits e =
     record {
       value = [];
-      reads = at_ok (λ (r : List ℕ). leading_rows leading_table 0 bytes ≡ Ok ([], r)) bytes rest e refl;
+      reads = at_ok (λ (r : Bytes). leading_rows leading_table 0 bytes ≡ Ok ([], r)) bytes rest e refl;
       keeps = refl;
       begin = λ total start h. refl;
     }

@@ -17,41 +17,41 @@ pub and_true : (a b : Bool) → a ≡ true → b ≡ true → (a && b) ≡ true
 and_true a b p q = rw (p, q) refl
 
 -- What follows from a field that followed its rule.
-pub kept_then : {A B : Type 0} (P : Type 0) (rule : A → Bool) (field : List ℕ → Reading A) (bytes : Bytes)
-    (f : A × List ℕ → Result B ℕ) (y : B) → (checked_field rule field bytes >>= f) ≡ Ok y
-    → ((x : A × List ℕ) → field bytes ≡ Ok x → rule x.0 ≡ true → f x ≡ Ok y → P) → P
+pub kept_then : {A B : Type 0} (P : Type 0) (rule : A → Bool) (field : Bytes → Reading A) (bytes : Bytes)
+    (f : A × Bytes → Result B ℕ) (y : B) → (checked_field rule field bytes >>= f) ≡ Ok y
+    → ((x : A × Bytes) → field bytes ≡ Ok x → rule x.0 ≡ true → f x ≡ Ok y → P) → P
 kept_then {A} P rule field bytes f y e go =
     bind_then P (checked_field rule field bytes) f y e (λ x x_ok e.
     bind_then P (field bytes) _ x x_ok (λ z z_ok e2.
     let both = kept_ok (rule z.0) (Ok z) (length bytes) x e2 in
-    go z z_ok both.0 (at_ok (λ (w : A × List ℕ). f w ≡ Ok y) x z (sym both.1) e)))
+    go z z_ok both.0 (at_ok (λ (w : A × Bytes). f w ≡ Ok y) x z (sym both.1) e)))
 
-pub bytes_length : (n : ℕ) (bytes : Bytes) (x : List ℕ × List ℕ) → bytes_at n bytes ≡ Ok x → length x.0 ≡ n
+pub bytes_length : (n : ℕ) (bytes : Bytes) (x : Bytes × Bytes) → bytes_at n bytes ≡ Ok x → length x.0 ≡ n
 bytes_length n bytes x e =
     let is_long = guard_ok (ltb (length bytes) n) _ _ x e in
     let long : n ≤ length bytes = ltb-false _ _ is_long.0 in
-    at_ok (λ (y : List ℕ × List ℕ). length y.0 ≡ n) _ x is_long.1 (omega (arith, length-take n bytes))
+    at_ok (λ (y : Bytes × Bytes). length y.0 ≡ n) _ x is_long.1 (omega (arith, length-take n bytes))
 
 -- What was read follows the rule, and this is what is left.
-pub record Stands {A : Type 0} (reading : Reading A) (rule : A → Bool) (rest : List ℕ) : Type 0 where
+pub record Stands {A : Type 0} (reading : Reading A) (rule : A → Bool) (rest : Bytes) : Type 0 where
   pub value : A
   pub reads : reading ≡ Ok (value, rest)
   pub keeps : rule value ≡ true
 
 -- Bytes that a row passes are read as a row that follows its rule.
-abbrev pub SoundRow : {A : Type 0} → (List ℕ → Passing) → (List ℕ → Reading A) → (A → Bool) → Type 0
+abbrev pub SoundRow : {A : Type 0} → (Bytes → Passing) → (Bytes → Reading A) → (A → Bool) → Type 0
 SoundRow pass row rule = (bytes rest : Bytes) → IsBytes bytes → pass bytes ≡ Ok rest → Stands (row bytes) rule rest
 
 -- The image of a row that follows its rule is passed.
-abbrev pub PassesRow : {A : Type 0} → (List ℕ → Passing) → (A → List ℕ) → (A → Bool) → Type 0
-PassesRow {A} pass image rule = (x : A) (rest : List ℕ) → rule x ≡ true → pass (image x ++ rest) ≡ Ok rest
+abbrev pub PassesRow : {A : Type 0} → (Bytes → Passing) → (A → Bytes) → (A → Bool) → Type 0
+PassesRow {A} pass image rule = (x : A) (rest : Bytes) → rule x ≡ true → pass (image x ++ rest) ≡ Ok rest
 
-pub rest_fits : {A : Type 0} (row : List ℕ → Reading A) (image : A → List ℕ) (rule : A → Bool) → TakesRow row image
+pub rest_fits : {A : Type 0} (row : Bytes → Reading A) (image : A → Bytes) (rule : A → Bool) → TakesRow row image
     → (bytes rest : Bytes) → IsBytes bytes → Stands (row bytes) rule rest → IsBytes rest
 rest_fits row image rule takes bytes rest fits s = (takes bytes (s.value, rest) fits s.reads).rest_fits
 
 pub taken_length : (bytes text rest : Bytes) → Takes bytes text rest → length bytes ≡ length text + length rest
-taken_length bytes text rest t = ap (λ (l : List ℕ). length l) t.parts ∙ length-append text rest
+taken_length bytes text rest t = ap (λ (l : Bytes). length l) t.parts ∙ length-append text rest
 
 -- What was taken ends where what is left begins, in the last of `total` bytes.
 pub taken_ends : (bytes text rest : Bytes) (total start : ℕ) → Takes bytes text rest → start + length bytes ≡ total
@@ -59,8 +59,8 @@ pub taken_ends : (bytes text rest : Bytes) (total start : ℕ) → Takes bytes t
 taken_ends bytes text rest total start t h = omega (arith, h, taken_length bytes text rest t)
 
 -- These n rows follow the rule and stand there, with where they begin in the last of `total` bytes.
-pub record Placed {A : Type 0} (pass : List ℕ → Passing) (image : A → List ℕ) (n : ℕ) (bytes : Bytes)
-    (reading : Reading (List A)) (rule : A → Bool) (rest : List ℕ) : Type 0 where
+pub record Placed {A : Type 0} (pass : Bytes → Passing) (image : A → Bytes) (n : ℕ) (bytes : Bytes)
+    (reading : Reading (List A)) (rule : A → Bool) (rest : Bytes) : Type 0 where
   pub value : List A
   pub reads : reading ≡ Ok (value, rest)
   pub keeps : list_all rule value ≡ true
@@ -68,15 +68,15 @@ pub record Placed {A : Type 0} (pass : List ℕ → Passing) (image : A → List
   pub many : length value ≡ n
   pub begin : (total start : ℕ) → start + length bytes ≡ total → begins pass total n bytes ≡ offsets image start value
 
-pub each_sound : {A : Type 0} (pass : List ℕ → Passing) (row : List ℕ → Reading A) (image : A → List ℕ)
+pub each_sound : {A : Type 0} (pass : Bytes → Passing) (row : Bytes → Reading A) (image : A → Bytes)
     (rule : A → Bool) → TakesRow row image → SoundRow pass row rule → (n : ℕ) (bytes rest : Bytes) → IsBytes bytes
     → each pass n bytes ≡ Ok rest → Placed pass image n bytes (leading_rows row n bytes) rule rest
 unfolding each leading_rows begins
 each_sound {A} pass row image rule takes sound zero bytes rest fits e =
-    let same : bytes ≡ rest = at_ok (λ (t : List ℕ). bytes ≡ t) bytes rest e refl in
+    let same : bytes ≡ rest = at_ok (λ (t : Bytes). bytes ≡ t) bytes rest e refl in
     record {
       value = [];
-      reads = ap (λ (t : List ℕ). read_ok ([], t)) same;
+      reads = ap (λ (t : Bytes). read_ok ([], t)) same;
       keeps = refl;
       taken = record { parts = same; rest_fits = subst IsBytes same fits };
       many = refl;
@@ -100,8 +100,8 @@ each_sound {A} pass row image rule takes sound (suc n) bytes rest fits e =
           rw (at, after_ok) (ap (λ (l : List ℕ). start ∷ l) later);
     })
 
-pub each_passes : {A : Type 0} (pass : List ℕ → Passing) (image : A → List ℕ) (rule : A → Bool) → PassesRow pass image rule
-    → (xs : List A) (rest : List ℕ) → list_all rule xs ≡ true → each pass (length xs) (flat_map image xs ++ rest) ≡ Ok rest
+pub each_passes : {A : Type 0} (pass : Bytes → Passing) (image : A → Bytes) (rule : A → Bool) → PassesRow pass image rule
+    → (xs : List A) (rest : Bytes) → list_all rule xs ≡ true → each pass (length xs) (flat_map image xs ++ rest) ≡ Ok rest
 unfolding each
 each_passes pass image rule passes [] rest h = refl
 each_passes pass image rule passes (x ∷ xs) rest h =

@@ -6,6 +6,7 @@ use Rattle.std.proofs.Common.{append_assoc, inl, inr, ◌⊎◌, ◌<◌, ◌≤
 use Rattle.std.proofs.Common.{arith, lit<}
 use Rattle.std.specs.List.{flat_map, list_all, list_any}
 use Rattle.std.proofs.lemmas.Bool.{and_parts, leb-true}
+use Rattle.paw_base.specs.Bytes.{Bytes}
 use Rattle.paw_base.specs.Condacts.{is_plain_code, is_indirect}
 use Rattle.paw_base.specs.declared.codes.TheConstants.{INDIRECT}
 use Rattle.paw_base.specs.declared.limits.TheConstants.{ENTRY_LIMIT, CONDACT_LIMIT}
@@ -126,13 +127,13 @@ either true = inl refl
 either false = inr refl
 
 -- In the image of a row that follows a rule, and that a test finds, there is a fault.
-abbrev StopsRow : {A : Type 0} → (List ℕ → Passing) → (A → List ℕ) → (two test : A → Bool) → Type 0
-StopsRow {A} pass image two test = (x : A) (rest : List ℕ) → two x ≡ true → test x ≡ true → IsFault (pass (image x ++ rest))
+abbrev StopsRow : {A : Type 0} → (Bytes → Passing) → (A → Bytes) → (two test : A → Bool) → Type 0
+StopsRow {A} pass image two test = (x : A) (rest : Bytes) → two x ≡ true → test x ≡ true → IsFault (pass (image x ++ rest))
 
 -- Where rows stop that a test finds, and others pass, a list of rows stops of which the test finds one.
-each_stops : {A : Type 0} (pass : List ℕ → Passing) (image : A → List ℕ) (one two test : A → Bool)
+each_stops : {A : Type 0} (pass : Bytes → Passing) (image : A → Bytes) (one two test : A → Bool)
     → ((x : A) → one x ≡ (two x && not (test x))) → PassesRow pass image one → StopsRow pass image two test
-    → (xs : List A) (rest : List ℕ) → list_all two xs ≡ true → list_any test xs ≡ true
+    → (xs : List A) (rest : Bytes) → list_all two xs ≡ true → list_any test xs ≡ true
     → IsFault (each pass (length xs) (flat_map image xs ++ rest))
 unfolding each
 each_stops pass image one two test splits passes stops [] rest keep found = absurd cc
@@ -148,7 +149,7 @@ each_stops pass image one two test splits passes stops (x ∷ xs) rest keep foun
           rw passed (each_stops pass image one two test splits passes stops xs rest both.1 later)
     ])
 
-field_stops : {B : Type 0} (rule : ℕ → Bool) (x : ℕ) (rest : List ℕ) (f : ℕ × List ℕ → Result B ℕ) → rule x ≡ false
+field_stops : {B : Type 0} (rule : ℕ → Bool) (x : ℕ) (rest : Bytes) (f : ℕ × Bytes → Result B ℕ) → rule x ≡ false
     → IsFault (checked_field rule byte_at (x ∷ rest) >>= f)
 field_stops rule x rest f h = rw h tt
 
@@ -179,7 +180,7 @@ module _ (g : GameLists) where
       (each_stops (after_entry (declared_as One g)) entry_image (keeps_entry (declared_as One g)) (is_entry g)
       (λ (e : Entry). any_indirect e.condacts) (split_entry g) (entry_passes (declared_as One g)) entry_stops es rest both.1 indirect)
 
-  pub tables_stop : (ts : List (List Entry)) (rest : List ℕ) → list_all (is_table g) ts ≡ true → has_indirect ts ≡ true
+  pub tables_stop : (ts : List (List Entry)) (rest : Bytes) → list_all (is_table g) ts ≡ true → has_indirect ts ≡ true
       → IsFault (each (after_table (declared_as One g)) (length ts) (flat_map table_image ts ++ rest))
   unfolding has_indirect
   tables_stop ts rest keep indirect =

@@ -47,14 +47,14 @@ unfolding game_read
 game_is bytes g e = rw e refl
 
 -- The offsets that come of bytes in which no rule is broken are those of the game.
-pub index_from : (bytes : Bytes) (front : Front) (rest : List ℕ) (p : Offsets) → IsBytes bytes
+pub index_from : (bytes : Bytes) (front : Front) (rest : Bytes) (p : Offsets) → IsBytes bytes
     → length bytes ≤ IMAGE_LIMIT → bad bytes ≡ None → IsPassed bytes front rest p
     → IsIndex bytes front.counts front.words.items p
 unfolding bad
 index_from bytes front rest p fits short whole passed =
     let none = both_none _ (is_needless bytes) 4 (rw (le-ltb IMAGE_LIMIT (length bytes) short) at whole) in
     let read = all_sound bytes fits (nothing_left (length bytes) (after_all bytes) none.0) none.1 in
-    let d : ImagePreface × List ℕ = (preface_of front, rest) in
+    let d : ImagePreface × Bytes = (preface_of front, rest) in
     let is = game_is bytes read.game read.reads in
     let declared = read.declared d passed.declared in
     let stand = read.begin d p passed.declared passed.over in

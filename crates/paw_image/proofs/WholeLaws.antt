@@ -1,5 +1,5 @@
 -- The bytes in which no rule is broken are the images of the valid games.
-use Rattle.std.proofs.Common.{◌≡◌, ℕ, ◌+◌, ◌<◌, ◌&&◌, Bool, true, false, leb, eqb, List, [], ◌∷◌, length, Some, None}
+use Rattle.std.proofs.Common.{◌≡◌, ℕ, ◌+◌, ◌<◌, ◌&&◌, Bool, true, false, leb, eqb, [], ◌∷◌, length, Some, None}
 use Rattle.std.proofs.Common.{Ok, Err}
 use Rattle.std.proofs.Common.{refl, sym, ap, subst, ◌∙◌, inl, inr, arith}
 use Rattle.std.specs.List.{flat_map, list_all}
@@ -130,7 +130,7 @@ lists_sound d bytes rest fits e =
     })))))
 
 -- What the front declares, and the lists that follow its rules, make a valid game.
-valid_from : (bytes : Bytes) (x : ImagePreface × List ℕ) (rest : List ℕ) → Fronted bytes x
+valid_from : (bytes : Bytes) (x : ImagePreface × Bytes) (rest : Bytes) → Fronted bytes x
     → (r : AreRead x.0 x.1 rest) → x.0 ≡ declared_as x.0.version r.game → Valid r.game
 valid_from bytes x rest f r is =
     let g = r.game in
@@ -163,7 +163,7 @@ valid_from bytes x rest f r is =
     }
 
 -- The lists of a valid game pass up to its tables.
-tables_reached : (version : Version) (g : GameLists) (rest : List ℕ) → Valid g
+tables_reached : (version : Version) (g : GameLists) (rest : Bytes) → Valid g
     → after_lists (declared_as version g) (lists_image g rest)
     ≡ each (after_table (declared_as version g)) (length g.tables) (from_tables g rest)
 unfolding after_lists
@@ -183,7 +183,7 @@ tables_reached version g rest valid =
       exits,
     ) refl
 
-lists_pass : (version : Version) (g : GameLists) (rest : List ℕ) → Valid g
+lists_pass : (version : Version) (g : GameLists) (rest : Bytes) → Valid g
     → list_all (keeps_table (declared_as version g)) g.tables ≡ true
     → after_lists (declared_as version g) (lists_image g rest) ≡ Ok rest
 lists_pass version g rest valid keep =
@@ -198,9 +198,9 @@ pub record IsWhole (bytes : Bytes) : Type 0 where
   pub game : GameLists
   pub reads : all_of bytes ≡ Ok game
   pub valid : Valid game
-  pub declared : (d : ImagePreface × List ℕ) → front bytes ≡ Ok d → d.0 ≡ declared_as d.0.version game
-  pub end : (d : ImagePreface × List ℕ) → front bytes ≡ Ok d → IsEnd bytes d.1
-  pub begin : (d : ImagePreface × List ℕ) (p : Offsets) → front bytes ≡ Ok d → AreGoneOver d.0 (length bytes) d.1 p
+  pub declared : (d : ImagePreface × Bytes) → front bytes ≡ Ok d → d.0 ≡ declared_as d.0.version game
+  pub end : (d : ImagePreface × Bytes) → front bytes ≡ Ok d → IsEnd bytes d.1
+  pub begin : (d : ImagePreface × Bytes) (p : Offsets) → front bytes ≡ Ok d → AreGoneOver d.0 (length bytes) d.1 p
       → StandAt (system_begins game) game p
 
 pub all_sound : (bytes : Bytes) → IsBytes bytes → after_all bytes ≡ Ok [] → is_needless bytes ≡ false → IsWhole bytes
@@ -226,13 +226,13 @@ all_sound bytes fits e needed =
       game = lists.game;
       reads = rw (d_ok, lists.reads) (ended g (eqb (version_byte d.0.version) (version_of g)) (eq-eqb (version_byte d.0.version) (version_of g) version));
       valid = valid;
-      declared = λ d2 d2_ok. at_ok (λ (y : ImagePreface × List ℕ). y.0 ≡ declared_as y.0.version lists.game) d d2 (sym d_ok ∙ d2_ok) is;
+      declared = λ d2 d2_ok. at_ok (λ (y : ImagePreface × Bytes). y.0 ≡ declared_as y.0.version lists.game) d d2 (sym d_ok ∙ d2_ok) is;
       end = λ d2 d2_ok.
-          at_ok (λ (y : ImagePreface × List ℕ). IsEnd bytes y.1) d d2 (sym d_ok ∙ d2_ok)
+          at_ok (λ (y : ImagePreface × Bytes). IsEnd bytes y.1) d d2 (sym d_ok ∙ d2_ok)
           (end_taken bytes (front_image d.0) d.1 fronted.taken);
       begin = λ d2 p d2_ok over.
           let over_here =
-          at_ok (λ (y : ImagePreface × List ℕ). AreGoneOver y.0 (length bytes) y.1 p) d2 d (sym d2_ok ∙ d_ok) over in
+          at_ok (λ (y : ImagePreface × Bytes). AreGoneOver y.0 (length bytes) y.1 p) d2 d (sym d2_ok ∙ d_ok) over in
           subst (λ (f : ImagePreface). StandAt (17 + length (flat_map word_image f.words)) lists.game p) is
           (lists.begin (length bytes) start p ends over_here);
     })

@@ -1,5 +1,5 @@
 -- The first line of a text.
-use Rattle.std.proofs.Common.{◌≡◌, ℕ, ◌<◌, ◌≤◌, ◌+◌, ◌-◌, ◌⊎◌, not, eqb, List, [], ◌∷◌, length, take, drop, get_or}
+use Rattle.std.proofs.Common.{◌≡◌, ℕ, ◌<◌, ◌≤◌, ◌+◌, ◌-◌, ◌⊎◌, not, eqb, [], ◌∷◌, length, take, drop, get_or}
 use Rattle.std.proofs.Common.{refl, sym, ap, subst, ◌∙◌, inl, inr, arith}
 use Rattle.std.specs.List.{before_first, after_first, position_or_len, slice_split, slice_range}
 use Rattle.std.specs.Str.Lines.{lines, lines_of_parts, strip_carriage_return}
@@ -20,7 +20,7 @@ pub lines_of_parts-cons : (part : Line) (parts : Lines) → 0 < length parts
 lines_of_parts-cons part [] h = absurd (omega arith)
 lines_of_parts-cons part (next ∷ more) h = refl
 
-lines-lf : (s : List ℕ) → position_or_len (λ b. eqb b 10) s < length s
+lines-lf : (s : Bytes) → position_or_len (λ b. eqb b 10) s < length s
     → lines s ≡ strip_carriage_return (before_first (λ b. eqb b 10) s) ∷ lines (after_first (λ b. eqb b 10) s)
 lines-lf s h =
     let more : 0 < length (slice_split (λ b. eqb b 10) (after_first (λ b. eqb b 10) s)) =
@@ -29,24 +29,24 @@ lines-lf s h =
     ∙ lines_of_parts-cons (before_first (λ b. eqb b 10) s) (slice_split (λ b. eqb b 10) (after_first (λ b. eqb b 10) s)) more
 
 -- A last line without LF is the only line.
-lines-last : (s : List ℕ) → 0 < length s → position_or_len (λ b. eqb b 10) s ≡ length s → lines s ≡ s ∷ []
+lines-last : (s : Bytes) → 0 < length s → position_or_len (λ b. eqb b 10) s ≡ length s → lines s ≡ s ∷ []
 lines-last s h e =
     ap lines_of_parts (slice_split_none (λ b. eqb b 10) s (λ k d l. fails_before_first (λ b. eqb b 10) s k d (omega arith)))
     ∙ rw (ne_eqb (length s) 0 (λ z. omega arith)) refl
 
-pub last_line : (s : List ℕ) (n : ℕ) → 0 < length s → n ≡ position_or_len (λ b. eqb b 10) s → n ≡ length s → lines s ≡ take n s ∷ lines (drop n s)
+pub last_line : (s : Bytes) (n : ℕ) → 0 < length s → n ≡ position_or_len (λ b. eqb b 10) s → n ≡ length s → lines s ≡ take n s ∷ lines (drop n s)
 last_line s n h e f =
     lines-last s h (sym e ∙ f) ∙ sym (ap (λ (line : Line). line ∷ lines (drop n s)) (take_all n s (omega arith))
-    ∙ ap (λ (rest : List ℕ). s ∷ lines rest) (drop_all n s (omega arith)))
+    ∙ ap (λ (rest : Bytes). s ∷ lines rest) (drop_all n s (omega arith)))
 
 -- Before the first LF there are n bytes, and w of them without a CR at their end.
-pub line_before_lf : (s : List ℕ) (n w : ℕ) → n ≡ position_or_len (λ b. eqb b 10) s → n < length s → w ≤ n
+pub line_before_lf : (s : Bytes) (n w : ℕ) → n ≡ position_or_len (λ b. eqb b 10) s → n < length s → w ≤ n
     → take w (take n s) ≡ strip_carriage_return (take n s) → lines s ≡ take w s ∷ lines (drop (n + 1) s)
 line_before_lf s n w e h l f =
     let here : lines s ≡ strip_carriage_return (take n s) ∷ lines (drop (n + 1) s) = rw e (lines-lf s (omega arith)) in
     here ∙ ap (λ (line : Line). line ∷ lines (drop (n + 1) s)) (sym f ∙ take-take w n s l)
 
-pub line_end_at : (s : List ℕ) (n w : ℕ) → n ≡ position_or_len (λ b. eqb b 10) s → n < length s
+pub line_end_at : (s : Bytes) (n w : ℕ) → n ≡ position_or_len (λ b. eqb b 10) s → n < length s
     → (w ≡ n) ⊎ ((w + 1 ≡ n) × (get_or (take n s) w 0 ≡ 13)) → IsLineEnd (slice_range s w (n + 1))
 line_end_at s n w e h (inl q) =
     let lf : get_or s n 0 ≡ 10 = rw e (eqb-true _ 10 (passes_at_first (λ b. eqb b 10) s 0 (omega arith))) in
@@ -59,13 +59,13 @@ line_end_at s n w e h (inr (q, cr)) =
     inr (both ∙ rw (cr_there, lf) refl)
 
 -- The lines that are left, where the source ends before the offset `end`.
-pub lines_of-drop : (s : List ℕ) (end at : ℕ) → end ≡ position_or_len (λ b. eqb b 26) s → at ≤ end → lines_of (drop at s) ≡ lines (slice_range s at end)
+pub lines_of-drop : (s : Bytes) (end at : ℕ) → end ≡ position_or_len (λ b. eqb b 26) s → at ≤ end → lines_of (drop at s) ≡ lines (slice_range s at end)
 unfolding lines_of
 lines_of-drop s end at e h =
     let text : before_first (λ b. eqb b 26) s ≡ take end s = ap (λ n. take n s) (sym e) in
     ap lines (before_first-drop (λ b. eqb b 26) s at (omega arith) ∙ ap (drop at) text ∙ sym (between_is s at end))
 
-pub next_line : (s : List ℕ) (end at line whole : ℕ) → end ≡ position_or_len (λ b. eqb b 26) s → at + whole ≤ end → line ≤ whole
+pub next_line : (s : Bytes) (end at line whole : ℕ) → end ≡ position_or_len (λ b. eqb b 26) s → at + whole ≤ end → line ≤ whole
     → lines (slice_range s at end) ≡ take line (slice_range s at end) ∷ lines (drop whole (slice_range s at end))
     → lines_of (drop at s) ≡ slice_range s at (at + line) ∷ lines_of (drop (at + whole) s)
 next_line s end at line whole e h l cut =
@@ -76,7 +76,7 @@ next_line s end at line whole e h l cut =
     ∙ ap (λ (bytes : Bytes). bytes ∷ lines (drop whole (slice_range s at end))) (take-slice_range s at end line (omega arith))
     ∙ ap (λ (rest : Lines). slice_range s at (at + line) ∷ rest) behind
 
-pub next_line_end : (s : List ℕ) (end at line whole : ℕ) → end ≡ position_or_len (λ b. eqb b 26) s → at + whole ≤ end → line ≤ whole
+pub next_line_end : (s : Bytes) (end at line whole : ℕ) → end ≡ position_or_len (λ b. eqb b 26) s → at + whole ≤ end → line ≤ whole
     → IsLineEnd (slice_range (slice_range s at end) line whole) ⊎ ((line ≡ whole) × (whole ≡ length (slice_range s at end)))
     → IsLineEnd (slice_range s (at + line) (at + whole)) ⊎ ((at + line ≡ at + whole) × (lines_of (drop (at + whole) s) ≡ []))
 next_line_end s end at line whole e h l (inl ended) = inl (subst IsLineEnd (slice_range-slice_range s at end line whole l (omega arith)) ended)

@@ -1,5 +1,5 @@
 -- Lines and tokens that were printed are read back.
-use Rattle.std.proofs.Common.{◌≡◌, ℕ, ◌<◌, ◌-◌, Bool, true, false, not, ◌&&◌, eqb, ltb, List, [], ◌∷◌, ◌++◌, length}
+use Rattle.std.proofs.Common.{◌≡◌, ℕ, ◌<◌, ◌-◌, Bool, true, false, not, ◌&&◌, eqb, ltb, [], ◌∷◌, ◌++◌, length}
 use Rattle.std.proofs.Common.{get_or, refl, sym, ap, ◌∙◌, inl}
 use Rattle.std.proofs.Common.{inr, one-add, arith}
 use Rattle.std.specs.List.{before_first, position_or_len, slice_split, list_all, flat_map, join_with_byte, All}
@@ -8,7 +8,7 @@ use Rattle.std.proofs.lemmas.Bool.{leb-true, ltb-true, ne_eqb, and_parts, cases_
 use Rattle.std.proofs.lemmas.List.{append-nil, append_assoc, take_at, drop_at, get_or_past}
 use Rattle.std.proofs.lemmas.List.Splits.{slice_split_at, length-slice_split}
 use Rattle.std.proofs.lemmas.List.Sums.{AllPass-from_list_all}
-use Rattle.paw_base.specs.Bytes.{Bytes, Line, Tokens, Lines}
+use Rattle.paw_base.specs.Bytes.{Bytes, Line, Tokens, Lines, Token}
 use Rattle.paw_lex.specs.Bytes.{is_printed_byte}
 use Rattle.paw_lex.specs.Lines.{lines_of}
 use Rattle.paw_lex.specs.Tokens.{tokens_of}
@@ -68,7 +68,7 @@ lines_of-printed_lines (line ∷ ls) e =
     ∙ ap (λ (rest : Lines). line ∷ rest) (lines_of-printed_lines ls both.1)
 
 -- A token has a byte, and none that ends it.
-abbrev pub is_token : List ℕ → Bool
+abbrev pub is_token : Token → Bool
 is_token token = ltb 0 (length token) && list_all (λ b. not (ends_token b)) token
 
 end_of_token : (token rest : Bytes) → list_all (λ b. not (ends_token b)) token ≡ true → position_or_len ends_token rest ≡ 0

@@ -13,10 +13,10 @@ pub written_more : (a b c z : Text) (xs ys : Lines) → b ≡ a ++ with_line_end
     c ≡ a ++ with_line_ends (xs ++ ys)
 written_more a b c z xs ys first second is =
     second
-    ∙ ap (λ (t : List ℕ). t ++ z) first
+    ∙ ap (λ (t : Text). t ++ z) first
     ∙ append_assoc a (with_line_ends xs) z
-    ∙ ap (λ (t : List ℕ). a ++ (with_line_ends xs ++ t)) is
-    ∙ ap (λ (t : List ℕ). a ++ t) (sym (flat_map-append with_line_end xs ys))
+    ∙ ap (λ (t : Text). a ++ (with_line_ends xs ++ t)) is
+    ∙ ap (λ (t : Text). a ++ t) (sym (flat_map-append with_line_end xs ys))
 
 -- The same where the last step may have failed.
 pub written_last : {T E : Type 0} (r : Result T E) (a b c z : Text) (xs ys : Lines) → b ≡ a ++ with_line_ends xs

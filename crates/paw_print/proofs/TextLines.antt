@@ -1,5 +1,5 @@
 -- The lines of a text are the text and a line end.
-use Rattle.std.proofs.Common.{◌≡◌, ℕ, ◌<◌, true, false, eqb, cond, List, [], ◌∷◌, length, refl, sym, ap, ◌∙◌, arith}
+use Rattle.std.proofs.Common.{◌≡◌, ℕ, ◌<◌, true, false, eqb, cond, [], ◌∷◌, length, refl, sym, ap, ◌∙◌, arith}
 use Rattle.std.specs.List.{slice_split, onto_first}
 use Rattle.std.proofs.lemmas.Bool.{eqb-true}
 use Rattle.std.proofs.lemmas.List.Splits.{length-slice_split}
@@ -11,16 +11,16 @@ written-onto_first : (b : ℕ) (ls : Lines) → 0 < length ls → with_line_ends
 written-onto_first b [] h = absurd (omega arith)
 written-onto_first b (l ∷ ls) h = refl
 
-written-slice_split : (s : List ℕ) → with_line_ends (slice_split (λ c. eqb c 10) s) ≡ with_line_end s
+written-slice_split : (s : Text) → with_line_ends (slice_split (λ c. eqb c 10) s) ≡ with_line_end s
 written-slice_split [] = refl
 written-slice_split (b ∷ bs) =
     elim (eqb b 10) as (λ v. eqb b 10 ≡ v
     → with_line_ends (cond v ([] ∷ slice_split (λ c. eqb c 10) bs) (onto_first b (slice_split (λ c. eqb c 10) bs)))
     ≡ b ∷ with_line_end bs) [
-      | true ↦ λ e. ap (λ (t : List ℕ). 10 ∷ t) (written-slice_split bs) ∙ ap (λ c. c ∷ with_line_end bs) (sym (eqb-true b 10 e))
+      | true ↦ λ e. ap (λ (t : Text). 10 ∷ t) (written-slice_split bs) ∙ ap (λ c. c ∷ with_line_end bs) (sym (eqb-true b 10 e))
       | false ↦ λ e.
           written-onto_first b (slice_split (λ c. eqb c 10) bs) (omega (arith, length-slice_split (λ c. eqb c 10) bs))
-          ∙ ap (λ (t : List ℕ). b ∷ t) (written-slice_split bs)
+          ∙ ap (λ (t : Text). b ∷ t) (written-slice_split bs)
     ] refl
 
 pub written-lines_of_text : (text : Text) → eqb (length text) 0 ≡ false → with_line_ends (lines_of_text text) ≡ with_line_end text

@@ -18,7 +18,7 @@ use Rattle.paw_world.specs.Weight.{objects_at, weight_down}
 use Rattle.paw_world.proofs.Least.{least_at_here, least_at_pass, least_at_end, least_at_is}
 
 -- The objects at a place from one number on.
-abbrev pub at_on : List ℕ → ℕ → ℕ → List ℕ
+abbrev pub at_on : ObjectPlaces → ℕ → ℕ → List ℕ
 at_on places p from = filter (λ o. slice_index places o == p) (drop from (range_with_len 0 (length places)))
 
 filter-cons : (test : ℕ → Bool) (x : ℕ) (xs : List ℕ) → filter test (x ∷ xs) ≡ (if test x then x ∷ filter test xs else filter test xs)

@@ -3,7 +3,7 @@ use Rattle.std.proofs.Common.{◌≡◌, ℕ, suc, ◌+◌, ◌<◌, List, ◌++
 use Rattle.std.proofs.Common.{add-one, length-append, length-drop}
 use Rattle.std.specs.Option.{option_map_or}
 use Rattle.std.proofs.lemmas.List.{length-take-le}
-use Rattle.paw_base.specs.Bytes.{Seed}
+use Rattle.paw_base.specs.Bytes.{Seed, Bytes, ObjectPlaces}
 use Rattle.paw_base.specs.declared.limits.TheConstants.{FLAG_COUNT}
 use Rattle.paw_base.specs.declared.parts.ObjectFacts.{ObjectFacts}
 use Rattle.paw_world.specs.World.{World, Position, saved_position_loaded, at_position, IsPosition, IsSavedFor}
@@ -13,8 +13,8 @@ saved_for : (objects : ℕ) (saved : Option Position) (q : Position) → saved �
 saved_for objects saved q is alike = rw is at alike
 
 -- The position has as many places, and the flags are as many as before.
-pub parts_loaded : (facts : List ObjectFacts) (flags places : List ℕ) (saved : Option Position)
-    (kept : List (Option Position)) (q : Position) (n : ℕ) (front moved : List ℕ) → IsStored facts flags places saved kept → saved ≡ Some q
+pub parts_loaded : (facts : List ObjectFacts) (flags : Bytes) (places : ObjectPlaces) (saved : Option Position)
+    (kept : List (Option Position)) (q : Position) (n : ℕ) (front : Bytes) (moved : ObjectPlaces) → IsStored facts flags places saved kept → saved ≡ Some q
     → n < FLAG_COUNT → front ≡ take (n + 1) q.flags → moved ≡ q.places
     → IsStored facts (front ++ drop (n + 1) flags) moved saved kept
 parts_loaded facts flags places saved kept q n front moved parts is small first all =
@@ -29,7 +29,7 @@ parts_loaded facts flags places saved kept q n front moved parts is small first 
       kept_alike = rw same parts.kept_alike;
     }
 
-abbrev pub with_parts : List ObjectFacts → ℕ → Option Position → List (Option Position) → ℕ → ℕ → List ℕ → List ℕ → ℕ → World
+abbrev pub with_parts : List ObjectFacts → ℕ → Option Position → List (Option Position) → ℕ → ℕ → Bytes → ObjectPlaces → ℕ → World
 with_parts facts locations saved kept seed draws flags places objects = record {
   facts = take objects facts;
   locations = locations;
@@ -41,8 +41,8 @@ with_parts facts locations saved kept seed draws flags places objects = record {
   draws = draws;
 }
 
-pub loaded_is : (facts : List ObjectFacts) (locations : ℕ) (flags places : List ℕ) (saved : Option Position)
-    (kept : List (Option Position)) (seed : Seed) (draws : ℕ) (q : Position) (n : ℕ) (front moved : List ℕ) → IsSavedFor (length places) saved
+pub loaded_is : (facts : List ObjectFacts) (locations : ℕ) (flags : Bytes) (places : ObjectPlaces) (saved : Option Position)
+    (kept : List (Option Position)) (seed : Seed) (draws : ℕ) (q : Position) (n : ℕ) (front : Bytes) (moved : ObjectPlaces) → IsSavedFor (length places) saved
     → saved ≡ Some q → front ≡ take (n + 1) q.flags → moved ≡ q.places
     → with_parts facts locations saved kept seed draws (front ++ drop (n + 1) flags) moved (length moved)
     ≡ saved_position_loaded (with_parts facts locations saved kept seed draws flags places (length places)) n
@@ -51,8 +51,8 @@ loaded_is facts locations flags places saved kept seed draws q n front moved ali
     let same : length moved ≡ length places = ap length all ∙ position.places in
     let w = with_parts facts locations saved kept seed draws flags places (length places) in
     let flags_are : front ++ drop (n + 1) flags ≡ take (suc n) q.flags ++ drop (suc n) flags =
-    ap (λ (l : List ℕ). l ++ drop (n + 1) flags) first ∙ ap (λ (k : ℕ). take k q.flags ++ drop k flags) (add-one n) in
+    ap (λ (l : Bytes). l ++ drop (n + 1) flags) first ∙ ap (λ (k : ℕ). take k q.flags ++ drop k flags) (add-one n) in
     ap (with_parts facts locations saved kept seed draws (front ++ drop (n + 1) flags) moved) same
-    ∙ (ap (λ (l : List ℕ). with_parts facts locations saved kept seed draws l moved (length places)) flags_are
-    ∙ (ap (λ (l : List ℕ). with_parts facts locations saved kept seed draws (take (suc n) q.flags ++ drop (suc n) flags) l (length places)) all
+    ∙ (ap (λ (l : Bytes). with_parts facts locations saved kept seed draws l moved (length places)) flags_are
+    ∙ (ap (λ (l : ObjectPlaces). with_parts facts locations saved kept seed draws (take (suc n) q.flags ++ drop (suc n) flags) l (length places)) all
     ∙ sym (ap (λ (found : Option Position). option_map_or (at_position w n) found w) is)))

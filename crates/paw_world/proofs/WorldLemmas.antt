@@ -167,14 +167,14 @@ places-moved w o p =
       | inl same ↦ ap (λ (u : World). u.places) (taken_where_same (place w o) p w v same)
           ∙ sym (ap (set w.places o) (sym same) ∙ set-get_or w.places o 0)
       | inr other ↦ ap (λ (u : World). u.places) (taken_where_other (place w o) p w v other)
-          ∙ ap (λ (l : List ℕ). set l o p) (places-taken_up (let_go w (place w o)) p ∙ places-let_go w (place w o))
+          ∙ ap (λ (l : ObjectPlaces). set l o p) (places-taken_up (let_go w (place w o)) p ∙ places-let_go w (place w o))
     ]
 
 pub place-moved_same : (w : World) (o p : ℕ) → o < length w.places → place (object_moved w o p) o ≡ p
-place-moved_same w o p known = ap (λ (l : List ℕ). get_or l o 0) (places-moved w o p) ∙ get_or-set_same w.places o p 0 known
+place-moved_same w o p known = ap (λ (l : ObjectPlaces). get_or l o 0) (places-moved w o p) ∙ get_or-set_same w.places o p 0 known
 
 pub place-moved_other : (w : World) (o p k : ℕ) → k ≢ o → place (object_moved w o p) k ≡ place w k
-place-moved_other w o p k other = ap (λ (l : List ℕ). get_or l k 0) (places-moved w o p) ∙ get_or-set_other w.places o k p 0 other
+place-moved_other w o p k other = ap (λ (l : ObjectPlaces). get_or l k 0) (places-moved w o p) ∙ get_or-set_other w.places o k p 0 other
 
 pub length-moved : (w : World) (o p : ℕ) → length (object_moved w o p).places ≡ length w.places
 length-moved w o p = ap length (places-moved w o p) ∙ length-set w.places o p

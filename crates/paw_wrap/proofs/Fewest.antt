@@ -11,7 +11,7 @@ use Rattle.paw_wrap.proofs.LineWidths.{lines, has_space, first_line, lines-line_
 use Rattle.paw_wrap.proofs.LineWidths.{drop-onto, FitsBehind, fits_behind}
 
 -- The bytes are those of the text, except that at most n spaces became LFs.
-abbrev pub Broken : List ℕ → List ℕ → ℕ → Type 0
+abbrev pub Broken : Text → Bytes → ℕ → Type 0
 Broken [] [] n = ⊤
 Broken [] (c ∷ cs) n = ⊥
 Broken (b ∷ bs) [] n = ⊥
@@ -33,7 +33,7 @@ broken_once (b ∷ bs) (c ∷ cs) n (suc at) (inl (same, more)) here = inl (same
 broken_once (b ∷ bs) (c ∷ cs) n (suc at) (inr (m, less, was, lf, more)) here =
     inr (suc m, omega (arith, less), was, lf, broken_once bs cs m at more here)
 
-broken_at : (text bytes choice : List ℕ) (n : ℕ) → Broken text bytes n → AreSpaces text choice
+broken_at : (text bytes : Bytes) (choice : List ℕ) (n : ℕ) → Broken text bytes n → AreSpaces text choice
     → Broken text (with_byte line_feed choice bytes) (n + length choice)
 broken_at text bytes [] n broken spaces = rw (add-zero n) broken
 broken_at text bytes (at ∷ choice) n broken spaces =
@@ -73,7 +73,7 @@ after_other w before b bs e fit =
     }
 
 -- A space that first fit breaks at, in a line that begins no later, doesn't stay a space where lines fit.
-too_long : (w before other c n : ℕ) (bs cs : List ℕ) → eqb c line_feed ≡ false → eqb c space ≡ true → before ≤ other
+too_long : (w before other c n : ℕ) (bs cs : Bytes) → eqb c line_feed ≡ false → eqb c space ≡ true → before ≤ other
     → w < before + 1 + word_length bs → Broken bs cs n → FitsBehind w other (lines (c ∷ cs)) → ⊥
 too_long w before other c n bs cs e f begun long broken fit =
     let size : length (first_line (lines (c ∷ cs))) ≡ suc (length (first_line (lines cs))) = ap length (first_line-other c cs e) in

@@ -24,7 +24,7 @@ unfolding breaks_from
 after_space w at before b bs e h = rw (e, le-ltb _ _ h) refl
 
 -- The breaks so far and those that are left are all. The line began before, and a word ends here.
-pub record Reached (w : ℕ) (text breaks : List ℕ) (line at : ℕ) : Type 0 where
+pub record Reached (w : ℕ) (text : Text) (breaks : List ℕ) (line at : ℕ) : Type 0 where
   pub begun : line ≤ at
   pub within : at ≤ length text
   pub word_end : at < length text → ends_word (get_or text at 0) ≡ true
@@ -58,7 +58,7 @@ next_word w before after at n text word e =
     ∙ ap (breaks_from w (at + 1 + n) after) (drop-drop n (suc at) text ∙ ap (λ k. drop k text) (omega arith))
 
 -- The word after the offset is passed.
-passed : (w line next at n : ℕ) (text breaks more : List ℕ) → Reached w text breaks line at → at < length text → Word text at n → next ≤ at + 1
+passed : (w line next at n : ℕ) (text : Text) (breaks more : List ℕ) → Reached w text breaks line at → at < length text → Word text at n → next ≤ at + 1
     → breaks_from w at (at - line) (get_or text at 0 ∷ drop (suc at) text) ≡ more ++ breaks_from w (suc at) (at + 1 - next) (drop (suc at) text)
     → Reached w text (breaks ++ more) next (at + 1 + n)
 passed w line next at n text breaks more r h word begins e =
@@ -81,7 +81,7 @@ begins w n text e h = record {
   so_far = sym (breaks_from-word w 0 0 n n (n - 0) text (omega arith) (omega arith) (omega (arith, e)));
 }
 
-pub past_line_feed : (w line at n : ℕ) (text breaks : List ℕ) → Reached w text breaks line at → at < length text → Word text at n
+pub past_line_feed : (w line at n : ℕ) (text : Text) (breaks : List ℕ) → Reached w text breaks line at → at < length text → Word text at n
     → get_or text at 0 ≡ line_feed → Reached w text breaks (at + 1) (at + 1 + n)
 past_line_feed w line at n text breaks r h word e =
     let none : at + 1 - (at + 1) ≡ 0 = omega arith in
@@ -92,21 +92,21 @@ past_line_feed w line at n text breaks r h word e =
 space_at : (b : ℕ) → ends_word b ≡ true → b ≢ line_feed → b ≡ space
 space_at b e other = eqb-true b space (left_true (eqb b space) (eqb b line_feed) (ne_eqb b line_feed other) e)
 
-pub past_break : (w line at n : ℕ) (text breaks : List ℕ) → Reached w text breaks line at → at < length text → Word text at n
+pub past_break : (w line at n : ℕ) (text : Text) (breaks : List ℕ) → Reached w text breaks line at → at < length text → Word text at n
     → get_or text at 0 ≢ line_feed → w < at + 1 + n - line → Reached w text (breaks ++ at ∷ []) (at + 1) (at + 1 + n)
 past_break w line at n text breaks r h word other long =
     let none : at + 1 - (at + 1) ≡ 0 = omega arith in
     passed w line (at + 1) at n text breaks (at ∷ []) r h word (omega arith)
     (rw none (after_break w at (at - line) (get_or text at 0) (drop (suc at) text) (space_at _ (r.word_end h) other) (omega (arith, word.size, r.begun))))
 
-pub past_space : (w line at n : ℕ) (text breaks : List ℕ) → Reached w text breaks line at → at < length text → Word text at n
+pub past_space : (w line at n : ℕ) (text : Text) (breaks : List ℕ) → Reached w text breaks line at → at < length text → Word text at n
     → get_or text at 0 ≢ line_feed → at + 1 + n - line ≤ w → Reached w text breaks line (at + 1 + n)
 past_space w line at n text breaks r h word other short =
     let more : at + 1 - line ≡ suc (at - line) = omega (arith, r.begun) in
     rw (append-nil breaks) at (passed w line line at n text breaks [] r h word (omega (arith, r.begun))
     (rw more (after_space w at (at - line) (get_or text at 0) (drop (suc at) text) (space_at _ (r.word_end h) other) (omega (arith, word.size, r.begun)))))
 
-pub all_found : (w line at : ℕ) (text breaks : List ℕ) → Reached w text breaks line at → length text ≤ at → breaks ≡ breaks_from w 0 0 text
+pub all_found : (w line at : ℕ) (text : Text) (breaks : List ℕ) → Reached w text breaks line at → length text ≤ at → breaks ≡ breaks_from w 0 0 text
 all_found w line at text breaks r h =
     sym (append-nil breaks) ∙ ap (λ (left : List ℕ). breaks ++ left)
     (sym (ap (breaks_from w at (at - line)) (drop_all at text h) ∙ breaks_from-empty w at (at - line))) ∙ r.so_far
@@ -129,5 +129,5 @@ inside_from w at before (b ∷ bs) i =
     ]
 
 -- Each break is an offset of the text.
-pub is_inside : (w : ℕ) (text places : List ℕ) (i : ℕ) → places ≡ breaks_from w 0 0 text → i < length places → get_or places i 0 < length text
+pub is_inside : (w : ℕ) (text : Text) (places : List ℕ) (i : ℕ) → places ≡ breaks_from w 0 0 text → i < length places → get_or places i 0 < length text
 is_inside w text places i e h = rw e (omega (arith, inside_from w 0 0 text i (rw e at h)))

@@ -5,12 +5,12 @@ use Rattle.paw_base.specs.Bytes.{Bytes, Text}
 use Rattle.paw_wrap.specs.FirstFit.{space, line_feed, breaks_from, with_byte}
 use Rattle.paw_wrap.proofs.Breaking.{NextBreak, step, breaks_from-suc}
 
-with_byte-suc : (c x : ℕ) (places bytes : List ℕ) → with_byte c (map suc places) (x ∷ bytes) ≡ x ∷ with_byte c places bytes
+with_byte-suc : (c x : ℕ) (places : List ℕ) (bytes : Bytes) → with_byte c (map suc places) (x ∷ bytes) ≡ x ∷ with_byte c places bytes
 with_byte-suc c x [] bytes = refl
 with_byte-suc c x (at ∷ places) bytes = with_byte-suc c x places (set bytes at c)
 
 -- The text wrapped, with this number of bytes before it in its line.
-abbrev pub wrapped : ℕ → ℕ → List ℕ → List ℕ
+abbrev pub wrapped : ℕ → ℕ → Text → Text
 wrapped w before text = with_byte line_feed (breaks_from w 0 before text) text
 
 -- The offsets of the breaks after the first byte.
@@ -39,7 +39,7 @@ undone-kept : (w before after b : ℕ) (bs : Bytes) → breaks_from w 0 before (
     → with_byte space (breaks_from w 0 before (b ∷ bs)) (wrapped w before (b ∷ bs)) ≡ b ∷ bs
 undone-kept w before after b bs r again =
     rw (wrapped-kept w before after b bs r, moved w before after b bs r)
-    (with_byte-suc space b (breaks_from w 0 after bs) (wrapped w after bs) ∙ ap (λ (rest : List ℕ). b ∷ rest) again)
+    (with_byte-suc space b (breaks_from w 0 after bs) (wrapped w after bs) ∙ ap (λ (rest : Bytes). b ∷ rest) again)
 
 undone-broken : (w before b : ℕ) (bs : Bytes) → eqb b space ≡ true → breaks_from w 0 before (b ∷ bs) ≡ 0 ∷ breaks_from w 1 0 bs
     → with_byte space (breaks_from w 0 0 bs) (wrapped w 0 bs) ≡ bs
@@ -47,7 +47,7 @@ undone-broken : (w before b : ℕ) (bs : Bytes) → eqb b space ≡ true → bre
 undone-broken w before b bs e r again =
     rw (wrapped-broken w before b bs r, broken w before b bs r)
     (with_byte-suc space space (breaks_from w 0 0 bs) (wrapped w 0 bs)
-    ∙ ap (λ (rest : List ℕ). space ∷ rest) again ∙ ap (λ c. c ∷ bs) (sym (eqb-true b space e)))
+    ∙ ap (λ (rest : Bytes). space ∷ rest) again ∙ ap (λ c. c ∷ bs) (sym (eqb-true b space e)))
 
 -- Spaces at the breaks give the text back.
 pub undone : (w before : ℕ) (text : Text) → with_byte space (breaks_from w 0 before text) (wrapped w before text) ≡ text

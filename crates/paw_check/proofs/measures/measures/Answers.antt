@@ -1,6 +1,7 @@
-use Rattle.std.proofs.Common.{◌∙◌, ap, arith, List, ℕ, []}
+use Rattle.std.proofs.Common.{◌∙◌, ap, arith, []}
 use Rattle.std.specs.Option.{unwrap_or}
 use Rattle.std.proofs.lemmas.Option.{slice_get_past}
+use Rattle.paw_base.specs.Bytes.{Text}
 use Rattle.paw_check.specs.inner.Capped.{in_32_bits}
 use Rattle.paw_check.specs.inner.Own.{measure_in, measure_at}
 use Rattle.paw_check.proofs.Rows.{upto_none, upto_more, upto_rest}
@@ -13,7 +14,7 @@ pub loop-at-preserved : goal.loop-at-preserved
 loop-at-preserved c =
     upto_more c.loop-at.row (measure_at c.args.name c.args.texts.now) c.loop-at.at c.measure.result
     (omega (arith, c.loop-at-test.true, c.requires.few))
-    (c.measure.ensures.value ∙ ap (λ (t : List ℕ). in_32_bits (measure_in c.args.name t)) c.text_of.ensures.value)
+    (c.measure.ensures.value ∙ ap (λ (t : Text). in_32_bits (measure_in c.args.name t)) c.text_of.ensures.value)
     c.loop-at.invariant
 
 pub returns : goal.returns

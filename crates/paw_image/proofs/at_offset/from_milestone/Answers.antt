@@ -1,5 +1,6 @@
 use Rattle.std.proofs.Common.{◌≡◌, ℕ, List, suc, ◌-◌, ◌/◌, drop, Ok, sym, ap, ◌∙◌, arith, get_or}
 use Rattle.std.proofs.lemmas.Option.{get_or_from_slice_get, slice_get_within}
+use Rattle.paw_base.specs.Bytes.{Bytes}
 use Rattle.paw_image.specs.inner.Milestones.{milestones_of}
 use Rattle.paw_image.specs.inner.Rows.{past_condact}
 use Rattle.paw_image.proofs.CondactLaws.{each_none, milestone_of}
@@ -25,4 +26,4 @@ returns c =
     let m = milestone_of milestones condacts c.args.count c.args.at before c.requires.milestones c.requires.within is in
     let kept = ap (λ (ms : List ℕ). drop (get_or ms before 0) condacts) c.from_entry-milestones.ensures.value in
     let there = ap (λ (n : ℕ). drop n condacts) (get_or_from_slice_get milestones before m.0 0 m.1) in
-    record { value = m.2 ∙ ap (λ (l : List ℕ). Ok l) (sym (c.from_offset.ensures.value ∙ (kept ∙ there))) }
+    record { value = m.2 ∙ ap (λ (l : Bytes). Ok l) (sym (c.from_offset.ensures.value ∙ (kept ∙ there))) }

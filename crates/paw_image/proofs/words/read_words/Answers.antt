@@ -1,5 +1,6 @@
-use Rattle.std.proofs.Common.{◌≡◌, List, ℕ, Ok, subst, ap, ◌∙◌}
+use Rattle.std.proofs.Common.{◌≡◌, Ok, subst, ap, ◌∙◌}
 use Rattle.std.proofs.lemmas.Result.{err_from_is_err_and}
+use Rattle.paw_base.specs.Bytes.{Bytes}
 use Rattle.paw_read_error.specs.inner.Gives.{Fails}
 use Rattle.paw_image.specs.Damage.{checked_word}
 use Rattle.paw_image.specs.inner.Words.{last_letters}
@@ -12,7 +13,7 @@ returns-in_err-word c =
     let fault = c.in_err-word.field-0.0 in
     let rest = c.loop.rest.now in
     let last = c.last_letters.ensures.value ∙ ap last_letters c.deref.ensures.value in
-    let fails = subst (λ (b : List ℕ). Fails fault (checked_word b rest)) last c.in_err-word.ensures.gives in
+    let fails = subst (λ (b : Bytes). Fails fault (checked_word b rest)) last c.in_err-word.ensures.gives in
     let more = word_more _ c.args.count c.loop.counter rest c.loop-test.true in
     record { gives = rw (p.1, p.2) (ends c.loop.words.items _ _ _ _ more c.loop.invariant fault fails) }
 
@@ -22,7 +23,7 @@ loop-preserved c =
     let after = c.in_ok-word.after.now in
     let rest = c.loop.rest.now in
     let last = c.last_letters.ensures.value ∙ ap last_letters c.deref.ensures.value in
-    let read = subst (λ (b : List ℕ). checked_word b rest ≡ Ok (word, after)) last c.in_ok-word.ensures.gives in
+    let read = subst (λ (b : Bytes). checked_word b rest ≡ Ok (word, after)) last c.in_ok-word.ensures.gives in
     let more = word_more _ c.args.count c.loop.counter rest c.loop-test.true in
     rw (c.in_ok-push.ensures.items, last_is c.loop.words.items word)
     (goes_on c.loop.words.items _ _ _ _ more c.loop.invariant word after read)

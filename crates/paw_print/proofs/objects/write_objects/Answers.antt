@@ -1,6 +1,7 @@
-use Rattle.std.proofs.Common.{ℕ, List, [], ◌∷◌, ◌++◌, ◌∙◌, sym, ap, arith}
+use Rattle.std.proofs.Common.{[], ◌∷◌, ◌++◌, ◌∙◌, sym, ap, arith}
 use Rattle.std.specs.Prelude.{codes}
 use Rattle.std.proofs.lemmas.List.{append-nil}
+use Rattle.paw_base.specs.Bytes.{Text}
 use Rattle.paw_game.specs.declared.parts.ObjectRow.{ObjectRow}
 use Rattle.paw_print.specs.Lines.{object_tokens, tokens_spaced}
 use Rattle.paw_print.proofs.Growing.{numbered_more}
@@ -12,4 +13,4 @@ loop-number-preserved c =
     (codes "/OBJ" ∷ []) c.args.objects.now c.loop-number.number
     c.index-objects-number.result c.args.out.now.items c.loop-number.out.items _
     (omega arith) c.index-objects-number.is c.loop-number.invariant
-    (c.in_ok-write_object.ensures.writes ∙ ap (λ (t : List ℕ). c.loop-number.out.items ++ t) (sym (append-nil _)))
+    (c.in_ok-write_object.ensures.writes ∙ ap (λ (t : Text). c.loop-number.out.items ++ t) (sym (append-nil _)))

@@ -1,4 +1,5 @@
-use Rattle.std.proofs.Common.{List, ℕ, ◌++◌, ◌∙◌, ap}
+use Rattle.std.proofs.Common.{◌++◌, ◌∙◌, ap}
+use Rattle.paw_base.specs.Bytes.{Text}
 use Rattle.paw_game.specs.Game.{GameLists}
 use Rattle.paw_print.specs.Canonical.{canonical_lines, canonical_of, with_line_ends}
 use Rattle.paw_print.proofs.KnownCodes.{valid_known}
@@ -14,6 +15,6 @@ returns c =
     record {
       value =
           c.in_ok-write_game.ensures.writes
-          ∙ ap (λ (t : List ℕ). t ++ with_line_ends (canonical_lines c.parts.result.now)) out
+          ∙ ap (λ (t : Text). t ++ with_line_ends (canonical_lines c.parts.result.now)) out
           ∙ ap (λ (g : GameLists). with_line_ends (canonical_lines g)) c.parts.ensures.value;
     }

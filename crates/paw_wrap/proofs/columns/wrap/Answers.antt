@@ -1,5 +1,6 @@
 use Rattle.std.proofs.Common.{◌≡◌, ◌≤◌, ℕ, List, length, drop, ap, sym, ◌∙◌, arith}
 use Rattle.std.proofs.lemmas.List.{drop_all}
+use Rattle.paw_base.specs.Bytes.{Text}
 use Rattle.paw_wrap.specs.FirstFit.{line_feed, breaks_from, with_byte}
 use Rattle.paw_wrap.proofs.Fewest.{are_fewest}
 use Rattle.paw_wrap.proofs.LineWidths.{wrapped_fits, fits_all}
@@ -8,7 +9,7 @@ use Rattle.paw_wrap.proofs.Undoing.{wrapped, undone}
 use Rattle.paw_wrap.proofs.columns.wrap.Goals as goal
 
 -- With no break left, an LF stands at each.
-all_written : (w i : ℕ) (text bytes places : List ℕ) → places ≡ breaks_from w 0 0 text → length places ≤ i
+all_written : (w i : ℕ) (text bytes : Text) (places : List ℕ) → places ≡ breaks_from w 0 0 text → length places ≤ i
     → with_byte line_feed (drop i places) bytes ≡ with_byte line_feed places text → bytes ≡ wrapped w 0 text
 all_written w i text bytes places e h left =
     sym (ap (λ rest. with_byte line_feed rest bytes) (drop_all i places h)) ∙ left ∙ ap (λ all. with_byte line_feed all text) e
