@@ -1,5 +1,5 @@
 -- Each plays as if alone.
-use Rattle.std.proofs.Common.{◌≡◌, ◌⊎◌, inl, inr, ℕ, suc, ◌+◌, ◌≤◌, List, [], ◌∷◌, ◌++◌, Option, Some, None, Bool, true}
+use Rattle.std.proofs.Common.{◌≡◌, ◌⊎◌, inl, inr, suc, ◌+◌, ◌≤◌, List, [], ◌∷◌, ◌++◌, Option, Some, None, Bool, true}
 use Rattle.std.proofs.Common.{false}
 use Rattle.std.proofs.Common.{refl, sym, ap, ◌∙◌, subst, length, map, nat_le, arith, append_assoc}
 use Rattle.std.specs.Prelude.{codes, if◌then◌else◌}
@@ -29,7 +29,7 @@ use Rattle.paw_host.specs.Laws.{EachPlaysAlone, PiecesAreAnswered}
 
 -- ---- one name among others ----
 
-session_first : (g : Story) (seed : Seed) (sessions : Sessions) (name : Name) (o : Option Request) (later : List (Option (List ℕ))) →
+session_first : (g : Story) (seed : Seed) (sessions : Sessions) (name : Name) (o : Option Request) (later : List (Option Text)) →
     session_after g seed (sessions_with g seed sessions o name) later ≡ session_after g seed (sessions name) (asked_first name o later)
 unfolding session_after
 session_first g seed sessions name None later = refl
@@ -50,7 +50,7 @@ session_alone g seed sessions name (line ∷ lines) =
     session_alone g seed (sessions_with g seed sessions (request_of line)) name lines
     ∙ session_first g seed sessions name (request_of line) (asked_of name lines)
 
-answers_first : (g : Story) (seed : Seed) (sessions : Sessions) (name : Name) (o : Option Request) (later : List (Option (List ℕ))) →
+answers_first : (g : Story) (seed : Seed) (sessions : Sessions) (name : Name) (o : Option Request) (later : List (Option Text)) →
     answered_first g seed sessions name o (answers_of g seed (sessions_with g seed sessions o name) later)
     ≡ answers_of g seed (sessions name) (asked_first name o later)
 unfolding answers_of

@@ -1,5 +1,5 @@
 -- Answers that are put together of the parts of a session's work.
-use Rattle.std.proofs.Common.{◌≡◌, ◌⊎◌, inl, inr, ℕ, List, [], ◌∷◌, ◌++◌, refl, sym, ap, ◌∙◌, subst, true, false, Bool}
+use Rattle.std.proofs.Common.{◌≡◌, ◌⊎◌, inl, inr, [], ◌∷◌, ◌++◌, refl, sym, ap, ◌∙◌, subst, true, false, Bool}
 use Rattle.std.proofs.Common.{length}
 use Rattle.std.proofs.Common.{append_assoc, nat_le, Option, Some, None}
 use Rattle.std.specs.Prelude.{codes, if◌then◌else◌}
@@ -19,12 +19,12 @@ use Rattle.paw_host.specs.inner.Answers.{Answers, InFile, LeftOf, LeftOfBeginnin
 
 -- ---- sessions that are begun ----
 
-answer_absent : (g : Story) (seed : Seed) (text : Option (List ℕ)) → answer g seed Absent text
+answer_absent : (g : Story) (seed : Seed) (text : Option Text) → answer g seed Absent text
     ≡ begun_with_text g text (begun_answer g seed).body (begun_answer g seed).session
 unfolding answer
 answer_absent g seed text = refl
 
-with_absent : (g : Story) (text : Option (List ℕ)) (body : List ℕ) (s : NamedSession) → s ≡ Absent → begun_with_text g text body s
+with_absent : (g : Story) (text : Option Text) (body : Text) (s : NamedSession) → s ≡ Absent → begun_with_text g text body s
     ≡ record { body = body; session = s }
 with_absent g None body s e = refl
 with_absent g (Some text) body Absent e = refl
@@ -32,7 +32,7 @@ with_absent g (Some text) body (At seed es) e = cc
 with_absent g (Some text) body (Refused bytes) e = refl
 
 -- The game isn't begun.
-pub not_begun : (g : Story) (seed : Seed) (text : Option (List ℕ)) (before after bytes : List ℕ) → (begun_answer g seed).session ≡ Absent →
+pub not_begun : (g : Story) (seed : Seed) (text : Option Text) (before after bytes : Bytes) → (begun_answer g seed).session ≡ Absent →
     after ≡ before ++ (begun_answer g seed).body → bytes ≡ [] → Answers g (answer g seed Absent text) before after bytes
 not_begun g seed text before after bytes none grown empty =
     rw (answer_absent g seed text, with_absent g text (begun_answer g seed).body (begun_answer g seed).session none) (record {
@@ -41,7 +41,7 @@ not_begun g seed text before after bytes none grown empty =
     })
 
 -- It is, and no text is taken.
-pub just_begun : (g : Story) (seed : Seed) (before after bytes : List ℕ) → (begun_answer g seed).session ≡ At seed [] →
+pub just_begun : (g : Story) (seed : Seed) (before after bytes : Bytes) → (begun_answer g seed).session ≡ At seed [] →
     after ≡ before ++ (begun_answer g seed).body → Stands g seed [] bytes → Answers g (answer g seed Absent None) before after bytes
 just_begun g seed before after bytes at grown stands = rw (answer_absent g seed None) (record {
   body = grown;
@@ -54,7 +54,7 @@ begun_takes : (g : Story) (seed : Seed) (text : Text) → (begun_answer g seed).
 begun_takes g seed text at = answer_absent g seed (Some text) ∙ ap (begun_with_text g (Some text) (begun_answer g seed).body) at
 
 -- It is, and takes a text.
-pub begun_then : (g : Story) (seed : Seed) (text before mid after bytes : List ℕ) → (begun_answer g seed).session ≡ At seed [] →
+pub begun_then : (g : Story) (seed : Seed) (text before mid after bytes : Bytes) → (begun_answer g seed).session ≡ At seed [] →
     mid ≡ before ++ (begun_answer g seed).body → Answers g (answer_taking g seed [] text) mid after bytes →
     Answers g (answer g seed Absent (Some text)) before after bytes
 begun_then g seed text before mid after bytes at grown a = rw (begun_takes g seed text at) (record {
@@ -94,7 +94,7 @@ making_by : (g : Story) (seed : Seed) (s : NamedSession) (o : Lines) (bytes : By
 making_by g seed s o bytes e h = subst (λ x. LeftOfMaking g seed Absent x bytes) (sym e) h
 
 -- While the game is begun.
-pub in_new_begun : (g : Story) (seed : Seed) (text : Option (List ℕ)) (old m : Standing) → InFile (LeftOfBeginning g seed) old m →
+pub in_new_begun : (g : Story) (seed : Seed) (text : Option Text) (old m : Standing) → InFile (LeftOfBeginning g seed) old m →
     InFile (LeftOf g seed Absent (answer g seed Absent text).session) old m
 in_new_begun g seed text old m i = record {
   asked = i.asked;
@@ -108,7 +108,7 @@ in_new_begun g seed text old m i = record {
 }
 
 -- What holds from a store beside which nothing has changed holds from before.
-pub in_file_from : (Left : List ℕ → Type 0) (old mid : Standing) (m : Standing) → ChangesStoreOnly old mid → InFile Left mid m → InFile Left old m
+pub in_file_from : (Left : Bytes → Type 0) (old mid : Standing) (m : Standing) → ChangesStoreOnly old mid → InFile Left mid m → InFile Left old m
 in_file_from Left old mid m b i = record {
   asked = i.asked ∙ b.asked;
   shown = i.shown ∙ b.shown;

@@ -1,5 +1,5 @@
 -- Sessions stay such as may be, whatever is asked of them.
-use Rattle.std.proofs.Common.{◌≡◌, inl, inr, ℕ, ◌<◌, ◌^◌, List, [], ◌∷◌, ◌++◌, refl, sym, subst, true, false, Bool}
+use Rattle.std.proofs.Common.{◌≡◌, inl, inr, ℕ, ◌<◌, ◌^◌, [], ◌∷◌, ◌++◌, refl, sym, subst, true, false, Bool}
 use Rattle.std.proofs.Common.{length, nat_le, Option, Some, None}
 use Rattle.std.specs.Prelude.{codes, if◌then◌else◌}
 use Rattle.std.proofs.lemmas.List.Elements.{All-append, All-cons, All-nil}
@@ -19,7 +19,7 @@ use Rattle.paw_host.specs.inner.Lines.{AllMay}
 use Rattle.paw_host.proofs.Serving.{same_or_not, its_own, not_its_own}
 
 -- The text, if there is one, is a line.
-abbrev pub IfLine : Option (List ℕ) → Type 0
+abbrev pub IfLine : Option Text → Type 0
 IfLine None = Unit {0}
 IfLine (Some text) = IsLine text
 
@@ -46,14 +46,14 @@ taken_may : (g : Story) (own : ℕ) (es : Lines) (text : Text) → IsPlayedWith 
 taken_may g own es text p l =
     taken_may_by g own es text (reading g own (es ++ text ∷ [])) (is_over (reading g own es)) (nat_le EVENT_LIMIT (length es)) p (one_more g own es text p l)
 
-begun_may : (g : Story) (text : Option (List ℕ)) (body : List ℕ) (s : NamedSession) → MayBe g s → IfLine text → MayBe g (begun_with_text g text body s).session
+begun_may : (g : Story) (text : Option Text) (body : Text) (s : NamedSession) → MayBe g s → IfLine text → MayBe g (begun_with_text g text body s).session
 begun_may g None body s p l = p
 begun_may g (Some text) body Absent p l = tt
 begun_may g (Some text) body (At own es) p l = taken_may g own es text p l
 begun_may g (Some text) body (Refused bytes) p l = tt
 
 -- What a session becomes that may be.
-pub answer_may : (g : Story) (seed : Seed) (before : NamedSession) (text : Option (List ℕ)) → ValidStory g → seed < 2 ^ 64 → IfLine text → MayBe g before →
+pub answer_may : (g : Story) (seed : Seed) (before : NamedSession) (text : Option Text) → ValidStory g → seed < 2 ^ 64 → IfLine text → MayBe g before →
     MayBe g (answer g seed before text).session
 unfolding answer
 answer_may g seed Absent text valid small l p =

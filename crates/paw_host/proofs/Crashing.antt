@@ -1,5 +1,5 @@
 -- Hosting that is begun again after a crash.
-use Rattle.std.proofs.Common.{◌≡◌, ◌⊎◌, inl, inr, ℕ, zero, suc, ◌<◌, ◌^◌, Some, List, [], ◌∷◌, Bool, true, false, refl}
+use Rattle.std.proofs.Common.{◌≡◌, ◌⊎◌, inl, inr, ℕ, zero, suc, ◌<◌, ◌^◌, Some, [], ◌∷◌, Bool, true, false, refl}
 use Rattle.std.proofs.Common.{take}
 use Rattle.std.specs.Prelude.{All}
 use Rattle.std.proofs.lemmas.List.Elements.{All-nil, All-head, All-tail, All-take}
@@ -42,7 +42,7 @@ left_at g seed first lines zero text m k = λ name is bytes may. inl (k.1 name i
 left_at g seed first lines (suc n) text m k = k.0
 
 -- A session that these bytes are those of, such as there may be after a crash.
-abbrev Found : Story → ℕ → NamedSession → NamedSession → List ℕ → NamedSession → Type 0
+abbrev Found : Story → ℕ → NamedSession → NamedSession → Bytes → NamedSession → Type 0
 Found g seed before after bytes s = MayBe g s × Stores g s bytes × AfterCrash seed before after s
 
 half : (g : Story) (seed : Seed) (own : ℕ) (lines : Lines) (bytes : Bytes) → IsUnmade (recover bytes) →

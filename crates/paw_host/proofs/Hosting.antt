@@ -1,11 +1,11 @@
 -- The host, from line to line: what stands, and what stands at each moment.
-use Rattle.std.proofs.Common.{◌≡◌, inl, inr, ℕ, zero, suc, ◌+◌, ◌<◌, ◌≤◌, ◌^◌, ◌==◌, List, [], ◌∷◌, ◌++◌, Option, Some}
+use Rattle.std.proofs.Common.{◌≡◌, inl, inr, ℕ, zero, suc, ◌+◌, ◌<◌, ◌≤◌, ◌^◌, ◌==◌, [], ◌∷◌, ◌++◌, Option, Some}
 use Rattle.std.proofs.Common.{None, Bool, true, false}
 use Rattle.std.proofs.Common.{refl, sym, ap, ◌∙◌, subst, length, take, drop, arith, append_assoc}
 use Rattle.std.specs.Prelude.{All, position, IfSome, if◌then◌else◌}
 use Rattle.std.proofs.lemmas.List.{append-nil, take-append-drop, length-drop, length-take}
 use Rattle.std.proofs.lemmas.List.Elements.{All-drop, All-take, All-head}
-use Rattle.paw_base.specs.Bytes.{Bytes, Line, Lines, Text, Seed}
+use Rattle.paw_base.specs.Bytes.{Bytes, Line, Lines, Text, Seed, Name}
 use Rattle.paw_base.specs.declared.limits.TheConstants.{LINE_LIMIT}
 use Rattle.paw_effects.specs.Story.{Story}
 use Rattle.paw_effects.specs.Standing.{AreBytes}
@@ -91,7 +91,7 @@ serving_first g seed first old b settled = record {
 
 -- The replies to one line more are those before, and its own.
 grown : (g : Story) (seed : Seed) (lines : Lines) (n : ℕ) (at : Sessions) →
-    (more : List ℕ) × (replies g seed at (take (suc n) lines) ≡ replies g seed at (take n lines) ++ more)
+    (more : Text) × (replies g seed at (take (suc n) lines) ≡ replies g seed at (take n lines) ++ more)
 unfolding replies
 grown g seed [] zero at = ([], refl)
 grown g seed [] (suc n) at = ([], refl)
@@ -103,7 +103,7 @@ grown g seed (l ∷ lines) (suc n) at =
           ∙ sym (append_assoc (reply_to g seed at (request_of l)) (replies g seed (sessions_with g seed at (request_of l)) (take n lines)) r.0),
     )
 
-keeps_now : (g : Story) (seed : Seed) (first : Sessions) (start : Option (List ℕ)) (lines : Lines) (n : ℕ) (m : Standing) → n ≤ length lines →
+keeps_now : (g : Story) (seed : Seed) (first : Sessions) (start : Option Name) (lines : Lines) (n : ℕ) (m : Standing) → n ≤ length lines →
     m.attached ≡ attached_after start (take n lines) → AllLeft g (sessions_after g seed first (take n lines)) m →
     IsUpToDate g seed first lines n (replies g seed first (take n lines)) m
 unfolding sessions_after replies
@@ -141,7 +141,7 @@ pub all_answered : (g : Story) (seed : Seed) (first : Sessions) (old now : Stand
     now.lines ≡ [] → n ≡ length old.lines
 all_answered g seed first old now n s none = drop_all old.lines n (sym s.answered.lines ∙ none) s.answered.there
 
-nothing_attached : (request : Option Request) (attached : Option (List ℕ)) → MayAttach request attached attached
+nothing_attached : (request : Option Request) (attached : Option Name) → MayAttach request attached attached
 nothing_attached None attached = refl
 nothing_attached (Some r) attached = inl refl
 
@@ -177,7 +177,7 @@ module _ (g : Story) (seed : Seed) (first : Sessions) (old now mid : Standing) (
   attached_same : mid.attached ≡ attached_after old.attached (take n old.lines)
   attached_same = ap (λ (q : Standing). q.attached) took ∙ s.answered.attached
 
-  others_same : (f : List ℕ) → IsNotOf (take (suc n) old.lines) f → mid.files f ≡ old.files f
+  others_same : (f : Name) → IsNotOf (take (suc n) old.lines) f → mid.files f ≡ old.files f
   others_same f h = ap (λ (q : Standing). q.files f) took ∙ s.answered.others f (not_of_more old.lines n line mid.lines f at h).0
 
   pub mid_stores : AllStore g before mid
@@ -226,7 +226,7 @@ module _ (g : Story) (seed : Seed) (first : Sessions) (old now mid : Standing) (
     shown_before : done.shown ≡ old.shown ++ replies g seed first (take n old.lines)
     shown_before = is.shown ∙ shown_same
 
-    others_done : (f : List ℕ) → IsNotOf (take (suc n) old.lines) f → done.files f ≡ old.files f
+    others_done : (f : Name) → IsNotOf (take (suc n) old.lines) f → done.files f ≡ old.files f
     others_done f h = is.files f (not_of_more old.lines n line mid.lines f at h).1 ∙ others_same f h
 
     attached_done : done.attached ≡ attached_after old.attached (take (suc n) old.lines)
@@ -287,11 +287,11 @@ module _ (g : Story) (seed : Seed) (first : Sessions) (old now mid : Standing) (
     is_done = subst (λ r. AnswersRequest g seed before r text mid done) same does
 
     -- While the reply that was made is shown.
-    pub in_show : FilesHold done → (shown : List ℕ) → shown ≡ text → (m : Standing) → InShow done shown m → InHost g seed first old m
+    pub in_show : FilesHold done → (shown : Text) → shown ≡ text → (m : Standing) → InShow done shown m → InHost g seed first old m
     in_show done_holds shown e m i = in_reply done is_done.1 settled done_holds m (subst (λ t. InShow done t m) (e ∙ is_done.0) i)
 
     -- Once it was shown.
-    pub serves_next : (shown : List ℕ) (new : Standing) → shown ≡ text → new ≡ with_shown shown done → ValidStory g → seed < 2 ^ 64 → All AreBytes old.lines →
+    pub serves_next : (shown : Text) (new : Standing) → shown ≡ text → new ≡ with_shown shown done → ValidStory g → seed < 2 ^ 64 → All AreBytes old.lines →
         IsServing g seed first old new (suc n)
     serves_next shown new e grew valid small bytes =
         serving_next done is_done.1 settled new (grew ∙ ap (λ t. with_shown t done) (e ∙ is_done.0))
@@ -320,7 +320,7 @@ hosts_by g seed first old new n (outcome.Long lines) h i = absurd h
 -- ---- lines that were taken ----
 
 -- A line was asked for, and its reply was made and shown.
-pub took_one : (old mid done new : Standing) (line shown : List ℕ) → old.lines ≡ line ∷ mid.lines →
+pub took_one : (old mid done new : Standing) (line shown : Bytes) → old.lines ≡ line ∷ mid.lines →
     mid ≡ record old { lines = mid.lines; asked = old.asked + 1 } →
     SameLines mid done → new ≡ with_shown shown done → TakesTo old new None
 took_one old mid done new line shown left took same grew = (

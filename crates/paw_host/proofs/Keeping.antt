@@ -1,5 +1,5 @@
 -- Answers of a session that was kept.
-use Rattle.std.proofs.Common.{◌≡◌, inl, ℕ, ◌<◌, List, [], ◌++◌, refl, sym, ap, ◌∙◌, subst, length, arith, Option, Some}
+use Rattle.std.proofs.Common.{◌≡◌, inl, ℕ, ◌<◌, [], ◌++◌, refl, sym, ap, ◌∙◌, subst, length, arith, Option, Some}
 use Rattle.std.proofs.Common.{None}
 use Rattle.std.specs.Prelude.{codes}
 use Rattle.paw_base.specs.Bytes.{Bytes, Lines, Text, Seed}
@@ -20,11 +20,11 @@ module _ (g : Story) (seed : Seed) (bytes : Bytes) (some : 0 < length bytes) whe
   no_absent : {A : Type 0} → bytes ≡ [] → A
   no_absent e = absurd (omega (arith, some, ap length e))
 
-  no_refused : {A : Type 0} (kept : List ℕ) → Stores g (Refused kept) bytes → ShowsSome g bytes → A
+  no_refused : {A : Type 0} (kept : Bytes) → Stores g (Refused kept) bytes → ShowsSome g bytes → A
   no_refused kept h shows = absurd (h.1.1 (subst (ShowsSome g) h.0 shows))
 
   -- The store has no session of the game.
-  pub kept_refused : (before : NamedSession) (text : Option (List ℕ)) (old new : List ℕ) → MayBe g before → Stores g before bytes →
+  pub kept_refused : (before : NamedSession) (text : Option Text) (old new : Bytes) → MayBe g before → Stores g before bytes →
       ¬ ShowsSome g bytes → new ≡ old ++ codes "refused" → Answers g (answer g seed before text) old new bytes
   unfolding answer
   kept_refused Absent text old new may stores none grown = no_absent stores

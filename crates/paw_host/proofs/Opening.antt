@@ -1,12 +1,10 @@
 -- Sessions that are begun, and sessions that are taken up.
-use Rattle.std.proofs.Common.{◌≡◌, ◌≢◌, inl, inr, ℕ, List, [], ◌∷◌, ◌++◌, refl, sym, ap, ◌∙◌, subst}
-use Rattle.std.proofs.Common.{true, take, length, arith}
-use Rattle.std.proofs.Common.{◌≡◌, ◌≢◌, inl, inr, ℕ, List, [], ◌∷◌, ◌++◌, refl, sym, ap, ◌∙◌, subst}
+use Rattle.std.proofs.Common.{◌≡◌, ◌≢◌, inl, inr, [], ◌∷◌, ◌++◌, refl, sym, ap, ◌∙◌, subst}
 use Rattle.std.proofs.Common.{true, take, length, arith}
 use Rattle.std.proofs.Common.{Some, codes}
 use Rattle.std.proofs.lemmas.List.{append-nil, take_all}
 use Rattle.std.specs.Prelude.{reverse}
-use Rattle.paw_base.specs.Bytes.{Bytes, Lines, Seed}
+use Rattle.paw_base.specs.Bytes.{Bytes, Lines, Seed, Text}
 use Rattle.paw_base.specs.declared.limits.TheConstants.{PIECE_LIMIT}
 use Rattle.sha2.specs.Sha256.{sha256}
 use Rattle.paw_game.specs.Game.{GameLists}
@@ -96,7 +94,7 @@ module _ {F : Type 0} (g : Story) (seed : Seed) (found : Step) (next : PlayerVie
     keeps = rw e (first_kept (story_digests g) shows);
   }
 
-  pub first_refused : (word : List ℕ) → refusal_word_of found ≡ Some word → begun_answer g seed ≡ record { body = word; session = Absent }
+  pub first_refused : (word : Text) → refusal_word_of found ≡ Some word → begun_answer g seed ≡ record { body = word; session = Absent }
   first_refused word e =
       elim found as
       (λ q. PlaysTo g (reading g seed) q next [] [] → refusal_word_of q ≡ Some word → begun_answer g seed ≡ record { body = word; session = Absent }) [
@@ -215,13 +213,13 @@ taken_up {F} g digests bytes state buffer piece r routines seat shown same belon
 -- ---- a session that is refused ----
 
 -- A buffer that begins with the bytes of a state is fit.
-is_fit : (g : GameLists) (own : Digests) (bytes : Bytes) (digests : Digests) (buffer piece q : List ℕ) (st : State) → ShowsState g own bytes st q →
+is_fit : (g : GameLists) (own : Digests) (bytes : Bytes) (digests : Digests) (buffer piece q : Bytes) (st : State) → ShowsState g own bytes st q →
     recover bytes ≡ Shown digests (take state_length buffer) piece → Fit g buffer
 unfolding kept_bytes
 is_fit g own bytes digests buffer piece q st shows is =
     record { state = st; valid = shows.valid; fits = shows.fits; are = same_state _ _ _ _ _ _ (sym is ∙ shows.shown) }
   where
-    same_state : (d : Digests) (s p : List ℕ) (e : Digests) (t q : List ℕ) → Shown d s p ≡ Shown e t q → s ≡ t
+    same_state : (d : Digests) (s p : Bytes) (e : Digests) (t q : Bytes) → Shown d s p ≡ Shown e t q → s ≡ t
     same_state d s p e t q h = cc
 
 -- Bytes that a session can't be read of show none.

@@ -1,5 +1,5 @@
 -- From a store at rest to one that is attached, and what a crash leaves of all files meanwhile.
-use Rattle.std.proofs.Common.{◌≡◌, ◌≢◌, ◌⊎◌, inl, inr, ℕ, List, [], Option, Some, None, true, false, refl, sym, ap, ◌∙◌}
+use Rattle.std.proofs.Common.{◌≡◌, ◌≢◌, ◌⊎◌, inl, inr, [], Option, Some, None, true, false, refl, sym, ap, ◌∙◌}
 use Rattle.std.proofs.Common.{subst, bytes_eq, length, ◌∷◌}
 use Rattle.std.specs.Prelude.{if◌then◌else◌}
 use Rattle.std.proofs.lemmas.Slice.Eq.{bytes_eq-Decides}
@@ -19,24 +19,24 @@ use Rattle.paw_host.specs.inner.Answers.{InFile, InAnswer, IsAside, LeftOf, Stor
 
 -- While a store is attached the file of its name has its bytes.
 abbrev pub FilesHold : Standing → Type 0
-FilesHold s = (n : List ℕ) → s.attached ≡ Some n → file_bytes s n ≡ s.disk.bytes
+FilesHold s = (n : Name) → s.attached ≡ Some n → file_bytes s n ≡ s.disk.bytes
 
 -- A moment at which nothing is done yet: a crash leaves of each file the bytes that it had.
 pub record IsBefore (name : Name) (old m : Standing) : Type 0 where
   pub asked : m.asked ≡ old.asked
   pub shown : m.shown ≡ old.shown
-  pub files : (f : List ℕ) → f ≢ name → m.files f ≡ old.files f
+  pub files : (f : Name) → f ≢ name → m.files f ≡ old.files f
   pub attached : (m.attached ≡ old.attached) ⊎ (m.attached ≡ Some name) ⊎ (m.attached ≡ None)
-  pub left : (f bytes : List ℕ) → MayBeLeft f m bytes → bytes ≡ file_bytes old f
+  pub left : (f bytes : Bytes) → MayBeLeft f m bytes → bytes ≡ file_bytes old f
 
 -- At rest.
-pub rest_left : (s : Standing) → IsStable s.disk → FilesHold s → (f bytes : List ℕ) → MayBeLeft f s bytes → bytes ≡ file_bytes s f
+pub rest_left : (s : Standing) → IsStable s.disk → FilesHold s → (f bytes : Bytes) → MayBeLeft f s bytes → bytes ≡ file_bytes s f
 rest_left s settled holds f bytes (inl h) = stable_leaves s.disk bytes settled h.1 ∙ sym (holds f h.0)
 rest_left s settled holds f bytes (inr h) = h.1
 
 -- ---- the attach ----
 
-made_by : (name f : List ℕ) (files : Files) (file : Option (List ℕ)) → files name ≡ file →
+made_by : (name f : Name) (files : Files) (file : Option Bytes) → files name ≡ file →
     bytes_or_none (made_if_missing name file files f) ≡ bytes_or_none (files f)
 made_by name f files (Some bytes) e = refl
 made_by name f files None e =
@@ -45,19 +45,19 @@ made_by name f files None e =
       | false ↦ λ t. refl
     ] refl
 
-made_bytes : (old : Standing) (name f : List ℕ) → bytes_or_none ((with_store_opened name old).files f) ≡ file_bytes old f
+made_bytes : (old : Standing) (name f : Name) → bytes_or_none ((with_store_opened name old).files f) ≡ file_bytes old f
 made_bytes old name f = made_by name f old.files (old.files name) refl
 
-same_name : (name f : List ℕ) → ◌≡◌ {A = Option (List ℕ)} (Some name) (Some f) → name ≡ f
+same_name : (name f : Name) → ◌≡◌ {A = Option Name} (Some name) (Some f) → name ≡ f
 same_name name f e = cc
 
-opened_left : (old : Standing) (name f bytes : List ℕ) → MayBeLeft f (with_store_opened name old) bytes → bytes ≡ file_bytes old f
+opened_left : (old : Standing) (name f bytes : Bytes) → MayBeLeft f (with_store_opened name old) bytes → bytes ≡ file_bytes old f
 opened_left old name f bytes (inl h) =
     stable_leaves (stable (file_bytes old name)) bytes (stable_is (file_bytes old name)) h.1 ∙ ap (file_bytes old) (same_name name f h.0)
 opened_left old name f bytes (inr h) = h.1 ∙ made_bytes old name f
 
-none_left : (old : Standing) (f bytes : List ℕ) → MayBeLeft f (record old { attached = None; disk = stable [] }) bytes → bytes ≡ file_bytes old f
-none_left old f bytes (inl h) = let no : ◌≡◌ {A = Option (List ℕ)} None (Some f) = h.0 in cc
+none_left : (old : Standing) (f bytes : Bytes) → MayBeLeft f (record old { attached = None; disk = stable [] }) bytes → bytes ≡ file_bytes old f
+none_left old f bytes (inl h) = let no : ◌≡◌ {A = Option Name} None (Some f) = h.0 in cc
 none_left old f bytes (inr h) = h.1
 
 module _ (old new : Standing) (name : Name) (settled : IsStable old.disk) (holds : FilesHold old) where
@@ -124,7 +124,7 @@ module _ (g : Story) (seed : Seed) (name : Name) (before after : NamedSession) (
     ];
   }
     where
-      still : (f : List ℕ) → f ≢ name → m.files f ≡ old.files f
+      still : (f : Name) → f ≢ name → m.files f ≡ old.files f
       still f ne = i.files f (λ e. ne (sym (same_name name f e))) ∙ other_file old name f ne
 
 -- From a store with no bytes, of which there is no session.

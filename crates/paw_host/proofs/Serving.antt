@@ -1,5 +1,5 @@
 -- The host, from line to line.
-use Rattle.std.proofs.Common.{◌≡◌, ◌≢◌, ◌⊎◌, inl, inr, ℕ, zero, suc, ◌≤◌, List, [], ◌∷◌, ◌++◌, Option, Some, None, true}
+use Rattle.std.proofs.Common.{◌≡◌, ◌≢◌, ◌⊎◌, inl, inr, ℕ, zero, suc, ◌≤◌, [], ◌∷◌, ◌++◌, Option, Some, None, true}
 use Rattle.std.proofs.Common.{false}
 use Rattle.std.proofs.Common.{refl, sym, ap, ◌∙◌, subst, length, take, drop, bytes_eq, arith, append_assoc}
 use Rattle.std.proofs.lemmas.List.{append-nil, append_cancel_right}
@@ -97,10 +97,10 @@ attached_in start (l ∷ next ∷ lines) (suc n) line rest attached h k = attach
 -- ---- names ----
 
 -- Two names have two files.
-pub other_store : (a b : List ℕ) → a ≢ b → store_name a ≢ store_name b
+pub other_store : (a b : Name) → a ≢ b → store_name a ≢ store_name b
 other_store a b ne e = ne (append_cancel_right a b (codes ".paw") e)
 
-pub same_or_not : (a b : List ℕ) → (a ≡ b) ⊎ ((a ≢ b) × (bytes_eq a b ≡ false))
+pub same_or_not : (a b : Bytes) → (a ≡ b) ⊎ ((a ≢ b) × (bytes_eq a b ≡ false))
 same_or_not a b = elim (bytes_eq a b) as (λ t. bytes_eq a b ≡ t → (a ≡ b) ⊎ ((a ≢ b) × (bytes_eq a b ≡ false))) [
   | true ↦ λ t. inl ((bytes_eq-Decides a b).0 t)
   | false ↦ λ t. inr (λ e. let yes : bytes_eq a b ≡ true = (bytes_eq-Decides a b).1 e in let no : true ≡ false = sym yes ∙ t in cc, t)
@@ -184,18 +184,18 @@ each_done g seed sessions (Some r) m attached all = λ name is bytes may. elim (
   | inr o ↦ inl (subst (λ s. Stores g s bytes) (not_its_own r.name name (answer g seed (sessions r.name) r.text).session sessions o.1) (all name is bytes may))
 ]
 
-pub with_attached : (request : Option Request) (start attached : Option (List ℕ)) → attached ≡ attached_with request start → (r : Request) → request ≡ Some r →
+pub with_attached : (request : Option Request) (start attached : Option Name) → attached ≡ attached_with request start → (r : Request) → request ≡ Some r →
     attached ≡ Some (store_name r.name)
 with_attached request start attached e r is = e ∙ ap (λ o. attached_with o start) is
 
 -- ---- the reply ----
 
-spoken : (name body : List ℕ) → ((codes "[" ++ (name ++ codes "]\n")) ++ body) ++ codes "\n" ≡ reply_text name body
+spoken : (name body : Bytes) → ((codes "[" ++ (name ++ codes "]\n")) ++ body) ++ codes "\n" ≡ reply_text name body
 spoken name body =
     ap (λ x. 91 ∷ x) (append_assoc (name ++ codes "]\n") body (codes "\n") ∙ append_assoc name (codes "]\n") (body ++ codes "\n"))
 
 -- A session was asked for something, and the reply is made.
-pub does_request : (g : Story) (seed : Seed) (sessions : Sessions) (old new : Standing) (r : Request) (store begun grown whole : List ℕ) →
+pub does_request : (g : Story) (seed : Seed) (sessions : Sessions) (old new : Standing) (r : Request) (store begun grown whole : Bytes) →
     AllStore g sessions old →
     is_name r.name ≡ true → store ≡ store_name r.name → IsAside store old new → new.attached ≡ Some store → begun ≡ codes "[" ++ (r.name ++ codes "]\n") →
     Answers g (answer g seed (sessions r.name) r.text) begun grown (file_bytes new store) → whole ≡ grown ++ codes "\n" →
@@ -208,7 +208,7 @@ does_request g seed sessions old new r store begun grown whole stores named is a
 )
 
 -- While it is asked.
-pub doing_request : (g : Story) (seed : Seed) (sessions : Sessions) (old : Standing) (r : Request) (store : List ℕ) (m : Standing) → AllStore g sessions old →
+pub doing_request : (g : Story) (seed : Seed) (sessions : Sessions) (old : Standing) (r : Request) (store : Name) (m : Standing) → AllStore g sessions old →
     store ≡ store_name r.name → InAnswer g seed store (sessions r.name) (answer g seed (sessions r.name) r.text).session old m →
     Doing g seed sessions (Some r) old m
 doing_request g seed sessions old r store m stores is i =

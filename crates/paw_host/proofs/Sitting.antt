@@ -30,10 +30,10 @@ use Rattle.paw_host.specs.inner.Answers.{SitsAt, refusal_word_of}
 
 -- ---- answers by how a reading ended ----
 
-pub same_piece : (d : Digests) (a p : List ℕ) (e : Digests) (b q : List ℕ) → Shown d a p ≡ Shown e b q → p ≡ q
+pub same_piece : (d : Digests) (a p : Bytes) (e : Digests) (b q : Bytes) → Shown d a p ≡ Shown e b q → p ≡ q
 same_piece d a p e b q h = cc
 
-pub same_digests : (d : Digests) (s p : List ℕ) (e : Digests) (t q : List ℕ) → Shown d s p ≡ Shown e t q → d ≡ e
+pub same_digests : (d : Digests) (s p : Bytes) (e : Digests) (t q : Bytes) → Shown d s p ≡ Shown e t q → d ≡ e
 same_digests d s p e t q h = cc
 
 -- A reading that a session keeps is answered with the last piece.
@@ -115,7 +115,7 @@ module _ {F : Type 0} {g : Story} {seed : Seed} {es : Lines} {seat : PlayerView 
             keeps = rw (long, is_shown) (text_kept digests events shows count);
           }
 
-      pub text_refused : (word : List ℕ) → refusal_word_of found ≡ Some word → answer_taking g seed es text ≡ record { body = word; session = At seed es }
+      pub text_refused : (word : Text) → refusal_word_of found ≡ Some word → answer_taking g seed es text ≡ record { body = word; session = At seed es }
       text_refused word e =
           taken_is ∙ elim found as
           (λ q. PlaysTo g

@@ -1,5 +1,5 @@
 -- A text that is taken, by what becomes of it.
-use Rattle.std.proofs.Common.{◌≡◌, ◌≢◌, inl, inr, ℕ, ◌+◌, ◌<◌, ◌≤◌, List, [], ◌∷◌, ◌++◌, refl, sym, ap, ◌∙◌}
+use Rattle.std.proofs.Common.{◌≡◌, ◌≢◌, inl, inr, ℕ, ◌+◌, ◌<◌, ◌≤◌, [], ◌∷◌, ◌++◌, refl, sym, ap, ◌∙◌}
 use Rattle.std.proofs.Common.{length, Some}
 use Rattle.std.proofs.lemmas.Bool.{le-leb}
 use Rattle.paw_base.specs.Bytes.{Bytes, Lines, Text, Seed}
@@ -63,11 +63,11 @@ module _ {F : Type 0} {g : Story} {seed : Seed} {es : Lines} {seat : PlayerView 
       (then_seated : IsSeated next)
       (plays : PlaysTo g
       (λ lines. going_on_from g p (reverse seat.machine.frames) (run_at seat s.pieces s.traces (text ∷ lines))) found next s.pieces s.traces) where
-    pub refused_answer : (word : List ℕ) → refusal_word_of found ≡ Some word → answer_taking g seed es text ≡ record { body = word; session = At seed es }
+    pub refused_answer : (word : Text) → refusal_word_of found ≡ Some word → answer_taking g seed es text ≡ record { body = word; session = At seed es }
     refused_answer word e = text_refused s p last seated text few found next is then_seated plays word e
 
     -- The piece was committed.
-    pub took : (digests : Digests) (before after : List ℕ) (bytes : Bytes) (events : ℕ) → IsOfStory g digests → IsStanding found → events ≡ length es + 1 →
+    pub took : (digests : Digests) (before after : Text) (bytes : Bytes) (events : ℕ) → IsOfStory g digests → IsStanding found → events ≡ length es + 1 →
         recover bytes ≡ Shown digests (seat_state events next) next.piece → after ≡ before ++ next.piece →
         Answers g (answer_taking g seed es text) before after bytes
     took digests before after bytes events belongs shows count shown grown =

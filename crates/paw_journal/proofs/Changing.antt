@@ -15,7 +15,7 @@ use Rattle.paw_journal.specs.Session.{differing, change_bytes, differences_from}
 use Rattle.paw_journal.specs.inner.Writes.{ChangesInto, ChangesTo}
 use Rattle.paw_journal.specs.Session.{base_length}
 
-pub changes-append : (n : ℕ) (a b : List ℕ) → length a ≡ 4 * n → changes (a ++ b) ≡ changes a ++ changes b
+pub changes-append : (n : ℕ) (a b : Bytes) → length a ≡ 4 * n → changes (a ++ b) ≡ changes a ++ changes b
 changes-append zero [] b e = refl
 changes-append zero (x ∷ a) b e = absurd (omega arith)
 changes-append (suc n) (w ∷ x ∷ y ∷ z ∷ a) b e = ap (λ l. record { at = w + 256 * x; byte = y; last = z } ∷ l) (changes-append n a b (omega arith))
@@ -60,7 +60,7 @@ sound_one c low e =
     first false e = absurd (cc e)
 
 -- One position more.
-differing-append : (a b : List ℕ) (x y : ℕ) → length a ≡ length b → differing (a ++ x ∷ []) (b ++ y ∷ []) ≡ differing a b + (if x == y then 0 else 1)
+differing-append : (a b : Bytes) (x y : ℕ) → length a ≡ length b → differing (a ++ x ∷ []) (b ++ y ∷ []) ≡ differing a b + (if x == y then 0 else 1)
 unfolding differing
 differing-append [] [] x y e = omega arith
 differing-append [] (z ∷ b) x y e = absurd (omega arith)
@@ -68,7 +68,7 @@ differing-append (w ∷ a) [] x y e = absurd (omega arith)
 differing-append (w ∷ a) (z ∷ b) x y e = omega (arith, differing-append a b x y (omega arith))
 
 -- The change records from one offset on, where the bytes there are the same or differ.
-difference_step : (old new : List ℕ) (i : ℕ) → length old ≡ length new → i < length old → (t : Bool) →
+difference_step : (old new : Bytes) (i : ℕ) → length old ≡ length new → i < length old → (t : Bool) →
     (get_or old i 0 == get_or new i 0) ≡ t →
     differences_from i (drop i old) (drop i new)
     ≡ (if t then [] else change_bytes i (get_or new i 0)) ++ differences_from (suc i) (drop (suc i) old) (drop (suc i) new)
@@ -79,7 +79,7 @@ difference_step old new i n low t e =
     ∙ (ap (λ b. differences_from i (get_or old i 0 ∷ drop (suc i) old) b) (drop-cons new i 0 l)
     ∙ ap (λ c. (if c then [] else change_bytes i (get_or new i 0)) ++ differences_from (suc i) (drop (suc i) old) (drop (suc i) new)) e)
 
-pub leads_none : (old new records : List ℕ) → records ≡ [] → ChangesTo old new 0 records
+pub leads_none : (old new records : Bytes) → records ≡ [] → ChangesTo old new 0 records
 unfolding differing
 leads_none old new records e = record {
   exact = ap (λ r. r ++ differences_from 0 old new) e;
@@ -90,7 +90,7 @@ leads_none old new records e = record {
   turned = ap (λ r. with_changes (changes r) old) e;
 }
 
-more : (old new : List ℕ) (i : ℕ) → length old ≡ length new → i < length old →
+more : (old new : Bytes) (i : ℕ) → length old ≡ length new → i < length old →
     differing (take (suc i) old) (take (suc i) new)
     ≡ differing (take i old) (take i new) + (if get_or old i 0 == get_or new i 0 then 0 else 1)
 more old new i n low =
@@ -100,7 +100,7 @@ more old new i n low =
     ∙ differing-append (take i old) (take i new) (get_or old i 0) (get_or new i 0)
     (length-take-le i old (omega arith) ∙ sym (length-take-le i new (omega arith))))
 
-pub leads_same : (old new records : List ℕ) (i : ℕ) → ChangesTo old new i records → length old ≡ length new →
+pub leads_same : (old new records : Bytes) (i : ℕ) → ChangesTo old new i records → length old ≡ length new →
     i < length old → get_or old i 0 ≡ get_or new i 0 → ChangesTo old new (suc i) records
 leads_same old new records i h n low e =
     let l : i < length new = omega arith in
@@ -119,11 +119,11 @@ leads_same old new records i h n low e =
     }
 
 -- A byte of a stretch is a byte of the whole.
-read_at : (xs : List ℕ) (i n k : ℕ) → k < n → get_or (take n (drop i xs)) k 0 ≡ get_or xs (i + k) 0
+read_at : (xs : Bytes) (i n k : ℕ) → k < n → get_or (take n (drop i xs)) k 0 ≡ get_or xs (i + k) 0
 read_at xs i n k low = get_or-take n (drop i xs) k 0 low ∙ get_or-drop i xs k 0
 
 -- Bytes that are the same in both states need no records.
-pub turns_stretch : (old new records : List ℕ) (i n : ℕ) (k : ℕ) → ChangesTo old new i records → length old ≡ length new →
+pub turns_stretch : (old new records : Bytes) (i n : ℕ) (k : ℕ) → ChangesTo old new i records → length old ≡ length new →
     i + n ≤ length old → take n (drop i old) ≡ take n (drop i new) → k ≤ n → ChangesTo old new (i + k) records
 turns_stretch old new records i n zero h l low e le = subst (λ m. ChangesTo old new m records) (omega arith) h
 turns_stretch old new records i n (suc k) h l low e le =
@@ -135,12 +135,12 @@ turns_stretch old new records i n (suc k) h l low e le =
 one_change : (x y z i : ℕ) → x + 256 * y ≡ i → changes (x ∷ y ∷ z ∷ 0 ∷ []) ≡ record { at = i; byte = z; last = 0 } ∷ []
 one_change x y z i e = ap (λ k. record { at = k; byte = z; last = 0 } ∷ []) e
 
-pub leads_other : (old new records now : List ℕ) (i z : ℕ) → ChangesTo old new i records → length old ≡ length new →
+pub leads_other : (old new records now : Bytes) (i z : ℕ) → ChangesTo old new i records → length old ≡ length new →
     i < length old → i < base_length → get_or old i 0 ≢ get_or new i 0 → z ≡ get_or new i 0 →
     now ≡ records ++ change_bytes i z → ChangesTo old new (suc i) now
 leads_other old new records now i z h n low short ne q e =
     let p : i % 256 + 256 * (i / 256) ≡ i = omega arith in
-    let rest : List ℕ = differences_from (suc i) (drop (suc i) old) (drop (suc i) new) in
+    let rest : Bytes = differences_from (suc i) (drop (suc i) old) (drop (suc i) new) in
     let l : i < length new = omega arith in
     let t : (get_or old i 0 == get_or new i 0) ≡ false = grind (arith, nat_tests) in
     let d = more old new i n low ∙ ap (λ b. differing (take i old) (take i new) + (if b then 0 else 1)) t in
@@ -170,7 +170,7 @@ leads_other old new records now i z h n low short ne q e =
           ∙ ap (λ l. l ++ drop (suc i) old) (sym (take-suc new i 0 l))))))));
     }
 
-pub leads_all : (old new records : List ℕ) (n : ℕ) → ChangesTo old new n records → length old ≡ n → length new ≡ n → ChangesInto old new records
+pub leads_all : (old new records : Bytes) (n : ℕ) → ChangesTo old new n records → length old ≡ n → length new ≡ n → ChangesInto old new records
 unfolding differences_from
 leads_all old new records n h e f = record {
   exact = sym (append-nil records) ∙ (ap (λ a. records ++ differences_from n a (drop n new)) (sym (drop_all n old (omega arith))) ∙ h.exact);
@@ -179,5 +179,5 @@ leads_all old new records n h e f = record {
   turned = h.turned ∙ ap (λ l. l ++ drop n old) (take_all n new (omega arith)) ∙ ap (λ l. new ++ l) (drop_all n old (omega arith)) ∙ append-nil new;
 }
 
-pub at_next : (old new records : List ℕ) (i : ℕ) → ChangesTo old new (suc i) records → ChangesTo old new (i + 1) records
+pub at_next : (old new records : Bytes) (i : ℕ) → ChangesTo old new (suc i) records → ChangesTo old new (i + 1) records
 at_next old new records i h = subst (λ k. ChangesTo old new k records) (sym (add-one i)) h

@@ -1,5 +1,5 @@
 -- The selector of a session, and what a crash leaves while it is written.
-use Rattle.std.proofs.Common.{◌≡◌, ◌≢◌, ℕ, ◌+◌, ◌-◌, ◌*◌, ◌%◌, ◌≤◌, ◌<◌, List, [], ◌∷◌, length, ap, ◌∙◌, arith, get_or, refl}
+use Rattle.std.proofs.Common.{◌≡◌, ◌≢◌, ℕ, ◌+◌, ◌-◌, ◌*◌, ◌%◌, ◌≤◌, ◌<◌, [], ◌∷◌, length, ap, ◌∙◌, arith, get_or, refl}
 use Rattle.std.proofs.Common.{◌⊎◌, inl, inr}
 use Rattle.paw_base.specs.Bytes.{Bytes}
 use Rattle.paw_stage.specs.Disk.{Disk, IsStable, disk_written}
@@ -39,7 +39,7 @@ pub either_slot : (b k : ℕ) → k < 2 → (b % 2 ≡ 1 - k) ⊎ (b % 2 ≡ k)
 either_slot b k low = grind arith
 
 -- While the selector is written a crash leaves what one of the slots shows.
-pub choosing : (k : ℕ) (old : List ℕ) (d : Disk) → k < 2 → length old ≡ session_length → IsWithin 1 2 old d →
+pub choosing : (k : ℕ) (old : Bytes) (d : Disk) → k < 2 → length old ≡ session_length → IsWithin 1 2 old d →
     CrashLeavesSuch (IsOldOrNew (recover_by (1 - k) old) (recover_by k old)) d
 choosing k old d low long h image l =
     let n : length image ≡ length old = within_long 1 2 old image d h l in
@@ -65,7 +65,7 @@ in_chosen k s t m low long h w = in_moved_sync 1 2 s t
     (λ d i. choosing k s.disk.bytes d low long i) w
 
 -- The selector is the slot's.
-pub selector_is : (k : ℕ) (old : List ℕ) → k < 2 → length old ≡ session_length → slot_in_use (chosen_session k old) ≡ k
+pub selector_is : (k : ℕ) (old : Bytes) → k < 2 → length old ≡ session_length → slot_in_use (chosen_session k old) ≡ k
 selector_is k old low long = let h : k % 2 ≡ k = grind arith in ap (λ b. b % 2) (put_one 1 k old (omega arith)) ∙ h
 
 -- The selector is written, and made to last.
@@ -77,15 +77,15 @@ in_choice k s m low long h o = elim o [
 ]
 
 -- All but the selector is as it was.
-pub chosen_digests : (k : ℕ) (old : List ℕ) → length old ≡ session_length → kept_digests (chosen_session k old) ≡ kept_digests old
+pub chosen_digests : (k : ℕ) (old : Bytes) → length old ≡ session_length → kept_digests (chosen_session k old) ≡ kept_digests old
 chosen_digests k old long = both_digests _ _ _ _ (stretch_past GAME_AT DIGEST_LENGTH 1 (k ∷ []) old (omega arith) (omega arith))
     (stretch_past ROUTINES_AT DIGEST_LENGTH 1 (k ∷ []) old (omega arith) (omega arith))
 
-pub chosen_slot : (k j : ℕ) (old : List ℕ) → length old ≡ session_length → slot j (chosen_session k old) ≡ slot j old
+pub chosen_slot : (k j : ℕ) (old : Bytes) → length old ≡ session_length → slot j (chosen_session k old) ≡ slot j old
 chosen_slot k j old long = stretch_past (header_length + slot_length * j) slot_length 1 (k ∷ []) old (omega arith) (omega arith)
 
 -- And the session shows what the slot showed.
-pub chosen_shown : (k : ℕ) (old : List ℕ) → k < 2 → length old ≡ session_length → recover (chosen_session k old) ≡ recover_by k old
+pub chosen_shown : (k : ℕ) (old : Bytes) → k < 2 → length old ≡ session_length → recover (chosen_session k old) ≡ recover_by k old
 chosen_shown k old low long =
     recover_is k (chosen_session k old) (selector_is k old low long)
     ∙ selector_hidden k (chosen_session k old) old low (put_long 1 (k ∷ []) old (omega arith)) long (λ i l o. elim o [

@@ -1,5 +1,5 @@
 -- What a commit leaves.
-use Rattle.std.proofs.Common.{◌≡◌, ℕ, ◌+◌, ◌-◌, ◌*◌, ◌≤◌, ◌<◌, List, [], ◌∷◌, length, take, refl, sym, ap, ◌∙◌, subst}
+use Rattle.std.proofs.Common.{◌≡◌, ℕ, ◌+◌, ◌-◌, ◌*◌, ◌≤◌, ◌<◌, [], ◌∷◌, length, take, refl, sym, ap, ◌∙◌, subst}
 use Rattle.std.proofs.Common.{arith}
 use Rattle.std.specs.Prelude.{Option, Some, IsSome}
 use Rattle.paw_base.specs.Bytes.{Bytes}
@@ -36,7 +36,7 @@ keeps_of which.First room bytes h = h.first
 keeps_of which.Second room bytes h = h.second
 
 -- What was drafted in a buffer was drafted in what shows the buffer.
-pub drafts_as : (kept : Option SlotState) (state bytes held : List ℕ) (draft : CommitDraft) → held ≡ bytes →
+pub drafts_as : (kept : Option SlotState) (state bytes held : Bytes) (draft : CommitDraft) → held ≡ bytes →
     Drafts kept state bytes draft → Drafts kept state held draft
 drafts_as kept state bytes held draft e d = subst (λ b. Drafts kept state b draft) (sym e) d
 
@@ -96,7 +96,7 @@ module _ (w : Slot) (draft : CommitDraft) (kept : Option SlotState) (state bytes
 
     pub written_in : slot (slot_number w) t.disk.bytes ≡ written_slot draft bytes piece (slot (slot_number w) s.disk.bytes)
     written_in =
-        let new : List ℕ = written_slot draft bytes piece (slot (slot_number w) s.disk.bytes) in
+        let new : Bytes = written_slot draft bytes piece (slot (slot_number w) s.disk.bytes) in
         ap (λ y. slot (slot_number w) y.bytes) e
         ∙ (ap (λ n. stretch (start_of (slot_number w)) n (put_at (start_of (slot_number w)) new s.disk.bytes)) (sym slot_as)
         ∙ stretch_written (start_of (slot_number w)) new s.disk.bytes (low (slot_number w) (length s.disk.bytes) (slot_small w) spare.made.long))
@@ -106,7 +106,7 @@ module _ (w : Slot) (draft : CommitDraft) (kept : Option SlotState) (state bytes
 
     pub written_long : length t.disk.bytes ≡ session_length
     written_long =
-        let new : List ℕ = written_slot draft bytes piece (slot (slot_number w) s.disk.bytes) in
+        let new : Bytes = written_slot draft bytes piece (slot (slot_number w) s.disk.bytes) in
         ap (λ y. length y.bytes) e
         ∙ (put_long (start_of (slot_number w)) new s.disk.bytes (fits (slot_number w) (length new) (length s.disk.bytes) (slot_small w) slot_as spare.made.long)
         ∙ spare.made.long)
@@ -123,7 +123,7 @@ pub committed_exact : (w used : Slot) (draft : CommitDraft) (kept : Option SlotS
 unfolding session_committed committed_in
 committed_exact w used draft kept state bytes piece s t u d e o c p q =
     let k : ℕ = slot_number w in
-    let old : List ℕ = s.disk.bytes in
+    let old : Bytes = s.disk.bytes in
     let n : slot_number w ≡ 1 - slot_in_use s.disk.bytes = o ∙ ap (λ i. 1 - i) (sym c) in
     ap (λ y. y.bytes) q
     ∙ (ap (λ y. put_at 1 (k ∷ []) y.bytes) p
@@ -131,7 +131,7 @@ committed_exact w used draft kept state bytes piece s t u d e o c p q =
     ∙ ap (λ i. committed_in i state piece old) n))
 
 -- The states of both slots afterwards.
-pub committed_slots : (w : Slot) (x : Option SlotState) (old now : Room) (a b c : List ℕ) → KeepsSlots old a →
+pub committed_slots : (w : Slot) (x : Option SlotState) (old now : Room) (a b c : Bytes) → KeepsSlots old a →
     now.first ≡ (with_slot_kept w x old).first → now.second ≡ (with_slot_kept w x old).second →
     slot (1 - slot_number w) b ≡ slot (1 - slot_number w) a → kept_slot (slot (slot_number w) b) ≡ x →
     ((k : ℕ) → k < 2 → slot k c ≡ slot k b) → KeepsSlots now c

@@ -18,7 +18,7 @@ within_stable lo hi d h = record {
   clean = λ i o. ap (λ r. is_dirty r i) h.dirty;
 }
 
-within_touched : (lo hi at n : ℕ) (old new : List ℕ) (d : Disk) → IsWithin lo hi old d → lo ≤ at → at + n ≤ hi →
+within_touched : (lo hi at n : ℕ) (old new : Bytes) (d : Disk) → IsWithin lo hi old d → lo ≤ at → at + n ≤ hi →
     hi ≤ length old → length new ≤ n → IsWithin lo hi old (disk_written at n new d)
 within_touched lo hi at n old new d h low high long short =
     record {
@@ -42,7 +42,7 @@ within_touched lo hi at n old new d h low high long short =
     not_in at n i ranges (inr l) c = grind (arith, nat_tests)
 
 -- A write inside the stretch.
-pub within_write : (lo hi at n : ℕ) (old : List ℕ) (d m : Disk) → IsWithin lo hi old d → lo ≤ at → at + n ≤ hi →
+pub within_write : (lo hi at n : ℕ) (old : Bytes) (d m : Disk) → IsWithin lo hi old d → lo ≤ at → at + n ≤ hi →
     hi ≤ length old → IsInWrite at n d m → IsWithin lo hi old m
 within_write lo hi at n old d m h low high long (inl e) = subst (λ y. IsWithin lo hi old y) (sym e) h
 within_write lo hi at n old d m h low high long (inr q) = subst (λ y. IsWithin lo hi old y) (sym q.2) (within_touched lo hi at n old q.0 d h low high long q.1)
@@ -65,7 +65,7 @@ stable_leaves d image h m =
     ext_get_or 0 image d.bytes n (λ i low. m.clean i (omega (arith, ap length h.kept)) (ap (λ r. is_dirty r i) h.dirty))
 
 -- A stretch that was written and synced.
-pub put_within : (at n : ℕ) (new old : List ℕ) → length new ≡ n → at + length new ≤ length old → IsWithin at (at + n) old (stable (put_at at new old))
+pub put_within : (at n : ℕ) (new old : Bytes) → length new ≡ n → at + length new ≤ length old → IsWithin at (at + n) old (stable (put_at at new old))
 put_within at n new old l fits =
     let long : length (put_at at new old) ≡ length old = omega (arith, length_put at new old (omega arith)) in
     record {

@@ -1,5 +1,5 @@
 -- The slot that isn't in use, and what a crash leaves while it is written.
-use Rattle.std.proofs.Common.{◌≡◌, ℕ, ◌+◌, ◌-◌, ◌*◌, ◌%◌, ◌≤◌, ◌<◌, List, length, refl, sym, ap, subst, ◌∙◌, arith}
+use Rattle.std.proofs.Common.{◌≡◌, ℕ, ◌+◌, ◌-◌, ◌*◌, ◌%◌, ◌≤◌, ◌<◌, length, refl, sym, ap, subst, ◌∙◌, arith}
 use Rattle.std.proofs.Common.{get_or, ◌⊎◌, inl}
 use Rattle.std.specs.Prelude.{Result, Ok}
 use Rattle.paw_base.specs.Bytes.{Bytes}
@@ -37,7 +37,7 @@ slot_hidden k j image old low e n long same =
     apart i l h = grind arith
 
 -- While the other slot is written a crash leaves what was shown before.
-pub filling : (k : ℕ) (old : List ℕ) (d : Disk) → k < 2 → length old ≡ session_length → slot_in_use old ≡ 1 - k →
+pub filling : (k : ℕ) (old : Bytes) (d : Disk) → k < 2 → length old ≡ session_length → slot_in_use old ≡ 1 - k →
     IsWithin (header_length + slot_length * k) (header_length + slot_length * k + slot_length) old d →
     CrashLeavesSuch (λ r. r ≡ recover old) d
 filling k old d low long other h image l =
@@ -53,7 +53,7 @@ filling_none k s low h made other = record { low = low; made = made; other = oth
 moved : (k : ℕ) (s t : Standing) → IsFilling k s t → IsMoved (header_length + slot_length * k) (header_length + slot_length * k + slot_length) s t
 moved k s t h = record { beside = h.beside; within = h.within }
 
-pub filling_wrote : (k at a : ℕ) (new : List ℕ) (s t u : Standing) → IsFilling k s t →
+pub filling_wrote : (k at a : ℕ) (new : Bytes) (s t u : Standing) → IsFilling k s t →
     at ≡ header_length + slot_length * k + a → a + length new ≤ slot_length →
     u ≡ with_disk t (disk_written at (length new) new t.disk) (length new) → IsFilling k s u
 filling_wrote k at a new s t u h e fits w =
@@ -76,7 +76,7 @@ in_filling_sync k s t m h w = in_moved_sync _ _ s t (λ r. r ≡ recover s.disk.
     (λ d i. filling k s.disk.bytes d h.low h.made.long h.other i) w
 
 -- Something is written to such a slot, and then more.
-pub parts_then : {S A B : Type 0} {g : Ghosts S} {x : A} {result : Result B StageCall} {which : Slot} {one two : List ℕ → List ℕ}
+pub parts_then : {S A B : Type 0} {g : Ghosts S} {x : A} {result : Result B StageCall} {which : Slot} {one two : Bytes → Bytes}
     {old mid new : S} → WritesStore g (Ok x) (FillsPart which one) (LeavesFirst (slot_number which)) old mid →
     WritesStore g result (FillsPart which two) (LeavesFirst (slot_number which)) mid new →
     WritesStore g result (FillsPart which (λ b. two (one b))) (LeavesFirst (slot_number which)) old new
@@ -86,7 +86,7 @@ parts_then {two = two} h k =
     (λ tells m i. i) (λ tells p b m i first f. i first (p.filling first f))
 
 -- The bytes of the slot itself.
-pub wrote_slot : (k at a : ℕ) (new : List ℕ) (t u : Standing) → k < 2 → length t.disk.bytes ≡ session_length →
+pub wrote_slot : (k at a : ℕ) (new : Bytes) (t u : Standing) → k < 2 → length t.disk.bytes ≡ session_length →
     at ≡ header_length + slot_length * k + a → a + length new ≤ slot_length →
     u ≡ with_disk t (disk_written at (length new) new t.disk) (length new) →
     slot k u.disk.bytes ≡ put_at a new (slot k t.disk.bytes)
@@ -105,7 +105,7 @@ wrote_nothing k at new bytes low long none fits = put_nothing at new (slot k byt
 -- ---- what stands once it is written ----
 
 -- The slot alone was written.
-pub filled_bytes : (k : ℕ) (new : List ℕ) (s t : Standing) → IsFilling k s t → length new ≡ slot_length →
+pub filled_bytes : (k : ℕ) (new : Bytes) (s t : Standing) → IsFilling k s t → length new ≡ slot_length →
     slot k t.disk.bytes ≡ new → t.disk.bytes ≡ put_at (start_of k) new s.disk.bytes
 filled_bytes k new s t h l e =
     put_between (start_of k) slot_length new s.disk.bytes t.disk.bytes l (fits k (length s.disk.bytes) h.low h.made.long)
@@ -114,13 +114,13 @@ filled_bytes k new s t h l e =
     fits : (k n : ℕ) → k < 2 → n ≡ session_length → header_length + slot_length * k + slot_length ≤ n
     fits k n low long = omega arith
 
-pub filled_stable : (k : ℕ) (new : List ℕ) (s t u : Standing) → IsFilling k s t → length new ≡ slot_length →
+pub filled_stable : (k : ℕ) (new : Bytes) (s t u : Standing) → IsFilling k s t → length new ≡ slot_length →
     slot k t.disk.bytes ≡ new → u ≡ record t { disk = stable t.disk.bytes } →
     u.disk ≡ stable (put_at (start_of k) new s.disk.bytes)
 filled_stable k new s t u h l e q = ap (λ x. x.disk) q ∙ ap stable (filled_bytes k new s t h l e)
 
 -- And so the session is being filled, where nothing is unsynced.
-pub filling_put : (k : ℕ) (new : List ℕ) (s t : Standing) → k < 2 → IsSpare k s.disk.bytes → ChangesStoreOnly s t →
+pub filling_put : (k : ℕ) (new : Bytes) (s t : Standing) → k < 2 → IsSpare k s.disk.bytes → ChangesStoreOnly s t →
     length new ≡ slot_length → t.disk ≡ stable (put_at (start_of k) new s.disk.bytes) → IsFilling k s t
 filling_put k new s t low spare beside l e =
     let fits : start_of k + length new ≤ length s.disk.bytes = room k (length new) (length s.disk.bytes) low l spare.made.long in

@@ -1,5 +1,5 @@
 -- What the first bytes of a store say of it.
-use Rattle.std.proofs.Common.{◌≡◌, ◌≢◌, ℕ, ◌%◌, ◌<◌, true, false, List, [], length, take, refl, sym, ap, ◌∙◌, arith}
+use Rattle.std.proofs.Common.{◌≡◌, ◌≢◌, ℕ, ◌%◌, ◌<◌, true, false, [], length, take, refl, sym, ap, ◌∙◌, arith}
 use Rattle.std.proofs.Common.{get_or, inl, inr}
 use Rattle.std.proofs.lemmas.List.{get_or-take, nil_from_length}
 use Rattle.paw_base.specs.Bytes.{Bytes}
@@ -16,7 +16,7 @@ use Rattle.paw_journal.proofs.Recovers.{unmade_is, both_digests}
 first_byte : (n i : ℕ) (bytes whole : Bytes) → i < n → bytes ≡ take n whole → get_or bytes i 0 ≡ get_or whole i 0
 first_byte n i bytes whole low e = ap (λ l. get_or l i 0) e ∙ get_or-take n whole i 0 low
 
-pub no_bytes : (whole : List ℕ) (size : ℕ) → size ≡ length whole → size ≡ 0 → recover whole ≡ Unmade 0 0
+pub no_bytes : (whole : Bytes) (size : ℕ) → size ≡ length whole → size ≡ 0 → recover whole ≡ Unmade 0 0
 no_bytes whole size e z = let n : whole ≡ [] = nil_from_length whole (sym e ∙ z) in ap recover n ∙ unmade_is [] (inl (λ q. omega arith))
 
 pub other_length : (size : ℕ) (bytes whole : Bytes) → size ≡ length whole → size ≢ session_length →
@@ -40,7 +40,7 @@ other_version bytes whole n b m ne =
     let v : is_version (version whole) ≡ false = ap is_version (sym (first_byte header_length 2 bytes whole (omega arith) b)) ∙ ne in
     rw (n, k, v) refl
 
-pub introduces : (slot : ℕ) (game routines bytes whole : List ℕ) → length whole ≡ session_length →
+pub introduces : (slot : ℕ) (game routines bytes whole : Bytes) → length whole ≡ session_length →
     bytes ≡ take header_length whole → get_or bytes 0 0 ≡ made_mark → is_version (get_or bytes 2 0) ≡ true →
     slot ≡ get_or bytes 1 0 % 2 → game ≡ stretch GAME_AT DIGEST_LENGTH bytes → routines ≡ stretch ROUTINES_AT DIGEST_LENGTH bytes →
     Introduces slot (digests_of game routines) whole

@@ -1,5 +1,5 @@
 -- What a slot holds, and what it holds once a commit has written it.
-use Rattle.std.proofs.Common.{◌≡◌, ℕ, ◌+◌, ◌-◌, ◌*◌, ◌/◌, ◌%◌, ◌≤◌, ◌<◌, Bool, true, false, List, ◌++◌, length, take}
+use Rattle.std.proofs.Common.{◌≡◌, ℕ, ◌+◌, ◌-◌, ◌*◌, ◌/◌, ◌%◌, ◌≤◌, ◌<◌, Bool, true, false, ◌++◌, length, take}
 use Rattle.std.proofs.Common.{refl, sym, ap, subst, ◌∙◌, arith}
 use Rattle.std.specs.Prelude.{◌==◌, Option, Some, None, if◌then◌else◌, is_none, nat_le, ◌&&◌}
 use Rattle.std.proofs.lemmas.Bool.Decides.{nat_tests}
@@ -155,7 +155,7 @@ module _ (records at : ℕ) (bytes piece old : Bytes) (long : length old ≡ slo
   two : length (put_at PIECE_AT piece (put_at at bytes old)) ≡ slot_length
   two = put_long PIECE_AT piece (put_at at bytes old) (omega (arith, one)) ∙ one
 
-  now : List ℕ
+  now : Bytes
   now = put_at 0 (slot_head records) (put_at PIECE_AT piece (put_at at bytes old))
 
   pub written_number : two_byte_number 0 (put_at 0 (slot_head records) (put_at PIECE_AT piece (put_at at bytes old))) ≡ records
@@ -193,7 +193,7 @@ whole_gives state piece old n long short = record {
 }
 
 -- Change records are added after those that are there.
-behind_gives : (n c : ℕ) (was state records piece old : List ℕ) → IsKept old n was → ChangesInto was state records →
+behind_gives : (n c : ℕ) (was state records piece old : Bytes) → IsKept old n was → ChangesInto was state records →
     length records ≡ 4 * c → n + c ≤ most_changes → length old ≡ slot_length → length piece ≤ PIECE_LIMIT →
     IsKept (put_at 0 (slot_head (n + c)) (put_at PIECE_AT piece (put_at (CHANGES_AT + 4 * n) records old))) (n + c) state
 behind_gives n c was state records piece old h t l few long short =
@@ -234,7 +234,7 @@ takes_none true false c x e = refl
 takes_none false b c x e = refl
 
 -- It adds change records where there is room for them.
-takes_as : (n : ℕ) (was state old : List ℕ) → kept_slot old ≡ Some (record { records = n; state = was }) →
+takes_as : (n : ℕ) (was state old : Bytes) → kept_slot old ≡ Some (record { records = n; state = was }) →
     takes_changes state old ≡ nat_le (n + differing was state) most_changes
 takes_as n was state old is =
     let k = kept_some (is_current old) (has_state old) (record { records = two_byte_number 0 old; state = slot_state old }) n was is in
@@ -251,7 +251,7 @@ exact_base state bytes piece old e t =
     ∙ sym (ap (λ b. if b then slot_rewritten (CHANGES_AT + 4 * two_byte_number 0 old) (differences (slot_state old) state) (records_with state old) piece old
     else slot_rewritten BASE_AT state 0 piece old) t)
 
-exact_behind : (n c : ℕ) (was state bytes piece old : List ℕ) → bytes ≡ differences was state → differing was state ≡ c →
+exact_behind : (n c : ℕ) (was state bytes piece old : Bytes) → bytes ≡ differences was state → differing was state ≡ c →
     n + c ≤ most_changes → kept_slot old ≡ Some (record { records = n; state = was }) →
     slot_rewritten (CHANGES_AT + 4 * n) bytes (n + c) piece old ≡ committed_slot state piece old
 unfolding committed_slot
@@ -271,7 +271,7 @@ exact_behind n c was state bytes piece old e d few is =
 -- What a commit writes.
 pub drafts_whole : (kept : Option SlotState) (state bytes : Bytes) → bytes ≡ state → length state ≡ base_length →
     ((piece : Text) → 4224 + length piece ≤ most_written kept state piece) →
-    ((old : List ℕ) → kept_slot old ≡ kept → takes_changes state old ≡ false) →
+    ((old : Bytes) → kept_slot old ≡ kept → takes_changes state old ≡ false) →
     Drafts kept state bytes (record { at = BASE_AT; records = 0 })
 drafts_whole kept state bytes e n most takes = record {
   inside = omega (arith, ap length e);
@@ -281,7 +281,7 @@ drafts_whole kept state bytes e n most takes = record {
   few = λ piece. omega (arith, most piece, ap length e);
 }
 
-pub drafts_behind : (n c : ℕ) (was state bytes : List ℕ) → ChangesInto was state bytes → length bytes ≡ 4 * c →
+pub drafts_behind : (n c : ℕ) (was state bytes : Bytes) → ChangesInto was state bytes → length bytes ≡ 4 * c →
     n + c ≤ most_changes →
     Drafts (Some (record { records = n; state = was })) state bytes (record { at = CHANGES_AT + 4 * n; records = n + c })
 drafts_behind n c was state bytes t l few = record {

@@ -53,15 +53,15 @@ pub in_first_byte : (x : ℕ) (s m : Standing) → s.disk.longest ≤ 1 → InWr
 in_first_byte x s m h o = elim o [ inl w ↦ in_beginning s m h w | inr w ↦ in_begun x 1 s _ m h refl w ]
 
 -- Where byte 0 is stable and 0, no crash leaves a session.
-pub blank_leaves : (held : List ℕ) (d : Disk) → IsBlank held d → CrashLeavesSuch IsUnmade d
+pub blank_leaves : (held : Bytes) (d : Disk) → IsBlank held d → CrashLeavesSuch IsUnmade d
 blank_leaves held d h image l =
     let z : session_mark image ≡ 0 = l.clean 0 (omega (arith, h.long)) h.clean ∙ h.blank in
     unmade image (inr (λ q. omega arith))
 
-pub blank_now : (held : List ℕ) (d : Disk) → IsBlank held d → IsBlank d.bytes d
+pub blank_now : (held : Bytes) (d : Disk) → IsBlank held d → IsBlank d.bytes d
 blank_now held d h = record { bytes = refl; long = h.long; blank = h.blank; clean = h.clean }
 
-blank_touched : (at n : ℕ) (new : List ℕ) (d : Disk) → IsBlank d.bytes d → 1 ≤ at → at ≤ length d.bytes →
+blank_touched : (at n : ℕ) (new : Bytes) (d : Disk) → IsBlank d.bytes d → 1 ≤ at → at ≤ length d.bytes →
     IsBlank (put_at at new d.bytes) (disk_written at n new d)
 blank_touched at n new d h low high = record {
   bytes = refl;
@@ -87,7 +87,7 @@ pub in_blank_sync : (s t : Standing) (m : Standing) → ChangesStoreOnly s t →
 in_blank_sync s t m b h w =
     in_later s t (CrashLeavesSuch IsUnmade) (CrashLeavesSuch IsUnmade) m b (λ d p. p) (in_sync t IsUnmade m (blank_leaves t.disk.bytes t.disk h) w)
 
-pub blank_wrote : (at : ℕ) (new : List ℕ) (s t : Standing) (n c : ℕ) → IsBlank s.disk.bytes s.disk → 1 ≤ at →
+pub blank_wrote : (at : ℕ) (new : Bytes) (s t : Standing) (n c : ℕ) → IsBlank s.disk.bytes s.disk → 1 ≤ at →
     at ≤ length s.disk.bytes → t ≡ with_disk s (disk_written at n new s.disk) c → IsBlank (put_at at new s.disk.bytes) t.disk
 blank_wrote at new s t n c h low high e =
     subst (λ d. IsBlank (put_at at new s.disk.bytes) d) (sym (ap (λ x. x.disk) e)) (blank_touched at n new s.disk h low high)
@@ -104,7 +104,7 @@ pub length_header : (first : ℕ) (digests : Digests) → AreLong digests → le
 length_header first digests n = header (first ∷ 0 ∷ VERSION ∷ zeros 29) digests.game digests.routines (zeros 32)
     (omega (arith, length_zeros 29)) n.0 n.1 (length_zeros 32)
   where
-    header : (head game routines behind : List ℕ) → length head ≡ GAME_AT → length game ≡ DIGEST_LENGTH →
+    header : (head game routines behind : Bytes) → length head ≡ GAME_AT → length game ≡ DIGEST_LENGTH →
         length routines ≡ DIGEST_LENGTH → length behind ≡ 32 → length (head ++ game ++ routines ++ behind) ≡ HEADER_LENGTH
     header head game routines behind h n m b = omega (
       arith,
@@ -114,19 +114,19 @@ length_header first digests n = header (first ∷ 0 ∷ VERSION ∷ zeros 29) di
     )
 
 -- Bytes written over as many others.
-put_over : (at : ℕ) (a b c new : List ℕ) → length a ≡ at → length new ≡ length b → put_at at new (a ++ b ++ c) ≡ a ++ new ++ c
+put_over : (at : ℕ) (a b c new : Bytes) → length a ≡ at → length new ≡ length b → put_at at new (a ++ b ++ c) ≡ a ++ new ++ c
 put_over at a b c new n m =
     ap (λ x. x ++ new ++ drop (at + length new) (a ++ b ++ c)) (ap (take at) (append_assoc a b c) ∙ take_at a (b ++ c) at n)
     ∙ ap (λ x. a ++ new ++ x) (drop_at (a ++ b) c (at + length new) (omega (arith, length-append a b)))
 
 -- The digests written into a header that has none.
-pub header_is : (game routines : List ℕ) → length game ≡ DIGEST_LENGTH → length routines ≡ DIGEST_LENGTH →
+pub header_is : (game routines : Bytes) → length game ≡ DIGEST_LENGTH → length routines ≡ DIGEST_LENGTH →
     put_at ROUTINES_AT routines (put_at GAME_AT game (0 ∷ 0 ∷ VERSION ∷ replicate 125 0)) ≡ made_header 0 (digests_of game routines)
 unfolding zeros
 header_is game routines n m =
     over (0 ∷ 0 ∷ VERSION ∷ replicate 29 0) (replicate DIGEST_LENGTH 0) (replicate DIGEST_LENGTH 0) (replicate 32 0) refl refl n m
   where
-    over : (head one two behind : List ℕ) → length head ≡ GAME_AT → length one ≡ DIGEST_LENGTH → length game ≡ DIGEST_LENGTH →
+    over : (head one two behind : Bytes) → length head ≡ GAME_AT → length one ≡ DIGEST_LENGTH → length game ≡ DIGEST_LENGTH →
         length routines ≡ length two →
         put_at ROUTINES_AT routines (put_at GAME_AT game (head ++ one ++ two ++ behind)) ≡ head ++ game ++ routines ++ behind
     over head one two behind h o n m =
@@ -136,7 +136,7 @@ header_is game routines n m =
         ∙ put_over ROUTINES_AT (head ++ game) two behind routines (omega (arith, length-append head game)) m))
 
 -- The header without its first byte is written after that byte.
-pub header_written : (digests : Digests) (header old : List ℕ) → AreLong digests → header ≡ made_header 0 digests →
+pub header_written : (digests : Digests) (header old : Bytes) → AreLong digests → header ≡ made_header 0 digests →
     old ≡ 0 ∷ [] → put_at 1 (take (HEADER_LENGTH - 1) (drop 1 header)) old ≡ made_header 0 digests
 header_written digests header old n e o =
     let l : length (drop 1 (made_header 0 digests)) ≤ HEADER_LENGTH - 1 =
@@ -147,7 +147,7 @@ header_written digests header old n e o =
     ∙ ap (λ x. 0 ∷ x) (take_all (HEADER_LENGTH - 1) (drop 1 (made_header 0 digests)) l)))
 
 -- While the mark is written a crash leaves no session, or the one that is marked.
-pub marking : (old : List ℕ) (d : Disk) → length old ≡ session_length → IsWithin 0 1 old d →
+pub marking : (old : Bytes) (d : Disk) → length old ≡ session_length → IsWithin 0 1 old d →
     CrashLeavesSuch (λ r. IsUnmade r ⊎ (r ≡ recover (made_mark ∷ drop 1 old))) d
 marking old d long h image l =
     elim (cases_eq (session_mark image) made_mark) [
@@ -216,7 +216,7 @@ appends {g = g} at bytes {old = old} {new = new} call low blank end =
     (λ tells m. in_blank_write at (length bytes) (g.standing old) (g.standing old) m (beside_none (g.standing old)) (blank tells) low
     (omega (arith, end tells)))
   where
-    blank_end : (at : ℕ) (new : List ℕ) (s t : Standing) (n c : ℕ) → IsBlank s.disk.bytes s.disk → 1 ≤ at →
+    blank_end : (at : ℕ) (new : Bytes) (s t : Standing) (n c : ℕ) → IsBlank s.disk.bytes s.disk → 1 ≤ at →
         at ≡ length s.disk.bytes → t ≡ with_disk s (disk_written at n new s.disk) c → IsBlank (s.disk.bytes ++ new) t.disk
     blank_end at new s t n c h low e w =
         subst (λ l. IsBlank l t.disk) (put_end at new s.disk.bytes (sym e)) (blank_wrote at new s t n c h low (omega (arith, e)) w)

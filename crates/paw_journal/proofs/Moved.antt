@@ -1,6 +1,7 @@
 -- Calls that move a stretch of the attached store alone.
-use Rattle.std.proofs.Common.{◌≡◌, ℕ, ◌+◌, ◌≤◌, List, length, inl, inr, refl, sym, ap, subst, ◌∙◌}
+use Rattle.std.proofs.Common.{◌≡◌, ℕ, ◌+◌, ◌≤◌, length, inl, inr, refl, sym, ap, subst, ◌∙◌}
 use Rattle.std.specs.Prelude.{Option, Some}
+use Rattle.paw_base.specs.Bytes.{Name, Bytes}
 use Rattle.paw_stage.specs.Disk.{Disk, MayLeave, IsInWrite, IsStable, disk_written, put_at, stable}
 use Rattle.paw_stage.specs.Stage.{Standing, Files, InWrite, InSync, store_holding, with_disk, with_written, with_store_synced}
 use Rattle.paw_stage.proofs.Names.{held_other, holds_same}
@@ -9,7 +10,7 @@ use Rattle.paw_journal.specs.inner.Writes.{IsWithin}
 use Rattle.paw_journal.specs.inner.Store.{ChangesStoreOnly, InStore, CrashLeavesSuch}
 use Rattle.paw_journal.proofs.Disks.{within_stable, within_write}
 
-held_same : (attached : Option (List ℕ)) (n bytes : List ℕ) (files : Files) → attached ≡ Some n → store_holding attached bytes files n ≡ Some bytes
+held_same : (attached : Option Name) (n bytes : Bytes) (files : Files) → attached ≡ Some n → store_holding attached bytes files n ≡ Some bytes
 held_same attached n bytes files e = ap (λ a. store_holding a bytes files n) e ∙ holds_same n (Some bytes) files
 
 pub beside_none : (s : Standing) → ChangesStoreOnly s s
@@ -34,7 +35,7 @@ beside_sync s t e = subst (λ x. ChangesStoreOnly s x) (sym e)
     (record { lines = refl; asked = refl; shown = refl; attached = refl; files = λ n ne. refl; file = λ n a h. h })
 
 -- What was written and synced lasts.
-pub written_synced : (at : ℕ) (new : List ℕ) (s t u : Standing) → t ≡ with_written at new s → u ≡ with_store_synced t →
+pub written_synced : (at : ℕ) (new : Bytes) (s t u : Standing) → t ≡ with_written at new s → u ≡ with_store_synced t →
     u.disk ≡ stable (put_at at new s.disk.bytes)
 written_synced at new s t u w q = ap (λ x. x.disk) q ∙ ap (λ x. stable x.disk.bytes) w
 
@@ -91,7 +92,7 @@ pub record IsMoved (lo hi : ℕ) (s t : Standing) : Type 0 where
 pub moved_none : (lo hi : ℕ) (s : Standing) → IsStable s.disk → IsMoved lo hi s s
 moved_none lo hi s h = record { beside = beside_none s; within = within_stable lo hi s.disk h }
 
-pub moved_wrote : (lo hi at n c : ℕ) (new : List ℕ) (s t u : Standing) → IsMoved lo hi s t → lo ≤ at → at + n ≤ hi →
+pub moved_wrote : (lo hi at n c : ℕ) (new : Bytes) (s t u : Standing) → IsMoved lo hi s t → lo ≤ at → at + n ≤ hi →
     hi ≤ length s.disk.bytes → length new ≤ n → u ≡ with_disk t (disk_written at n new t.disk) c → IsMoved lo hi s u
 moved_wrote lo hi at n c new s t u h low high long short e =
     record {

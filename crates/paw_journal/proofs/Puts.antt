@@ -1,5 +1,5 @@
 -- Stretches of bytes that were written to.
-use Rattle.std.proofs.Common.{◌≡◌, ℕ, ◌+◌, ◌-◌, ◌≤◌, ◌<◌, List, ◌++◌, length, take, drop, sym, ap, ◌∙◌, arith, get_or}
+use Rattle.std.proofs.Common.{◌≡◌, ℕ, ◌+◌, ◌-◌, ◌≤◌, ◌<◌, ◌++◌, length, take, drop, sym, ap, ◌∙◌, arith, get_or}
 use Rattle.std.proofs.Common.{inl, inr, ◌⊎◌}
 use Rattle.std.proofs.lemmas.List.{get_or-drop, get_or_append_left, ext_get_or, take_at, drop-drop}
 use Rattle.std.proofs.Math.Seq.{take-add}
@@ -15,28 +15,28 @@ use Rattle.paw_journal.proofs.Parts.{drop_put}
 pub stretch_long : (at n : ℕ) (bytes : Bytes) → at + n ≤ length bytes → length (stretch at n bytes) ≡ n
 stretch_long at n bytes low = omega (arith, length_stretch at n bytes)
 
-pub put_long : (at : ℕ) (new old : List ℕ) → at + length new ≤ length old → length (put_at at new old) ≡ length old
+pub put_long : (at : ℕ) (new old : Bytes) → at + length new ≤ length old → length (put_at at new old) ≡ length old
 put_long at new old low = omega (arith, length_put at new old (omega arith))
 
 -- A write leaves the stretches above it and below it.
-pub stretch_past : (s n at : ℕ) (new old : List ℕ) → at + length new ≤ s → at + length new ≤ length old → stretch s n (put_at at new old) ≡ stretch s n old
+pub stretch_past : (s n at : ℕ) (new old : Bytes) → at + length new ≤ s → at + length new ≤ length old → stretch s n (put_at at new old) ≡ stretch s n old
 stretch_past s n at new old low long = stretch_same s n (put_at at new old) old (put_long at new old long)
     (λ i l h. put_above at new old i (omega arith) (omega arith))
 
-pub stretch_before : (s n at : ℕ) (new old : List ℕ) → s + n ≤ at → at + length new ≤ length old → stretch s n (put_at at new old) ≡ stretch s n old
+pub stretch_before : (s n at : ℕ) (new old : Bytes) → s + n ≤ at → at + length new ≤ length old → stretch s n (put_at at new old) ≡ stretch s n old
 stretch_before s n at new old low long =
     stretch_same s n (put_at at new old) old (put_long at new old long)
     (λ i l h. put_below at new old i (omega arith) (omega arith))
 
 -- And what was written stands there.
-pub stretch_written : (at : ℕ) (new old : List ℕ) → at ≤ length old → stretch at (length new) (put_at at new old) ≡ new
+pub stretch_written : (at : ℕ) (new old : Bytes) → at ≤ length old → stretch at (length new) (put_at at new old) ≡ new
 stretch_written at new old low = ap (take (length new)) (drop_put at new old low) ∙ take_at new (drop (at + length new) old) (length new) refl_length
   where
     refl_length : length new ≡ length new
     refl_length = omega arith
 
 -- Bytes that are written at an offset stand after what stood before it.
-pub stretch_behind : (s m at : ℕ) (new old : List ℕ) → at ≡ s + m → at + length new ≤ length old →
+pub stretch_behind : (s m at : ℕ) (new old : Bytes) → at ≡ s + m → at + length new ≤ length old →
     stretch s (m + length new) (put_at at new old) ≡ stretch s m old ++ new
 stretch_behind s m at new old e long =
     take-add m (length new) (drop s (put_at at new old))
@@ -44,13 +44,13 @@ stretch_behind s m at new old e long =
     ∙ ap (λ l. stretch s m old ++ l) (ap (take (length new)) (drop-drop m s (put_at at new old))
     ∙ (ap (λ k. take (length new) (drop k (put_at at new old))) (sym e) ∙ stretch_written at new old (omega arith))))
 
-pub put_inside : (at : ℕ) (new old : List ℕ) (j : ℕ) → at ≤ length old → j < length new → get_or (put_at at new old) (at + j) 0 ≡ get_or new j 0
+pub put_inside : (at : ℕ) (new old : Bytes) (j : ℕ) → at ≤ length old → j < length new → get_or (put_at at new old) (at + j) 0 ≡ get_or new j 0
 put_inside at new old j low h =
     sym (get_or-drop at (put_at at new old) j 0)
     ∙ (ap (λ l. get_or l j 0) (drop_put at new old low) ∙ get_or_append_left new (drop (at + length new) old) 0 j h)
 
 -- A write inside a stretch.
-pub stretch_put : (s n a : ℕ) (new whole : List ℕ) → a + length new ≤ n → s + n ≤ length whole →
+pub stretch_put : (s n a : ℕ) (new whole : Bytes) → a + length new ≤ n → s + n ≤ length whole →
     stretch s n (put_at (s + a) new whole) ≡ put_at a new (stretch s n whole)
 stretch_put s n a new whole fits long =
     let l : length (stretch s n whole) ≡ n = stretch_long s n whole long in
@@ -63,7 +63,7 @@ stretch_put s n a new whole fits long =
     order : (i a l : ℕ) → (i < a) ⊎ ((a + l ≤ i) ⊎ ((a ≤ i) × (i < a + l)))
     order i a l = grind arith
 
-    each : (s n a : ℕ) (new whole : List ℕ) (i : ℕ) → a + length new ≤ n → s + n ≤ length whole →
+    each : (s n a : ℕ) (new whole : Bytes) (i : ℕ) → a + length new ≤ n → s + n ≤ length whole →
         length (stretch s n whole) ≡ n → i < n →
         get_or (put_at (s + a) new whole) (s + i) 0 ≡ get_or (put_at a new (stretch s n whole)) i 0
     each s n a new whole i fits long l m = elim (order i a (length new)) [
@@ -80,13 +80,13 @@ stretch_put s n a new whole fits long =
     ]
 
 -- A write of no bytes.
-pub put_nothing : (at : ℕ) (new old : List ℕ) → length new ≡ 0 → at ≤ length old → old ≡ put_at at new old
+pub put_nothing : (at : ℕ) (new old : Bytes) → length new ≡ 0 → at ≤ length old → old ≡ put_at at new old
 put_nothing at new old none low = ext_get_or 0 old (put_at at new old) (sym (put_long at new old (omega arith))) (λ i l. sym (each at new old i none low))
   where
     order : (i a : ℕ) → (i < a) ⊎ (a ≤ i)
     order i a = grind arith
 
-    each : (at : ℕ) (new old : List ℕ) (i : ℕ) → length new ≡ 0 → at ≤ length old → get_or (put_at at new old) i 0 ≡ get_or old i 0
+    each : (at : ℕ) (new old : Bytes) (i : ℕ) → length new ≡ 0 → at ≤ length old → get_or (put_at at new old) i 0 ≡ get_or old i 0
     each at new old i none low = elim (order i at) [ inl h ↦ put_below at new old i low h | inr h ↦ put_above at new old i low (omega arith) ]
 
 -- A slot that was written is as long as it was.
@@ -100,7 +100,7 @@ rewritten_long at records new piece bytes fits short long =
     put_long 0 (slot_head records) (put_at PIECE_AT piece (put_at at new bytes)) (omega (arith, two)) ∙ two
 
 -- Bytes of which only a stretch isn't as it was were written there.
-pub put_between : (at n : ℕ) (new old now : List ℕ) → length new ≡ n → at + n ≤ length old → length now ≡ length old →
+pub put_between : (at n : ℕ) (new old now : Bytes) → length new ≡ n → at + n ≤ length old → length now ≡ length old →
     ((i : ℕ) → (i < at) ⊎ (at + n ≤ i) → get_or now i 0 ≡ get_or old i 0) → stretch at n now ≡ new → now ≡ put_at at new old
 put_between at n new old now l fits long same e =
     ext_get_or 0 now (put_at at new old) (long ∙ sym (put_long at new old (omega arith))) (λ i low. each i (order i))

@@ -40,7 +40,7 @@ length_slot state piece n few =
     slots (0 ∷ 0 ∷ VERSION ∷ zeros 61) state piece (zeros (slot_length - PIECE_AT - length piece)) length_head n few
     (length_zeros (slot_length - PIECE_AT - length piece))
   where
-    slots : (head state piece behind : List ℕ) → length head ≡ BASE_AT → length state ≡ base_length
+    slots : (head state piece behind : Bytes) → length head ≡ BASE_AT → length state ≡ base_length
         → length piece ≤ PIECE_LIMIT →
         length behind ≡ slot_length - PIECE_AT - length piece → length (head ++ state ++ piece ++ behind) ≡ slot_length
     slots head state piece behind h n few b =
@@ -73,7 +73,7 @@ made_piece state piece n =
     ∙ (ap (take (length piece)) (drop_at (0 ∷ 0 ∷ VERSION ∷ zeros 61 ++ state) _ PIECE_AT
     (head (0 ∷ 0 ∷ VERSION ∷ zeros 61) state length_head n)) ∙ take_at piece _ (length piece) refl)
   where
-    head : (z state : List ℕ) → length z ≡ BASE_AT → length state ≡ base_length → length (z ++ state) ≡ PIECE_AT
+    head : (z state : Bytes) → length z ≡ BASE_AT → length state ≡ base_length → length (z ++ state) ≡ PIECE_AT
     head z state h n = omega (arith, length-append z state)
 
 -- A slot that is made has its state, and shows it with its piece.
@@ -88,21 +88,21 @@ made_slot_shows digests state piece n names =
     ∙ ap (Shown digests (take state_length state)) (ap (λ k. stretch PIECE_AT k (made_slot state piece)) names
     ∙ made_piece state piece n)
 
-made_slot_zero : (digests : Digests) (slots behind : List ℕ) → AreLong digests → length slots ≡ slot_length →
+made_slot_zero : (digests : Digests) (slots behind : Bytes) → AreLong digests → length slots ≡ slot_length →
     slot 0 (made_header made_mark digests ++ slots ++ behind) ≡ slots
 made_slot_zero digests slots behind n l =
     ap (λ x. take slot_length (drop header_length x)) (append_assoc (made_header made_mark digests) slots behind)
     ∙ (ap (take slot_length) (drop_at (made_header made_mark digests) (slots ++ behind) header_length
     (length_header made_mark digests n)) ∙ take_at slots behind slot_length l)
 
-made_slot_one : (digests : Digests) (first slots : List ℕ) → AreLong digests → length first ≡ slot_length →
+made_slot_one : (digests : Digests) (first slots : Bytes) → AreLong digests → length first ≡ slot_length →
     length slots ≡ slot_length → slot 1 (made_header made_mark digests ++ first ++ slots) ≡ slots
 made_slot_one digests first slots n l m =
     ap (take slot_length) (drop_at (made_header made_mark digests ++ first) slots (header_length + slot_length)
     (omega (arith, length-append (made_header made_mark digests) first, length_header made_mark digests n)))
     ∙ take_all slot_length slots (omega arith)
 
-made_digests : (digests : Digests) (slots behind : List ℕ) → AreLong digests → kept_digests (made_header made_mark digests ++ slots ++ behind) ≡ digests
+made_digests : (digests : Digests) (slots behind : Bytes) → AreLong digests → kept_digests (made_header made_mark digests ++ slots ++ behind) ≡ digests
 made_digests digests slots behind n =
     both_digests _ _ _ _
     (of_game (made_mark ∷ 0 ∷ VERSION ∷ zeros 29) digests.game digests.routines (zeros 32) slots behind head n.0)
@@ -114,7 +114,7 @@ made_digests digests slots behind n =
     regroup : (a b c d e : List ℕ) → a ++ b ++ c ++ d ++ e ≡ a ++ (b ++ (c ++ (d ++ e)))
     regroup a b c d e = simp append_assoc
 
-    of_game : (h g r z s t : List ℕ) → length h ≡ GAME_AT → length g ≡ DIGEST_LENGTH →
+    of_game : (h g r z s t : Bytes) → length h ≡ GAME_AT → length g ≡ DIGEST_LENGTH →
         stretch GAME_AT DIGEST_LENGTH (h ++ g ++ r ++ z ++ s ++ t) ≡ g
     of_game h g r z s t k l =
         ap (λ x. take DIGEST_LENGTH (drop GAME_AT (x ++ t))) (regroup h g r z s)
@@ -122,13 +122,13 @@ made_digests digests slots behind n =
         ∙ (ap (take DIGEST_LENGTH) (drop_at h _ GAME_AT k)
         ∙ (ap (take DIGEST_LENGTH) (append_assoc g (r ++ (z ++ s)) t) ∙ take_at g _ DIGEST_LENGTH l)))
 
-    of_routines : (h g r z s t : List ℕ) → length h ≡ GAME_AT → length g ≡ DIGEST_LENGTH → length r ≡ DIGEST_LENGTH →
+    of_routines : (h g r z s t : Bytes) → length h ≡ GAME_AT → length g ≡ DIGEST_LENGTH → length r ≡ DIGEST_LENGTH →
         stretch ROUTINES_AT DIGEST_LENGTH (h ++ g ++ r ++ z ++ s ++ t) ≡ r
     of_routines h g r z s t k l m =
         ap (λ x. take DIGEST_LENGTH (drop ROUTINES_AT x)) (regroup (h ++ g) r z s t)
         ∙ (ap (take DIGEST_LENGTH) (drop_at (h ++ g) _ ROUTINES_AT (omega (arith, length-append h g))) ∙ take_at r _ DIGEST_LENGTH m)
 
-made_long : (digests : Digests) (slots : List ℕ) → AreLong digests → length slots ≡ slot_length →
+made_long : (digests : Digests) (slots : Bytes) → AreLong digests → length slots ≡ slot_length →
     length (made_header made_mark digests ++ slots ++ slots) ≡ session_length
 made_long digests slots n l = omega (
   arith,
@@ -138,7 +138,7 @@ made_long digests slots n l = omega (
   length_header made_mark digests n,
 )
 
-pub laid_long : (digests : Digests) (slots : List ℕ) → AreLong digests → length slots ≡ slot_length →
+pub laid_long : (digests : Digests) (slots : Bytes) → AreLong digests → length slots ≡ slot_length →
     length (made_header 0 digests ++ slots ++ slots) ≡ session_length
 laid_long digests slots n l = omega (
   arith,
@@ -165,7 +165,7 @@ session_shows digests state piece n m few names =
     ∙ (ap (slot_shows digests) (made_slot_zero digests s s n l) ∙ made_slot_shows digests state piece m names)))
 
 -- What a header and the slot that it chooses say of the whole.
-pub introduced_shows : (k : ℕ) (digests : Digests) (held bytes : List ℕ) → Introduces k digests bytes → held ≡ slot k bytes →
+pub introduced_shows : (k : ℕ) (digests : Digests) (held bytes : Bytes) → Introduces k digests bytes → held ≡ slot k bytes →
     recover bytes ≡ slot_shows digests held
 introduced_shows k digests held bytes h e =
     recover_is k bytes (sym h.slot)
@@ -192,14 +192,14 @@ in_unmade_or s t a b m h e i = in_later s t (CrashLeavesSuch (λ r. IsUnmade r �
     h (λ d p image l. elim (p image l) [ inl q ↦ inl q | inr q ↦ inr (q ∙ e) ]) i
 
 -- A digest that was found is another one, or the one that was looked for.
-pub other_digest : (kept found : List ℕ) (ne : Bool) → ne ≡ true → ne ≡ not (bytes_eq kept found) → kept ≢ found
+pub other_digest : (kept found : Bytes) (ne : Bool) → ne ≡ true → ne ≡ not (bytes_eq kept found) → kept ≢ found
 other_digest kept found ne t e q = differs ne _ t e ((bytes_eq-Decides kept found).1 q)
   where
     differs : (ne b : Bool) → ne ≡ true → ne ≡ not b → b ≡ true → ⊥
     differs ne true t e q = absurd (cc (t, e))
     differs ne false t e q = absurd (cc q)
 
-pub same_digest : (kept found : List ℕ) (ne : Bool) → ne ≡ false → ne ≡ not (bytes_eq kept found) → kept ≡ found
+pub same_digest : (kept found : Bytes) (ne : Bool) → ne ≡ false → ne ≡ not (bytes_eq kept found) → kept ≡ found
 same_digest kept found ne f e = (bytes_eq-Decides kept found).0 (same ne _ f e)
   where
     same : (ne b : Bool) → ne ≡ false → ne ≡ not b → b ≡ true
@@ -207,11 +207,11 @@ same_digest kept found ne f e = (bytes_eq-Decides kept found).0 (same ne _ f e)
     same ne false f e = absurd (cc (f, e))
 
 -- So is one that stands for routines that were measured, or for none.
-pub measured : (kept : List ℕ) (ne : Bool) → ne ≡ true → ne ≡ not (bytes_eq kept (replicate DIGEST_LENGTH 0)) → kept ≢ zeros DIGEST_LENGTH
+pub measured : (kept : Bytes) (ne : Bool) → ne ≡ true → ne ≡ not (bytes_eq kept (replicate DIGEST_LENGTH 0)) → kept ≢ zeros DIGEST_LENGTH
 unfolding zeros
 measured kept ne t e = other_digest kept (replicate DIGEST_LENGTH 0) ne t e
 
-pub unmeasured : (kept : List ℕ) (ne : Bool) → ne ≡ false → ne ≡ not (bytes_eq kept (replicate DIGEST_LENGTH 0)) → kept ≡ zeros DIGEST_LENGTH
+pub unmeasured : (kept : Bytes) (ne : Bool) → ne ≡ false → ne ≡ not (bytes_eq kept (replicate DIGEST_LENGTH 0)) → kept ≡ zeros DIGEST_LENGTH
 unfolding zeros
 unmeasured kept ne f e = same_digest kept (replicate DIGEST_LENGTH 0) ne f e
 
@@ -228,7 +228,7 @@ found_keeps w digests room s t r e h f slots = subst (λ u. KeptIn (record { slo
 })
 
 -- The states of both slots, once both were read.
-pub found_slots : (w o : Slot) (bytes a b : List ℕ) (one two three four : Room) (state piece : Bytes) →
+pub found_slots : (w o : Slot) (bytes a b : Bytes) (one two three four : Room) (state piece : Bytes) →
     slot_number o ≡ 1 - slot_number w → two ≡ with_slot_kept w (kept_slot a) (record one { state = state; piece = piece }) →
     three ≡ record two { slot = three.slot } → four ≡ with_slot_kept o (kept_slot b) three → a ≡ slot (slot_number w) bytes →
     b ≡ slot (slot_number o) bytes → KeepsSlots four bytes
@@ -257,7 +257,7 @@ pub short_piece : (state piece : Bytes) → ((i : ℕ) → get_or state i 0 < 25
 short_piece state piece bytes e = omega (arith, bytes PIECE_LENGTH_AT, bytes (PIECE_LENGTH_AT + 1))
 
 -- What is laid out, once it is marked, is the session.
-pub marked_session : (digests : Digests) (slots state piece : List ℕ) (d : Disk) →
+pub marked_session : (digests : Digests) (slots state piece : Bytes) (d : Disk) →
     d ≡ stable (made_header 0 digests ++ slots ++ slots) → slots ≡ made_slot state piece →
     made_mark ∷ drop 1 d.bytes ≡ made_session digests state piece
 marked_session digests slots state piece d e f = ap (λ x. made_mark ∷ drop 1 x.bytes) e ∙ ap (λ x. made_mark ∷ drop 1 (made_header 0 digests ++ x ++ x)) f

@@ -1,5 +1,5 @@
 -- How long a state and a piece are that bytes show, and whose session they are of.
-use Rattle.std.proofs.Common.{◌≡◌, ℕ, ◌+◌, ◌-◌, ◌<◌, ◌≤◌, Bool, true, false, List, ◌++◌, Option, Some, None, length}
+use Rattle.std.proofs.Common.{◌≡◌, ℕ, ◌+◌, ◌-◌, ◌<◌, ◌≤◌, Bool, true, false, ◌++◌, Option, Some, None, length}
 use Rattle.std.proofs.Common.{take}
 use Rattle.std.proofs.Common.{drop, refl, sym, ap, ◌∙◌, arith, get_or}
 use Rattle.std.specs.Prelude.{if◌then◌else◌, nat_le}
@@ -25,21 +25,21 @@ form_long n state few long =
     let l = length-take-le n state (omega arith) in
     omega (arith, length-append (take n state) (zeros (state_length - n)), l, length_zeros (state_length - n))
 
-same_shown : (d : Digests) (a p : List ℕ) (e : Digests) (b q : List ℕ) → Shown d a p ≡ Shown e b q → (d ≡ e) × (a ≡ b) × (p ≡ q)
+same_shown : (d : Digests) (a p : Bytes) (e : Digests) (b q : Bytes) → Shown d a p ≡ Shown e b q → (d ≡ e) × (a ≡ b) × (p ≡ q)
 same_shown d a p e b q h = (cc, cc, cc)
 
-by_changes : (digests : Digests) (s : List ℕ) (d : Digests) (st p : List ℕ) (o : Option ℕ) → shown_unless digests s o ≡ Shown d st p →
+by_changes : (digests : Digests) (s : Bytes) (d : Digests) (st p : Bytes) (o : Option ℕ) → shown_unless digests s o ≡ Shown d st p →
     (digests ≡ d) × (shown_state s ≡ st) × (slot_piece s ≡ p)
 by_changes digests s d st p None e = same_shown digests (shown_state s) (slot_piece s) d st p e
 by_changes digests s d st p (Some n) e = absurd (cc e)
 
-by_count : (digests : Digests) (s : List ℕ) (d : Digests) (st p : List ℕ) (b : Bool) →
+by_count : (digests : Digests) (s : Bytes) (d : Digests) (st p : Bytes) (b : Bool) →
     (if b then shown_unless digests s (first_unsound (slot_changes s)) else Damaged part.Slot 0) ≡ Shown d st p →
     (digests ≡ d) × (shown_state s ≡ st) × (slot_piece s ≡ p)
 by_count digests s d st p true e = by_changes digests s d st p (first_unsound (slot_changes s)) e
 by_count digests s d st p false e = absurd (cc e)
 
-by_slot : (digests : Digests) (s : List ℕ) (d : Digests) (st p : List ℕ) → slot_shows digests s ≡ Shown d st p →
+by_slot : (digests : Digests) (s : Bytes) (d : Digests) (st p : Bytes) → slot_shows digests s ≡ Shown d st p →
     (digests ≡ d) × (shown_state s ≡ st) × (slot_piece s ≡ p)
 unfolding slot_shows
 by_slot digests s d st p e = by_count digests s d st p (nat_le (two_byte_number 0 s) most_changes) e

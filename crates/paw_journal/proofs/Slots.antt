@@ -35,7 +35,7 @@ use Rattle.paw_journal.proofs.Makes.{length_zeros}
 use Rattle.paw_journal.proofs.Parts.{length_stretch}
 
 -- A list that is longer by a number of zeros.
-pub added_zeros : {T E : Type 0} {r : Result T E} {x : T} (was now : List ℕ) (n k count : ℕ) → k ≡ length was →
+pub added_zeros : {T E : Type 0} {r : Result T E} {x : T} (was now : Bytes) (n k count : ℕ) → k ≡ length was →
     n ≡ k + count → r ≡ Ok x → now ≡ (if is_ok r then take n was ++ replicate (n - k) 0 else was) →
     now ≡ was ++ zeros count
 unfolding zeros
@@ -122,7 +122,7 @@ pub whole_state : (bytes records old now : Bytes) (count : ℕ) → count ≡ tw
     (record { records = two_byte_number 0 bytes; state = slot_state bytes })
 whole_state bytes records old now count e r b n = let s = state_is bytes records old now count e r b n in cc (e, s)
 
-pub records_are : (count : ℕ) (held bytes : List ℕ) → held ≡ bytes →
+pub records_are : (count : ℕ) (held bytes : Bytes) → held ≡ bytes →
     take (CHANGES_AT + 4 * count - CHANGES_AT) (drop CHANGES_AT held) ≡ stretch CHANGES_AT (4 * count) bytes
 records_are count held bytes e = let n : CHANGES_AT + 4 * count - CHANGES_AT ≡ 4 * count = omega arith in
     ap (λ k. take k (drop CHANGES_AT held)) n ∙ ap (stretch CHANGES_AT (4 * count)) e
@@ -218,13 +218,13 @@ unfolding zeros
 brought_shown n state few long =
     let l : length (take n state) ≡ n = length-take-le n state (omega arith) in
     let e : state_length ≡ length (take n state) + (state_length - n) = omega arith in
-    let left : List ℕ = replicate (base_length - n) 0 in
+    let left : Bytes = replicate (base_length - n) 0 in
     ap (λ k. take k (take n state ++ left)) e
     ∙ (take-append-add (take n state) left (state_length - n)
     ∙ ap (λ z. take n state ++ z) (take-replicate (state_length - n) (base_length - n) 0 (omega arith)))
 
 -- These are what is put together of them.
-pub brought_is : (n k : ℕ) (front state : List ℕ) → k ≡ n → front ≡ take k state →
+pub brought_is : (n k : ℕ) (front state : Bytes) → k ≡ n → front ≡ take k state →
     front ++ drop k (replicate base_length 0) ≡ take n state ++ zeros (base_length - n)
 unfolding zeros
 brought_is n k front state e f =

@@ -54,7 +54,7 @@ word_means : (g : GameLists) (letters : Letters) → (word : Option (ℕ × ℕ)
 word_means g letters None e = (rw e refl, λ ts s. rw e refl, λ ts. rw e refl)
 word_means g letters (Some word) e = known_means g letters word e (eqb word.1 CONJUNCTION_CLASS) refl
 
-means : (g : GameLists) (t : Option (List ℕ)) → Means g t (phrase_part_of g t)
+means : (g : GameLists) (t : Option Letters) → Means g t (phrase_part_of g t)
 means g None = refl
 means g (Some letters) = word_means g letters (word_at g letters) refl
 
@@ -158,7 +158,7 @@ unfolding phrase_parsed
 along-started g bytes e n a = with_no_token g e (lexemes bytes) (blank n a) ∙ parsed_from-lexemes g e n a (from_phrase g (lexemes bytes))
 
 -- One lexeme more is read, from the bytes from i on.
-pub along-lexeme : (g : GameLists) (e : ℕ) (s : List ℕ) (i k : ℕ) (t : Option (List ℕ)) (d : PhraseDraft) (p : Part) (next : Option PhraseDraft)
+pub along-lexeme : (g : GameLists) (e : ℕ) (s : Bytes) (i k : ℕ) (t : Option Letters) (d : PhraseDraft) (p : Part) (next : Option PhraseDraft)
     (whole : Parsed) → whole ≡ along g e (lexemes (drop i s)) d
     → lexemes (take (length s - i) (drop i s))
     ≡ record { token = t; after = drop k (take (length s - i) (drop i s)) } ∷ lexemes (drop k (take (length s - i) (drop i s)))
@@ -173,7 +173,7 @@ along-lexeme g e s i k t d p next whole so_far first is_part is_next =
     ∙ ap (λ x. after_part x (draft_outcome e d (drop (i + k) s)) go) (sym (is_next ∙ ap (λ q. with_part q d) is_part))
 
 -- No lexeme is left.
-pub along-end : (g : GameLists) (e : ℕ) (s : List ℕ) (i : ℕ) (d : PhraseDraft) (whole : Parsed) → whole ≡ along g e (lexemes (drop i s)) d
+pub along-end : (g : GameLists) (e : ℕ) (s : Bytes) (i : ℕ) (d : PhraseDraft) (whole : Parsed) → whole ≡ along g e (lexemes (drop i s)) d
     → lexemes (take (length s - i) (drop i s)) ≡ [] → whole ≡ draft_outcome e d (drop (length s) s)
 unfolding along
 along-end g e s i d whole so_far none =

@@ -1,16 +1,16 @@
 -- The letters of a token, one by one.
-use Rattle.std.proofs.Common.{◌≡◌, ◌<◌, ◌≤◌, ◌+◌, ◌-◌, ℕ, suc, List, [], ◌∷◌, ◌++◌, length, take, replicate, map}
+use Rattle.std.proofs.Common.{◌≡◌, ◌<◌, ◌≤◌, ◌+◌, ◌-◌, ℕ, suc, [], ◌∷◌, ◌++◌, length, take, replicate, map}
 use Rattle.std.proofs.Common.{get_or, set, refl, sym, ap, ◌∙◌}
 use Rattle.std.proofs.Common.{arith, length-append, append_assoc, add-one}
 use Rattle.std.specs.Char.{to_ascii_uppercase}
 use Rattle.std.proofs.Math.Seq.{take-suc}
 use Rattle.std.proofs.lemmas.List.{length-take-le, length-map, map-append, take_all, take-append-le, set_at}
-use Rattle.paw_base.specs.Bytes.{Bytes}
+use Rattle.paw_base.specs.Bytes.{Bytes, Token}
 use Rattle.paw_base.specs.declared.limits.TheConstants.{WORD_LENGTH}
 use Rattle.paw_phrase.specs.Phrase.{five_letters}
 
 -- The first n bytes, with small letters read as capitals.
-abbrev pub letters_of : ℕ → List ℕ → List ℕ
+abbrev pub letters_of : ℕ → Bytes → Token
 letters_of n bytes = map to_ascii_uppercase (take n bytes)
 
 pub length-letters_of : (n : ℕ) (bytes : Bytes) → n ≤ length bytes → length (letters_of n bytes) ≡ n
@@ -20,11 +20,11 @@ pub letters_of-suc : (n : ℕ) (bytes : Bytes) → n < length bytes → letters_
 letters_of-suc n bytes h =
     ap (map to_ascii_uppercase) (take-suc bytes n 0 h) ∙ map-append to_ascii_uppercase (take n bytes) (get_or bytes n 0 ∷ [])
 
-letter_at : (run filling : List ℕ) (letter x : ℕ) → (run ++ letter ∷ []) ++ filling ≡ set (run ++ x ∷ filling) (length run) letter
+letter_at : (run filling : Bytes) (letter x : ℕ) → (run ++ letter ∷ []) ++ filling ≡ set (run ++ x ∷ filling) (length run) letter
 letter_at run filling letter x = append_assoc run (letter ∷ []) filling ∙ sym (set_at run x filling letter (length run) refl)
 
 -- A letter among the first five is kept.
-five_letters-kept : (run : List ℕ) (letter : ℕ) → length run < WORD_LENGTH → five_letters (run ++ letter ∷ []) ≡ set (five_letters run) (length run) letter
+five_letters-kept : (run : Token) (letter : ℕ) → length run < WORD_LENGTH → five_letters (run ++ letter ∷ []) ≡ set (five_letters run) (length run) letter
 five_letters-kept run letter h =
     let whole : take WORD_LENGTH (run ++ letter ∷ []) ≡ run ++ letter ∷ [] =
     take_all WORD_LENGTH (run ++ letter ∷ []) (omega (arith, length-append run (letter ∷ []))) in
@@ -34,7 +34,7 @@ five_letters-kept run letter h =
     rw (whole, fewer, short, spaces) (letter_at run (replicate (4 - length run) 32) letter 32)
 
 -- Any other letter is not.
-five_letters-cut : (run : List ℕ) (letter : ℕ) → WORD_LENGTH ≤ length run → five_letters (run ++ letter ∷ []) ≡ five_letters run
+five_letters-cut : (run : Token) (letter : ℕ) → WORD_LENGTH ≤ length run → five_letters (run ++ letter ∷ []) ≡ five_letters run
 five_letters-cut run letter h =
     let cut : take WORD_LENGTH (run ++ letter ∷ []) ≡ take WORD_LENGTH run = take-append-le WORD_LENGTH run (letter ∷ []) h in
     let none : WORD_LENGTH - length (run ++ letter ∷ []) ≡ WORD_LENGTH - length run = omega (arith, length-append run (letter ∷ [])) in

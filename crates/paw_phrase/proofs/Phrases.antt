@@ -33,28 +33,28 @@ pub rest-all : (P : ℕ → Type 0) (pending rest : Bytes) → IsRest pending re
 rest-all P pending rest h all = subst (All P) (sym h.is) (All-drop P h.from pending all)
 
 -- Bytes after a token or a separator, where a token's n bytes stand before s.
-record IsBehind (n : ℕ) (s after : List ℕ) : Type 0 where
+record IsBehind (n : ℕ) (s after : Bytes) : Type 0 where
   from : ℕ
   some : 0 < n + from
   within : from ≤ length s
   is : after ≡ drop from s
 
-behind-more : (n m b : ℕ) (s after : List ℕ) → IsBehind n s after → IsBehind m (b ∷ s) after
+behind-more : (n m b : ℕ) (s after : Bytes) → IsBehind n s after → IsBehind m (b ∷ s) after
 behind-more n m b s after h = record { from = suc h.from; some = omega arith; within = omega (arith, h.within); is = h.is }
 
-abbrev Each : (List ℕ → Type 0) → List Lexeme → Type 0
+abbrev Each : (Bytes → Type 0) → List Lexeme → Type 0
 Each P [] = Unit {0}
 Each P (m ∷ ms) = P m.after × Each P ms
 
-Each-append : (P : List ℕ → Type 0) (ms ns : List Lexeme) → Each P ms → Each P ns → Each P (ms ++ ns)
+Each-append : (P : Bytes → Type 0) (ms ns : List Lexeme) → Each P ms → Each P ns → Each P (ms ++ ns)
 Each-append P [] ns h k = k
 Each-append P (m ∷ ms) ns h k = (h.0, Each-append P ms ns h.1 k)
 
-Each-map : (P Q : List ℕ → Type 0) → ((after : List ℕ) → P after → Q after) → (ms : List Lexeme) → Each P ms → Each Q ms
+Each-map : (P Q : Bytes → Type 0) → ((after : Bytes) → P after → Q after) → (ms : List Lexeme) → Each P ms → Each Q ms
 Each-map P Q f [] h = tt
 Each-map P Q f (m ∷ ms) h = (f m.after h.0, Each-map P Q f ms h.1)
 
-token_lexeme-behind : (run s : List ℕ) → Each (IsBehind (length run) s) (token_lexeme run s)
+token_lexeme-behind : (run s : Bytes) → Each (IsBehind (length run) s) (token_lexeme run s)
 token_lexeme-behind [] s = tt
 token_lexeme-behind (b ∷ bs) s = (record { from = 0; some = omega arith; within = omega arith; is = refl }, tt)
 
@@ -65,7 +65,7 @@ separator_lexeme-behind n b bs =
       | false ↦ tt
     ]
 
-lexemes_from-behind : (bs run : List ℕ) → Each (IsBehind (length run) bs) (lexemes_from run bs)
+lexemes_from-behind : (bs run : Bytes) → Each (IsBehind (length run) bs) (lexemes_from run bs)
 unfolding lexemes_from
 lexemes_from-behind [] run = token_lexeme-behind run []
 lexemes_from-behind (b ∷ bs) run =
@@ -82,27 +82,27 @@ lexemes_from-behind (b ∷ bs) run =
           (lexemes_from-behind bs []))
     ]
 
-rest_from : (s after : List ℕ) → IsBehind 0 s after → IsRest s after
+rest_from : (s after : Bytes) → IsBehind 0 s after → IsRest s after
 rest_from s after h = record { from = h.from; some = omega (arith, h.some); within = h.within; is = h.is }
 
-lexemes-rest : (s : List ℕ) → Each (IsRest s) (lexemes s)
+lexemes-rest : (s : Bytes) → Each (IsRest s) (lexemes s)
 lexemes-rest s = Each-map (IsBehind 0 s) (IsRest s) (rest_from s) (lexemes s) (lexemes_from-behind s [])
 
 -- Where something may be left, nothing may be left too.
-rest-none : (s after : List ℕ) → IsRest s after → IsRest s []
+rest-none : (s after : Bytes) → IsRest s after → IsRest s []
 rest-none s after h = record { from = length s; some = omega (arith, h.some, h.within); within = omega arith; is = sym (drop_all (length s) s (omega arith)) }
 
-from_phrase-each : (P : List ℕ → Type 0) (g : GameLists) (ms : List Lexeme) → Each P ms → Each P (from_phrase g ms)
+from_phrase-each : (P : Bytes → Type 0) (g : GameLists) (ms : List Lexeme) → Each P ms → Each P (from_phrase g ms)
 from_phrase-each P g [] h = tt
 from_phrase-each P g (m ∷ ms) h =
     elim (is_parting g m.token) as (λ v. Each P (cond v (from_phrase g ms) (m ∷ ms))) [ true ↦ from_phrase-each P g ms h.1 | false ↦ h ]
 
-bytes_after-each : (P : List ℕ → Type 0) (g : GameLists) (ms : List Lexeme) → P [] → Each P ms → P (bytes_after g ms)
+bytes_after-each : (P : Bytes → Type 0) (g : GameLists) (ms : List Lexeme) → P [] → Each P ms → P (bytes_after g ms)
 bytes_after-each P g [] none h = none
 bytes_after-each P g (m ∷ ms) none h =
     elim (is_parting g m.token) as (λ v. P (cond v m.after (bytes_after g ms))) [ true ↦ h.0 | false ↦ bytes_after-each P g ms none h.1 ]
 
-pub leaves : (P : List ℕ → Type 0) (b : Bool) (s : Sentence) (rest : List ℕ) → P rest → LeavesBytes P (cond b (IsSentence s rest) (IsUnknown rest))
+pub leaves : (P : Bytes → Type 0) (b : Bool) (s : Sentence) (rest : Bytes) → P rest → LeavesBytes P (cond b (IsSentence s rest) (IsUnknown rest))
 leaves P true s rest h = h
 leaves P false s rest h = h
 
@@ -119,7 +119,7 @@ unfolding phrase_parsed
 parsed-rest g pending e n a = parsed_lexemes-rest g pending e n a (from_phrase g (lexemes pending))
     (from_phrase-each (IsRest pending) g (lexemes pending) (lexemes-rest pending))
 
-leaves-map : (P Q : List ℕ → Type 0) → ((rest : List ℕ) → P rest → Q rest) → (p : Parsed) → LeavesBytes P p → LeavesBytes Q p
+leaves-map : (P Q : Bytes → Type 0) → ((rest : Bytes) → P rest → Q rest) → (p : Parsed) → LeavesBytes P p → LeavesBytes Q p
 leaves-map P Q f (IsSentence s rest) h = f rest h
 leaves-map P Q f (IsUnknown rest) h = f rest h
 leaves-map P Q f IsNoPhrase h = tt
@@ -131,11 +131,11 @@ parsed-shorter g pending e n a =
     leaves-map (IsRest pending) (λ rest. length rest < length pending) (rest-shorter pending) (phrase_parsed g pending e n a) (parsed-rest g pending e n a)
 
 -- The same for a phrase that is known to be a sentence, or unknown.
-pub sentence-rest : (g : GameLists) (pending : Bytes) (earlier noun adjective : ℕ) (s : Sentence) (rest : List ℕ)
+pub sentence-rest : (g : GameLists) (pending : Bytes) (earlier noun adjective : ℕ) (s : Sentence) (rest : Bytes)
     → phrase_parsed g pending earlier noun adjective ≡ IsSentence s rest → IsRest pending rest
 sentence-rest g pending e n a s rest is = subst (LeavesBytes (IsRest pending)) is (parsed-rest g pending e n a)
 
-pub unknown-rest : (g : GameLists) (pending : Bytes) (earlier noun adjective : ℕ) (rest : List ℕ)
+pub unknown-rest : (g : GameLists) (pending : Bytes) (earlier noun adjective : ℕ) (rest : Bytes)
     → phrase_parsed g pending earlier noun adjective ≡ IsUnknown rest → IsRest pending rest
 unknown-rest g pending e n a rest is = subst (LeavesBytes (IsRest pending)) is (parsed-rest g pending e n a)
 

@@ -147,7 +147,7 @@ Gives P (IsSentence s rest) = P s
 Gives P (IsUnknown rest) = Unit {0}
 Gives P IsNoPhrase = Unit {0}
 
-gives : (P : Sentence → Type 0) (b : Bool) (s : Sentence) (rest : List ℕ) → P s → Gives P (cond b (IsSentence s rest) (IsUnknown rest))
+gives : (P : Sentence → Type 0) (b : Bool) (s : Sentence) (rest : Bytes) → P s → Gives P (cond b (IsSentence s rest) (IsUnknown rest))
 gives P true s rest h = h
 gives P false s rest h = tt
 
@@ -158,7 +158,7 @@ parsed_lexemes-bytes g e n a valid he hn ha (m ∷ ms) =
     gives AreBytes _ (sentence_finished e (with_tokens g tokens (blank n a))) (bytes_after g (m ∷ ms)) (sentence-bytes g tokens e n a valid he hn ha)
 
 -- The sentence that is parsed is one of bytes.
-pub parsed-bytes : (g : GameLists) (pending : Bytes) (earlier noun adjective : ℕ) (s : Sentence) (rest : List ℕ) → Valid g → earlier < 256
+pub parsed-bytes : (g : GameLists) (pending : Bytes) (earlier noun adjective : ℕ) (s : Sentence) (rest : Bytes) → Valid g → earlier < 256
     → noun < 256 → adjective < 256 → phrase_parsed g pending earlier noun adjective ≡ IsSentence s rest → AreBytes s
 unfolding phrase_parsed
 parsed-bytes g pending e n a s rest valid he hn ha is =

@@ -23,7 +23,7 @@ Fall_up n k [] le h = tt
 Fall_up n k (m ∷ ms) le h = (omega (arith, le, h.0), h.1)
 
 -- The bytes s stand after a token.
-token_lexeme-fall : (run s : List ℕ) (ms ns : List Lexeme) → Fall (length s) (ms ++ ns) → Fall (length run + length s) (token_lexeme run s ++ ms ++ ns)
+token_lexeme-fall : (run s : Bytes) (ms ns : List Lexeme) → Fall (length s) (ms ++ ns) → Fall (length run + length s) (token_lexeme run s ++ ms ++ ns)
 token_lexeme-fall [] s ms ns h = Fall_up _ _ (ms ++ ns) (omega arith) h
 token_lexeme-fall (b ∷ bs) s ms ns h = (omega arith, h)
 
@@ -34,7 +34,7 @@ separator_lexeme-fall b bs ms h =
       | false ↦ Fall_up _ _ ms (omega arith) h
     ]
 
-lexemes_from-fall : (bs run : List ℕ) → Fall (length run + length bs) (lexemes_from run bs)
+lexemes_from-fall : (bs run : Bytes) → Fall (length run + length bs) (lexemes_from run bs)
 unfolding lexemes_from
 lexemes_from-fall [] [] = tt
 lexemes_from-fall [] (x ∷ xs) = (omega arith, tt)

@@ -1,5 +1,5 @@
 -- The answers of routines that compute a function of their number and a value.
-use Rattle.std.proofs.Common.{◌≡◌, ℕ, ◌<◌, List, length, map, Option, None, Some, sym, ap, ◌∙◌, arith, slice_get, subst}
+use Rattle.std.proofs.Common.{◌≡◌, ℕ, ◌<◌, length, map, Option, None, Some, sym, ap, ◌∙◌, arith, slice_get, subst}
 use Rattle.std.proofs.Common.{refl}
 use Rattle.std.specs.Prelude.{All}
 use Rattle.std.specs.List.{range_with_len}
@@ -7,11 +7,11 @@ use Rattle.std.specs.Fn.{Shared}
 use Rattle.std.proofs.lemmas.List.FromFn.{length-map-range_with_len, get_or-map-range_with_len}
 use Rattle.std.proofs.lemmas.Option.{none-some, same_Some, get_or_from_slice_get, slice_get-get_or, slice_get_within}
 use Rattle.std.proofs.Math.ListN.{get_or}
-use Rattle.paw_base.specs.Bytes.{RoutineAnswers}
+use Rattle.paw_base.specs.Bytes.{RoutineAnswers, Bytes}
 use Rattle.paw_routines.specs.Answers.{StandFor, value_in, value_at}
 
 -- The values of a function from 0 to 255.
-abbrev pub values_of : (ℕ → ℕ) → List ℕ
+abbrev pub values_of : (ℕ → ℕ) → Bytes
 values_of h = map h (range_with_len 0 256)
 
 -- The answers of each of the first `count` routines.
@@ -31,8 +31,8 @@ value_at-answers_of g count n x below small =
     let answers = answers_of g count in
     let own : slice_get answers n ≡ Some (values_of (g n)) =
     slice_get-get_or answers n (values_of (g n)) (omega (arith, length-answers_of g count))
-    ∙ ap (λ (l : List ℕ). Some l) (get_or-map-range_with_len (λ k. values_of (g k)) 0 count n n (values_of (g n)) below (omega arith)) in
-    ap (λ (found : Option (List ℕ)). value_in found x) own
+    ∙ ap (λ (l : Bytes). Some l) (get_or-map-range_with_len (λ k. values_of (g k)) 0 count n n (values_of (g n)) below (omega arith)) in
+    ap (λ (found : Option Bytes). value_in found x) own
     ∙ ap (λ (y : ℕ). Some y) (get_or-map-range_with_len (g n) 0 256 x x 0 small (omega arith))
 
 small_answers : (g : ℕ → ℕ → ℕ) (count : ℕ) → ((n x : ℕ) → n < count → x < 256 → g n x < 256) → All (λ own. All (λ y. y < 256) own) (answers_of g count)
@@ -57,7 +57,7 @@ stand_for {F} calls f g count small callable gives = record {
   agree = λ n x y below low byte called. value_at-answers_of g count n x below low ∙ ap (λ (z : ℕ). Some z) (sym (gives n x y below low byte called));
 }
 
-in_answers : (answers : RoutineAnswers) (n : ℕ) (found : Option (List ℕ)) → slice_get answers n ≡ found
+in_answers : (answers : RoutineAnswers) (n : ℕ) (found : Option Bytes) → slice_get answers n ≡ found
     → All (λ own. length own ≡ 256) answers → All (λ own. All (λ y. y < 256) own) answers
     → (x y : ℕ) → x < 256 → value_in found x ≡ Some y → y < 256
 in_answers answers n None e whole bytes x y small at = absurd (none-some y at)

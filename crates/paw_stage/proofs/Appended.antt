@@ -1,11 +1,11 @@
 -- Texts that are written part by part.
-use Rattle.std.proofs.Common.{◌≡◌, ℕ, ◌+◌, List, ◌++◌, take, drop, ap, sym, ◌∙◌, append_assoc}
+use Rattle.std.proofs.Common.{◌≡◌, ℕ, ◌+◌, ◌++◌, take, drop, ap, sym, ◌∙◌, append_assoc}
 use Rattle.std.proofs.Math.Seq.{take-add}
 use Rattle.std.specs.Prelude.{Option, Some, None}
 use Rattle.std.specs.Io.KnownBytes.{Appends}
 use Rattle.paw_base.specs.Bytes.{Bytes}
 
-pub Appends_more : (old mid new : Option (List ℕ)) (text rest : Bytes) (done n : ℕ) → rest ≡ drop done text →
+pub Appends_more : (old mid new : Option Bytes) (text rest : Bytes) (done n : ℕ) → rest ≡ drop done text →
     Appends old mid (take done text) → Appends mid new (take n rest) → Appends old new (take (done + n) text)
 Appends_more None mid new text rest done n e h k = tt
 Appends_more (Some xs) None new text rest done n e h k = absurd h

@@ -79,11 +79,11 @@ synced_leaves d h image l =
           λ i low clean. l.clean i (omega (arith, h.low, low)) refl;
     }
 
-pub length-spoiled : (dirty : List Range) (k : ℕ) (xs : List ℕ) → length (bytes_spoiled dirty k xs) ≡ length xs
+pub length-spoiled : (dirty : List Range) (k : ℕ) (xs : Bytes) → length (bytes_spoiled dirty k xs) ≡ length xs
 length-spoiled dirty k [] = refl
 length-spoiled dirty k (x ∷ xs) = ap suc (length-spoiled dirty (k + 1) xs)
 
-pub index-spoiled : (dirty : List Range) (k : ℕ) (xs : List ℕ) (i : ℕ) → i < length xs →
+pub index-spoiled : (dirty : List Range) (k : ℕ) (xs : Bytes) (i : ℕ) → i < length xs →
     slice_index (bytes_spoiled dirty k xs) i ≡ spoiled_if (is_dirty dirty (k + i)) (slice_index xs i)
 index-spoiled dirty k [] i h = absurd (omega arith)
 index-spoiled dirty k (x ∷ xs) zero h = let e : k ≡ k + 0 = omega arith in ap (λ j. spoiled_if (is_dirty dirty j) x) e

@@ -1,5 +1,5 @@
 -- One byte more of the line in work, and its end.
-use Rattle.std.proofs.Common.{◌≡◌, ◌≤◌, ◌<◌, ◌⊎◌, inl, inr, ℕ, ◌+◌, ◌-◌, Bool, true, false, List, [], ◌∷◌, ◌++◌}
+use Rattle.std.proofs.Common.{◌≡◌, ◌≤◌, ◌<◌, ◌⊎◌, inl, inr, ℕ, ◌+◌, ◌-◌, Bool, true, false, [], ◌∷◌, ◌++◌}
 use Rattle.std.proofs.Common.{length, take, get_or, min, nat_lt, refl, sym, subst}
 use Rattle.std.proofs.Common.{ap, ◌∙◌, arith, length-append}
 use Rattle.std.specs.Prelude.{Option, Some, None, IfSome, if◌then◌else◌, ◌==◌}
@@ -19,7 +19,7 @@ below_or : (k : ℕ) → (k < LINE_LIMIT) ⊎ (LINE_LIMIT ≤ k)
 below_or k = grind arith
 
 -- The first 255 bytes of two parts.
-take_both : (xs ys : List ℕ) → take LINE_LIMIT (xs ++ ys) ≡ take LINE_LIMIT xs ++ take (LINE_LIMIT - length xs) ys
+take_both : (xs ys : Bytes) → take LINE_LIMIT (xs ++ ys) ≡ take LINE_LIMIT xs ++ take (LINE_LIMIT - length xs) ys
 take_both xs ys = elim (below_or (length xs)) [
   | inl low ↦
       let sum : LINE_LIMIT ≡ length xs + (LINE_LIMIT - length xs) = omega (arith, low) in
@@ -47,12 +47,12 @@ part_kept bytes len n low = elim (at_most_or (LINE_LIMIT - len) n) [
 ]
 
 -- Nothing was taken yet.
-pub gathers_none : (first : Option (List ℕ)) (into : Bytes) → Gathers first first into 0 false
+pub gathers_none : (first : Option Bytes) (into : Bytes) → Gathers first first into 0 false
 gathers_none first into =
     record { taken = []; consumed = consumes_none first; count = refl; plain = tt; kept = refl; last = refl }
 
 -- A part more, without an LF.
-pub gathers_part : (first left now : Option (List ℕ)) (into into' bytes : List ℕ) (len n : ℕ) (returned : Bool) →
+pub gathers_part : (first left now : Option Bytes) (into into' bytes : Bytes) (len n : ℕ) (returned : Bool) →
     Gathers first left into len returned → Consumes left now (take n bytes) → n ≤ length bytes → HasNoEnd (take n bytes) →
     KeepsPart into into' len n bytes →
     Gathers first now into' (len + n) (if nat_lt 0 n then get_or bytes (n - 1) 0 == 13 else returned)
@@ -72,7 +72,7 @@ gathers_part first left now into into' bytes len n returned h k low plain kept =
     }
 
 -- Nothing more was taken.
-pub gathers_on : (first left now : Option (List ℕ)) (into : Bytes) (len : ℕ) (returned : Bool) →
+pub gathers_on : (first left now : Option Bytes) (into : Bytes) (len : ℕ) (returned : Bool) →
     Gathers first left into len returned → Consumes left now [] → Gathers first now into len returned
 gathers_on first left now into len returned h k =
     record {
@@ -85,7 +85,7 @@ gathers_on first left now into len returned h k =
     }
 
 -- More bytes were read ahead, after all before were taken.
-pub gathers_read : (first old new : Option (List ℕ)) (before ahead into : List ℕ) (len : ℕ) (returned : Bool) → before ≡ [] →
+pub gathers_read : (first old new : Option Bytes) (before ahead into : Bytes) (len : ℕ) (returned : Bool) → before ≡ [] →
     Consumes old new ahead → Gathers first (prepend_known before old) into len returned →
     Gathers first (prepend_known ahead new) into len returned
 gathers_read first old new before ahead into len returned e k h =
@@ -93,11 +93,11 @@ gathers_read first old new before ahead into len returned e k h =
     (subst (λ a. Gathers first (prepend_known a old) into len returned) e h) (consumes_read old new ahead k)
 
 -- A line of known length, which may be too long.
-line_of : (bytes : Bytes) (left : Option (List ℕ)) (len : ℕ) (into : Bytes) → HasLine bytes left len into → GathersLine bytes left (Some len) into
+line_of : (bytes : Bytes) (left : Option Bytes) (len : ℕ) (into : Bytes) → HasLine bytes left len into → GathersLine bytes left (Some len) into
 line_of bytes left len into h = (λ low. h, λ high. omega (arith, h.1))
 
 -- More bytes than a line may have, and none is an LF.
-pub gathered_long : (first left now : Option (List ℕ)) (into : Bytes) (len : ℕ) (returned : Bool) →
+pub gathered_long : (first left now : Option Bytes) (into : Bytes) (len : ℕ) (returned : Bool) →
     Gathers first left into len returned → longest_line + 2 ≤ len → IfSome first (λ bytes. GathersLine bytes now (Some len) into)
 gathered_long None left now into len returned h many = tt
 gathered_long (Some xs) None now into len returned h many = absurd h.consumed
@@ -105,7 +105,7 @@ gathered_long (Some xs) (Some ys) now into len returned h many =
     (λ low. absurd (omega (arith, low, many)), λ high. omega (arith, h.count, ap (λ l. length (first_line l)) h.consumed, first_line-long h.taken ys h.plain))
 
 -- The end of the bytes, with a line that has no end of its own.
-pub gathered_whole : (first left now : Option (List ℕ)) (into : Bytes) (len : ℕ) (returned : Bool) →
+pub gathered_whole : (first left now : Option Bytes) (into : Bytes) (len : ℕ) (returned : Bool) →
     Gathers first left into len returned → Consumes left now [] → IsAtEnd now → 0 < len →
     IfSome first (λ bytes. GathersLine bytes now (Some len) into)
 gathered_whole None left now into len returned h k end some = tt
@@ -121,7 +121,7 @@ gathered_whole (Some xs) (Some ys) (Some zs) into len returned h k end some =
     )
 
 -- The end of the bytes, of which none was there.
-pub gathered_none : (first left now : Option (List ℕ)) (into : Bytes) (len : ℕ) (returned : Bool) →
+pub gathered_none : (first left now : Option Bytes) (into : Bytes) (len : ℕ) (returned : Bool) →
     Gathers first left into len returned → Consumes left now [] → IsAtEnd now → len ≡ 0 →
     IfSome first (λ bytes. GathersLine bytes now None into)
 gathered_none None left now into len returned h k end none = tt
@@ -131,20 +131,20 @@ gathered_none (Some xs) (Some ys) (Some zs) into len returned h k end none =
     let nothing : h.taken ≡ [] = sym (take_all 0 h.taken (omega (arith, h.count, none))) in
     (h.consumed ∙ (ap (λ l. l ++ ys) nothing ∙ (k ∙ end)), ap Some end)
 
-take_short : (m : ℕ) (taken : List ℕ) → take (min m LINE_LIMIT) taken ≡ take LINE_LIMIT (take m taken)
+take_short : (m : ℕ) (taken : Bytes) → take (min m LINE_LIMIT) taken ≡ take LINE_LIMIT (take m taken)
 take_short m taken = elim (below_or m) [
   | inl low ↦ let is : min m LINE_LIMIT ≡ m = omega arith in ap (λ k. take k taken) is ∙ sym (take_all LINE_LIMIT (take m taken) (omega (arith, length-take m taken)))
   | inr high ↦ let is : min m LINE_LIMIT ≡ LINE_LIMIT = omega arith in ap (λ k. take k taken) is ∙ sym (take-take LINE_LIMIT m taken high)
 ]
 
 -- Without the last byte.
-cut_last : (into taken : List ℕ) (len : ℕ) → length taken ≡ len → take (min len LINE_LIMIT) into ≡ take LINE_LIMIT taken →
+cut_last : (into taken : Bytes) (len : ℕ) → length taken ≡ len → take (min len LINE_LIMIT) into ≡ take LINE_LIMIT taken →
     take (min (len - 1) LINE_LIMIT) into ≡ take LINE_LIMIT (take (len - 1) taken)
 cut_last into taken len count kept =
     sym (take-take (min (len - 1) LINE_LIMIT) (min len LINE_LIMIT) into (omega arith))
     ∙ (ap (take (min (len - 1) LINE_LIMIT)) kept ∙ (take-take (min (len - 1) LINE_LIMIT) LINE_LIMIT taken (omega arith) ∙ take_short (len - 1) taken))
 
-without_return : (returned : Bool) (into taken : List ℕ) (len : ℕ) → length taken ≡ len → take (min len LINE_LIMIT) into ≡ take LINE_LIMIT taken
+without_return : (returned : Bool) (into taken : Bytes) (len : ℕ) → length taken ≡ len → take (min len LINE_LIMIT) into ≡ take LINE_LIMIT taken
     → ((if returned then len - 1 else len) ≡ length (if returned then take (length taken - 1) taken else taken))
     × (take (min (if returned then len - 1 else len) LINE_LIMIT) into ≡ take LINE_LIMIT (if returned then take (length taken - 1) taken else taken))
 without_return false into taken len count kept = (omega arith, kept)
@@ -152,7 +152,7 @@ without_return true into taken len count kept =
     (omega (arith, length-take (length taken - 1) taken), cut_last into taken len count kept ∙ ap (λ n. take LINE_LIMIT (take (n - 1) taken)) (sym count))
 
 -- The LF that ends the line.
-pub gathered_end : (first left now : Option (List ℕ)) (into : Bytes) (len : ℕ) (returned : Bool) →
+pub gathered_end : (first left now : Option Bytes) (into : Bytes) (len : ℕ) (returned : Bool) →
     Gathers first left into len returned → Consumes left now (10 ∷ []) →
     IfSome first (λ bytes. GathersLine bytes now (Some (if returned then len - 1 else len)) into)
 gathered_end None left now into len returned h k = tt

@@ -3,6 +3,7 @@ use Rattle.std.proofs.Common.{◌≡◌, ◌≢◌, ℕ, ◌+◌, ◌-◌, ◌<�
 use Rattle.std.proofs.Common.{slice_index, refl, sym, ap, ◌∙◌, arith}
 use Rattle.std.specs.Prelude.{Some, ◌||◌, ◌==◌, if◌then◌else◌, slice_range}
 use Rattle.std.proofs.lemmas.List.{ext_get_or, take_all, length-drop, take-map, drop-map}
+use Rattle.paw_base.specs.Bytes.{Bytes, Name}
 use Rattle.paw_stage.specs.Disk.{Disk, is_dirty}
 use Rattle.paw_stage.specs.Stage.{bytes_or_none}
 use Rattle.paw_stage.specs.inner.Done.{DoneCall, fresh, after}
@@ -30,24 +31,24 @@ spoiled_more ds d j x y z ez ey =
     ∙ ap (λ b. spoiled_if b x) (sym (is_written-push ds d j))))
 
 -- The file of the attached store has its bytes.
-pub store_file : (room : List ℕ) (ds : List DoneCall) (store : Store) → FindsStore room ds (Some store) →
+pub store_file : (room : Bytes) (ds : List DoneCall) (store : Store) → FindsStore room ds (Some store) →
     bytes_or_none ((after fresh ds).files (slice_range room store.opened.from store.opened.mid))
     ≡ (after fresh ds).disk.bytes
 store_file room ds store h = ap bytes_or_none (after_filed ds (slice_range room store.opened.from store.opened.mid) h.1.attached)
 
 -- It had those at the last sync after the calls up to it.
-pub synced_file : (room : List ℕ) (calls : List Call) (store : Store) →
+pub synced_file : (room : Bytes) (calls : List Call) (store : Store) →
     FindsStore room (all_done room calls) (Some store) →
     bytes_or_none ((after fresh (all_done room (take store.synced calls))).files
     (slice_range room store.opened.from store.opened.mid)) ≡ (after fresh (all_done room calls)).disk.synced
 synced_file room calls store h =
-    let name : List ℕ = slice_range room store.opened.from store.opened.mid in
+    let name : Name = slice_range room store.opened.from store.opened.mid in
     let front : all_done room (take store.synced calls) ≡ take store.synced (all_done room calls) = sym (take-map (done_in room) store.synced calls) in
     ap (λ ds. bytes_or_none ((after fresh ds).files name)) front
     ∙ (ap bytes_or_none (after_filed (take store.synced (all_done room calls)) name h.1.before) ∙ h.1.synced)
 
 -- What is left of its bytes once those are spoiled that later calls wrote.
-pub spoiled_file : (room : List ℕ) (calls : List Call) (store : Store) (whole new : List ℕ) →
+pub spoiled_file : (room : Bytes) (calls : List Call) (store : Store) (whole new : Bytes) →
     FindsStore room (all_done room calls) (Some store) → whole ≡ (after fresh (all_done room calls)).disk.bytes →
     length new ≡ length whole
     → ((j : ℕ) → j < length whole → slice_index new j

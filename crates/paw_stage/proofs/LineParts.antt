@@ -1,5 +1,5 @@
 -- The bytes that are kept of a part of a line.
-use Rattle.std.proofs.Common.{◌≡◌, ◌≢◌, ℕ, zero, suc, ◌+◌, ◌-◌, ◌<◌, ◌≤◌, inl, inr, Bool, true, false, List, [], ◌∷◌, ◌++◌}
+use Rattle.std.proofs.Common.{◌≡◌, ◌≢◌, ℕ, zero, suc, ◌+◌, ◌-◌, ◌<◌, ◌≤◌, inl, inr, Bool, true, false, [], ◌∷◌, ◌++◌}
 use Rattle.std.proofs.Common.{length, take, drop, set, get_or, sym, ap, ◌∙◌, subst, arith, append_assoc}
 use Rattle.std.specs.Prelude.{◌==◌, nat_lt, not, if◌then◌else◌, slice_range, Option, Some, None}
 use Rattle.std.specs.Option.{unwrap_or}
@@ -44,7 +44,7 @@ plain_more bytes at low plain ne =
     subst HasNoEnd (sym (take_more bytes at 0 low)) (HasNoEnd-push (take at bytes) (get_or bytes at 0) plain ne)
 
 -- Where no byte of some first ones is an LF.
-plain_at : (n : ℕ) (xs : List ℕ) → n ≤ length xs → ((k : ℕ) → k < n → get_or xs k 0 ≢ 10) → HasNoEnd (take n xs)
+plain_at : (n : ℕ) (xs : Bytes) → n ≤ length xs → ((k : ℕ) → k < n → get_or xs k 0 ≢ 10) → HasNoEnd (take n xs)
 plain_at zero xs low each = tt
 plain_at (suc n) [] low each = absurd (omega (arith, low))
 plain_at (suc n) (x ∷ xs) low each = (each 0 (omega arith), plain_at n xs (omega (arith, low)) (λ k lt. each (suc k) (omega (arith, lt))))
@@ -64,7 +64,7 @@ differs x h = grind (arith, h)
 same : (x : ℕ) → x ≡ 10 → (x == 10) ≡ true
 same x h = grind (arith, h)
 
-pub first_or_length : (xs : List ℕ) →
+pub first_or_length : (xs : Bytes) →
     unwrap_or (position (λ byte. byte == 10) xs) (length xs) ≡ position_or_len (λ byte. byte == 10) xs
 first_or_length xs =
     let at : ℕ = position_or_len (λ byte. byte == 10) xs in elim (cases_lt at (length xs)) [
@@ -77,11 +77,11 @@ first_or_length xs =
           ∙ omega (arith, le, prefix_len-le-length (λ byte. not (byte == 10)) xs)
     ]
 
-pub before_within : (xs : List ℕ) (n : ℕ) → n ≡ position_or_len (λ byte. byte == 10) xs → n ≤ length xs
+pub before_within : (xs : Bytes) (n : ℕ) → n ≡ position_or_len (λ byte. byte == 10) xs → n ≤ length xs
 before_within xs n e = omega (arith, e, prefix_len-le-length (λ byte. not (byte == 10)) xs)
 
 -- The bytes before the first LF.
-pub plain_before : (xs : List ℕ) (n : ℕ) → n ≡ position_or_len (λ byte. byte == 10) xs → n ≤ length xs → HasNoEnd (take n xs)
+pub plain_before : (xs : Bytes) (n : ℕ) → n ≡ position_or_len (λ byte. byte == 10) xs → n ≤ length xs → HasNoEnd (take n xs)
 plain_before xs n e low =
     plain_at n xs low (λ k lt. differs (get_or xs k 0) (fails_before_first (λ byte. byte == 10) xs k 0 (subst (λ m. k < m) e lt)))
 
@@ -107,7 +107,7 @@ pub past_all : (n m : ℕ) → m ≤ n → (if nat_lt n m then n + 1 else n) ≡
 past_all n m le = let test : nat_lt n m ≡ false = grind (arith, le) in ap (λ t. if t then n + 1 else n) test
 
 -- A part of the bytes read ahead is taken, and the LF after it where there is one.
-pub takes_part : (first remaining : Option (List ℕ)) (ahead into into' : List ℕ) (len n : ℕ) (returned ended : Bool) →
+pub takes_part : (first remaining : Option Bytes) (ahead into into' : Bytes) (len n : ℕ) (returned ended : Bool) →
     ended ≡ nat_lt n (length ahead) → n ≤ length ahead → HasNoEnd (take n ahead) →
     (n < length ahead → get_or ahead n 0 ≡ 10) → KeepsPart into into' len n ahead →
     Gathers first (prepend_known ahead remaining) into len returned →

@@ -17,12 +17,12 @@ pub after-push : (s : Standing) (ds : List DoneCall) (d : DoneCall) → after s 
 after-push s ds d = fold-append standing_after s ds (d ∷ [])
 
 -- A part of the room stays when the room grows.
-slice_range-append : (room extra : List ℕ) (a b : ℕ) → a ≤ b → b ≤ length room → slice_range (room ++ extra) a b ≡ slice_range room a b
+slice_range-append : (room extra : Bytes) (a b : ℕ) → a ≤ b → b ≤ length room → slice_range (room ++ extra) a b ≡ slice_range room a b
 slice_range-append room extra a b ab h =
     ap (take (b - a)) (drop-append-le a room extra (omega arith)) ∙ take-append-le (b - a) (drop a room) extra (omega (arith, length-drop a room))
 
 -- The part that was added in the middle.
-slice_range-seam : (room bytes extra : List ℕ) (a b : ℕ) → a ≡ length room → b ≡ length room + length bytes → slice_range ((room ++ bytes) ++ extra) a b ≡ bytes
+slice_range-seam : (room bytes extra : Bytes) (a b : ℕ) → a ≡ length room → b ≡ length room + length bytes → slice_range ((room ++ bytes) ++ extra) a b ≡ bytes
 slice_range-seam room bytes extra a b ea eb =
     let n : b - a ≡ length bytes = omega arith in
     ap (λ r. slice_range r a b) (append_assoc room bytes extra)
@@ -41,11 +41,11 @@ laid_low [] start end h = omega arith
 laid_low (c ∷ calls) start end h = omega (arith, h.0, h.1, h.2, laid_low calls c.to end h.3)
 
 -- A call's part of the room stays when the room grows.
-done_in-append : (room extra : List ℕ) (c : Call) → c.from ≤ c.mid → c.mid ≤ c.to → c.to ≤ length room → done_in (room ++ extra) c ≡ done_in room c
+done_in-append : (room extra : Bytes) (c : Call) → c.from ≤ c.mid → c.mid ≤ c.to → c.to ≤ length room → done_in (room ++ extra) c ≡ done_in room c
 done_in-append room extra c low high within =
     rw (slice_range-append room extra c.from c.mid low (omega arith), slice_range-append room extra c.mid c.to high within)
 
-all_done-append : (room extra : List ℕ) (calls : List Call) (start : ℕ) → AreLaid calls start (length room) →
+all_done-append : (room extra : Bytes) (calls : List Call) (start : ℕ) → AreLaid calls start (length room) →
     all_done (room ++ extra) calls ≡ all_done room calls
 all_done-append room extra [] start h = refl
 all_done-append room extra (c ∷ calls) start h =
@@ -83,7 +83,7 @@ laid-at (c ∷ calls) start end zero d h low = (h.1, h.2, laid_low calls c.to en
 laid-at (c ∷ calls) start end (suc k) d h low = laid-at calls c.to end k d h.3 (omega arith)
 
 -- One call more of those in the room.
-pub done-next : (room : List ℕ) (calls : List Call) (k : ℕ) (d : Call) → k < length calls →
+pub done-next : (room : Bytes) (calls : List Call) (k : ℕ) (d : Call) → k < length calls →
     all_done room (take (k + 1) calls) ≡ all_done room (take k calls) ++ done_in room (get_or calls k d) ∷ []
 done-next room calls k d low =
     ap (all_done room) (take_more calls k d low) ∙ map-append (done_in room) (take k calls) (get_or calls k d ∷ [])

@@ -6,6 +6,7 @@ use Rattle.std.specs.Prelude.{Some, None, cond, if◌then◌else◌}
 use Rattle.std.specs.List.{filter}
 use Rattle.std.proofs.lemmas.List.{drop_more, drop_all, take_all}
 use Rattle.std.proofs.lemmas.List.Elements.{filter-append}
+use Rattle.paw_base.specs.Bytes.{Bytes}
 use Rattle.paw_stage.specs.inner.Done.{DoneCall, is_call, calls_made, first_calls}
 use Rattle.paw_stage.specs.inner.Log.{done_in, all_done, IsEndOf}
 use Rattle.paw_stage.specs.declared.log.Call.{Call}
@@ -37,7 +38,7 @@ made-push ds d =
 
 -- This number of the first k calls are the stage's.
 abbrev pub IsCounted : List Call → ℕ → ℕ → Type 0
-IsCounted calls k made = (made ≤ k) × ((room : List ℕ) → made ≡ calls_made (all_done room (take k calls)))
+IsCounted calls k made = (made ≤ k) × ((room : Bytes) → made ≡ calls_made (all_done room (take k calls)))
 
 pub counted_next : (calls : List Call) (k made now : ℕ) (e : Call) → k < length calls → now ≡ made + one_if (is_call (get_or calls k e).kind) →
     IsCounted calls k made → IsCounted calls (k + 1) now
@@ -53,7 +54,7 @@ counted_next calls k made now e low is h = (
     within false e h = omega arith
 
 pub counted_all : (calls : List Call) (k made : ℕ) → length calls ≤ k → IsCounted calls k made →
-    (room : List ℕ) → made ≡ calls_made (all_done room calls)
+    (room : Bytes) → made ≡ calls_made (all_done room calls)
 counted_all calls k made high h room = h.1 room ∙ ap (λ l. calls_made (all_done room l)) (take_all k calls high)
 
 -- ---- the end of a call ----
@@ -61,7 +62,7 @@ counted_all calls k made high h room = h.1 room ∙ ap (λ l. calls_made (all_do
 -- The first k calls were passed, and this number of calls of the stage stand before the one looked for.
 abbrev pub IsPassed : List Call → ℕ → ℕ → ℕ → Type 0
 IsPassed calls number k before =
-    (room : List ℕ) → (before + calls_made (all_done room calls) ≡ number + calls_made (all_done room (drop k calls)))
+    (room : Bytes) → (before + calls_made (all_done room calls) ≡ number + calls_made (all_done room (drop k calls)))
     × (first_calls (suc number) (all_done room calls)
     ≡ all_done room (take k calls) ++ first_calls (suc before) (all_done room (drop k calls)))
 
@@ -69,7 +70,7 @@ pub passed_none : (calls : List Call) (number : ℕ) → IsPassed calls number 0
 passed_none calls number room = (refl, refl)
 
 -- The next call and those after it.
-rest : (room : List ℕ) (calls : List Call) (k : ℕ) (e : Call) → k < length calls →
+rest : (room : Bytes) (calls : List Call) (k : ℕ) (e : Call) → k < length calls →
     all_done room (drop k calls) ≡ done_in room (get_or calls k e) ∷ all_done room (drop (k + 1) calls)
 rest room calls k e low = ap (all_done room) (drop_more calls k e low)
 

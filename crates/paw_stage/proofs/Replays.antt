@@ -30,7 +30,7 @@ begins kind.End name bytes s m e = e
 begins kind.Show name bytes s m e = (0, e ∙ ap (λ t. record s { shown = t }) (sym (append-nil s.shown)))
 
 -- The disk of a saved file's store.
-not_attached : (a : Option (List ℕ)) (name : Name) (x y : Disk) → a ≢ Some name → (if is_attached a name then x else y) ≡ y
+not_attached : (a : Option Name) (name : Name) (x y : Disk) → a ≢ Some name → (if is_attached a name then x else y) ≡ y
 not_attached None name x y ne = refl
 not_attached (Some n) name x y ne = other (bytes_eq n name) (λ e. ne (ap Some ((bytes_eq-Decides n name).0 e)))
   where
@@ -38,10 +38,10 @@ not_attached (Some n) name x y ne = other (bytes_eq n name) (λ e. ne (ap Some (
     other true h = absurd (h refl)
     other false h = refl
 
-attached_yes : (a : Option (List ℕ)) (name : Name) (x y : Disk) → a ≡ Some name → (if is_attached a name then x else y) ≡ x
+attached_yes : (a : Option Name) (name : Name) (x y : Disk) → a ≡ Some name → (if is_attached a name then x else y) ≡ x
 attached_yes a name x y e = ap (λ o. if is_attached o name then x else y) e ∙ ap (λ b. if b then x else y) ((bytes_eq-Decides name name).1 refl)
 
-pub saves : (s new : Standing) (name : Name) (bytes : Option (List ℕ)) → new ≡ file_replaced name bytes s → Saves s new name bytes
+pub saves : (s new : Standing) (name : Name) (bytes : Option Bytes) → new ≡ file_replaced name bytes s → Saves s new name bytes
 saves s new name bytes e =
     record {
       disk = (file_replaced name bytes s).disk;

@@ -1,5 +1,5 @@
 -- What is seen of a file after one call more.
-use Rattle.std.proofs.Common.{◌≡◌, inl, inr, ℕ, ◌+◌, ◌≤◌, ◌<◌, true, List, length, take, drop, max, min, sym, ap, ◌∙◌}
+use Rattle.std.proofs.Common.{◌≡◌, inl, inr, ℕ, ◌+◌, ◌≤◌, ◌<◌, true, length, take, drop, max, min, sym, ap, ◌∙◌}
 use Rattle.std.proofs.Common.{arith}
 use Rattle.std.proofs.Common.{slice_index}
 use Rattle.std.specs.Prelude.{Option, Some, None, is_some}
@@ -14,7 +14,7 @@ use Rattle.paw_stage.specs.declared.replay.Seen.{Seen}
 use Rattle.paw_stage.proofs.Names.{holds_same}
 use Rattle.paw_stage.proofs.Writes.{length-put, index-put, where_is, laid_before, laid_in, laid_behind}
 
-attached_is : (a : Option (List ℕ)) (name : Name) → is_attached a name ≡ true → a ≡ Some name
+attached_is : (a : Option Name) (name : Name) → is_attached a name ≡ true → a ≡ Some name
 attached_is None name h = cc
 attached_is (Some n) name h = ap Some ((bytes_eq-Decides n name).0 h)
 
@@ -41,7 +41,7 @@ pub sees_written : (s : Standing) (name : Name) (at offset : ℕ) (bytes into ne
     → ((j : ℕ) → j < length into → slice_index new j ≡ laid_over (min offset seen.len) bytes (at + j) (slice_index into j))
     → Sees (with_disk s (disk_written offset (length bytes) bytes s.disk) (length bytes)) name at now new
 sees_written s name at offset bytes into new seen now filed h on is same laid =
-    let old : List ℕ = s.disk.bytes in
+    let old : Bytes = s.disk.bytes in
     let a : s.attached ≡ Some name = attached_is s.attached name (sym h.attached ∙ on) in
     let f : s.files name ≡ Some old = filed name a in
     let g : store_holding s.attached (put_at offset bytes old) s.files name ≡ Some (put_at offset bytes old) =
@@ -65,7 +65,7 @@ pub filled : (s : Standing) (name : Name) (at n : ℕ) (seen : Seen) (into : Byt
     length into ≡ n → at + n ≤ length (bytes_or_none (s.files name)) →
     into ≡ take n (drop at (bytes_or_none (s.files name)))
 filled s name at n seen into h size within =
-    let bytes : List ℕ = bytes_or_none (s.files name) in
+    let bytes : Bytes = bytes_or_none (s.files name) in
     let long : length (take n (drop at bytes)) ≡ n = omega (arith, length-take n (drop at bytes), length-drop at bytes) in
     ext_get_or 0 into (take n (drop at bytes)) (omega (arith, long, size)) (λ j low.
     h.bytes j low (omega (arith, low, size, h.len)) ∙ sym (get_or-take n (drop at bytes) j 0 (omega (arith, low, size)) ∙ get_or-drop at bytes j 0))

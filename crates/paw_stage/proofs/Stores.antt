@@ -91,7 +91,7 @@ IsQuiet kind.Attach = ⊥
 IsQuiet kind.Sync = ⊥
 IsQuiet _ = Unit {0}
 
-kept_finds : (room : List ℕ) (ds : List DoneCall) (d : DoneCall) (store : Option Store) → FindsStore room ds store →
+kept_finds : (room : Bytes) (ds : List DoneCall) (d : DoneCall) (store : Option Store) → FindsStore room ds store →
     (standing_after (after fresh ds) d).attached ≡ (after fresh ds).attached →
     (standing_after (after fresh ds) d).disk.synced ≡ (after fresh ds).disk.synced
     → ((i : ℕ) → is_dirty (standing_after (after fresh ds) d).disk.dirty i
@@ -100,7 +100,7 @@ kept_finds : (room : List ℕ) (ds : List DoneCall) (d : DoneCall) (store : Opti
 kept_finds room ds d None h ea es ed = ap (λ (s : Standing). s.attached) (after-push fresh ds d) ∙ (ea ∙ h)
 kept_finds room ds d (Some store) h ea es ed = (h.0, kept_store ds d _ store.synced h.1 ea es ed)
 
-pub quiet_finds : (room : List ℕ) (ds : List DoneCall) (k : CallKind) (name bytes : Bytes) (store : Option Store) → IsQuiet k →
+pub quiet_finds : (room : Bytes) (ds : List DoneCall) (k : CallKind) (name bytes : Bytes) (store : Option Store) → IsQuiet k →
     FindsStore room ds store → FindsStore room (ds ++ record { kind = k; name = name; bytes = bytes } ∷ []) store
 quiet_finds room ds kind.Add name bytes store q h = absurd q
 quiet_finds room ds kind.Load name bytes store q h = kept_finds room ds (record { kind = kind.Load; name = name; bytes = bytes }) store h refl refl (λ i. refl)
@@ -115,7 +115,7 @@ quiet_finds room ds kind.End name bytes store q h = kept_finds room ds (record {
 quiet_finds room ds kind.Show name bytes store q h = kept_finds room ds (record { kind = kind.Show; name = name; bytes = bytes }) store h refl refl (λ i. refl)
 
 -- So does a call that lies in this room.
-pub quiet_call_finds : (room : List ℕ) (ds : List DoneCall) (call : Call) (store : Option Store) → IsQuiet call.kind → FindsStore room ds store
+pub quiet_call_finds : (room : Bytes) (ds : List DoneCall) (call : Call) (store : Option Store) → IsQuiet call.kind → FindsStore room ds store
     → FindsStore room (ds ++ done_in room call ∷ []) store
 quiet_call_finds room ds call store q h =
     quiet_finds room ds call.kind (slice_range room call.from call.mid) (slice_range room call.mid call.to) store q h
@@ -146,7 +146,7 @@ saved_same ds k name bytes n w h =
           (sym e) (settled_store ds (record { kind = kind.Save; name = name; bytes = bytes }) name bytes h.attached disk)
     ]
 
-pub saved_here : (ds : List DoneCall) (k : CallKind) (called name bytes : List ℕ) (n done : ℕ) → called ≡ name →
+pub saved_here : (ds : List DoneCall) (k : CallKind) (called name bytes : Bytes) (n done : ℕ) → called ≡ name →
     done ≡ length ds + 1 → (k ≡ kind.Add) ⊎ (k ≡ kind.Save) → IsStore ds name n →
     IsStore (ds ++ record { kind = k; name = called; bytes = bytes } ∷ []) name done
 saved_here ds k called name bytes n done e count w h =
@@ -181,6 +181,6 @@ saved_none ds k name bytes w h = elim w [
 ]
 
 -- The name of the attached store stands in the room.
-pub found_named : (room : List ℕ) (ds : List DoneCall) (store : Option Store) → FindsStore room ds store → IsNamed room store
+pub found_named : (room : Bytes) (ds : List DoneCall) (store : Option Store) → FindsStore room ds store → IsNamed room store
 found_named room ds None h = tt
 found_named room ds (Some store) h = h.0

@@ -1,5 +1,5 @@
 -- Bytes of a store that was written to.
-use Rattle.std.proofs.Common.{◌≡◌, ◌⊎◌, inl, inr, ℕ, ◌+◌, ◌-◌, ◌≤◌, ◌<◌, true, false, List, ◌++◌, length, take, drop}
+use Rattle.std.proofs.Common.{◌≡◌, ◌⊎◌, inl, inr, ℕ, ◌+◌, ◌-◌, ◌≤◌, ◌<◌, true, false, ◌++◌, length, take, drop}
 use Rattle.std.proofs.Common.{min, max, sym, ap, ◌∙◌, arith}
 use Rattle.std.proofs.Common.{length-append, get_or, slice_index}
 use Rattle.std.specs.Prelude.{nat_le, nat_lt, ◌&&◌, if◌then◌else◌, replicate}
@@ -12,7 +12,7 @@ use Rattle.paw_stage.specs.inner.Crash.{spoiled_if}
 use Rattle.paw_stage.specs.Disk.{put_at}
 use Rattle.paw_stage.specs.inner.Seen.{laid_over}
 
-pub length-put : (at : ℕ) (new old : List ℕ) → length (put_at at new old) ≡ max (length old) (min at (length old) + length new)
+pub length-put : (at : ℕ) (new old : Bytes) → length (put_at at new old) ≡ max (length old) (min at (length old) + length new)
 length-put at new old =
     let a : length ((take at old ++ new) ++ drop (at + length new) old)
     ≡ length (take at old ++ new) + length (drop (at + length new) old) =
@@ -38,7 +38,7 @@ laid_behind p bytes i old h =
     let t : (nat_le p i && nat_lt i (p + length bytes)) ≡ false = grind (arith, nat_tests) in ap (λ b. if b then slice_index bytes (i - p) else old) t
 
 -- The old bytes after the new ones stay.
-behind : (at n : ℕ) (old : List ℕ) (i : ℕ) → min at (length old) + n ≤ i → get_or old (at + n + (i - (min at (length old) + n))) 0 ≡ get_or old i 0
+behind : (at n : ℕ) (old : Bytes) (i : ℕ) → min at (length old) + n ≤ i → get_or old (at + n + (i - (min at (length old) + n))) 0 ≡ get_or old i 0
 behind at n old i high =
     elim (near at (length old)) [
       | inl h ↦ (let e : at + n + (i - (min at (length old) + n)) ≡ i = omega arith in ap (λ k. get_or old k 0) e)
@@ -50,7 +50,7 @@ behind at n old i high =
     near a b = grind arith
 
 -- New bytes lie over the old ones, or right after them where the offset lies past their end.
-pub index-put : (at : ℕ) (new old : List ℕ) (i : ℕ) → slice_index (put_at at new old) i ≡ laid_over (min at (length old)) new i (slice_index old i)
+pub index-put : (at : ℕ) (new old : Bytes) (i : ℕ) → slice_index (put_at at new old) i ≡ laid_over (min at (length old)) new i (slice_index old i)
 index-put at new old i =
     let t : length (take at old) ≡ min at (length old) = length-take at old in
     let b : length (take at old ++ new) ≡ min at (length old) + length new = length-append (take at old) new ∙ ap (λ k. k + length new) t in
@@ -76,7 +76,7 @@ pub lays : (offset at from to : ℕ) (bytes into new : Bytes) (j : ℕ) → from
     to ≡ min (offset - at) (length into) → new ≡ put_at to (take (length into - to) (drop from bytes)) into →
     j < length into → slice_index new j ≡ laid_over offset bytes (at + j) (slice_index into j)
 lays offset at from to bytes into new j ef et e low =
-    let part : List ℕ = take (length into - to) (drop from bytes) in
+    let part : Bytes = take (length into - to) (drop from bytes) in
     let n : length part ≡ min (length into - to) (length bytes - from) =
     omega (arith, length-take (length into - to) (drop from bytes), length-drop from bytes) in
     let m : min to (length into) ≡ to = omega arith in
@@ -95,12 +95,12 @@ lays offset at from to bytes into new j ef et e low =
     ]))
 
 -- Another value laid over n bytes, as far as they go.
-pub spoils : (offset p n : ℕ) (store new : List ℕ) (j : ℕ) → p ≡ min offset (length store) →
+pub spoils : (offset p n : ℕ) (store new : Bytes) (j : ℕ) → p ≡ min offset (length store) →
     new ≡ put_at p (replicate (min n (length store - p)) 255) store → j < length store →
     slice_index new j ≡ spoiled_if (nat_le offset j && nat_lt j (offset + n)) (slice_index store j)
 spoils offset p n store new j ep e low =
     let m : ℕ = min n (length store - p) in
-    let gone : List ℕ = replicate m 255 in
+    let gone : Bytes = replicate m 255 in
     let size : length gone ≡ m = length-replicate m 255 in
     let is : min p (length store) ≡ p = omega arith in
     ap (λ l. slice_index l j) e ∙ (index-put p gone store j ∙ (ap (λ k. laid_over k gone j (slice_index store j)) is ∙ elim (where_is j offset n) [

@@ -90,7 +90,7 @@ line_length n line size low = omega (arith, length-take n line)
 pub held_again : (g : GameLists) (o : Option Position) → IsHeldOf g o → position_in (length g.objects) (position_field_of o) ≡ o
 held_again g None h = refl
 held_again g (Some q) h =
-    let at : List ℕ → Option Position = λ places. Some (record { flags = q.flags; places = places }) in
+    let at : ObjectPlaces → Option Position = λ places. Some (record { flags = q.flags; places = places }) in
     ap at (take_filled (length g.objects) q.places h.each)
 
 pub kept_again : (g : GameLists) (kept : List (Option Position)) → All (IsHeldOf g) kept → map (position_in (length g.objects)) (map position_field_of kept) ≡ kept

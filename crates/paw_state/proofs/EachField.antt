@@ -157,7 +157,7 @@ sized_at bytes n h = sized_by (fields_at bytes) (fields_shape_sound.fit bytes 0 
 -- ---- bytes ----
 
 -- The fields that stand in the bytes of fields are these fields.
-pub fields_cut : (f : Fields) (q : List ℕ) → AreSized f → fields_at (field_bytes f ++ q) ≡ f
+pub fields_cut : (f : Fields) (q : Bytes) → AreSized f → fields_at (field_bytes f ++ q) ≡ f
 fields_cut f q s = fields_shape_sound.back f (field_bytes f ++ q) q 0 (fits_of f s) refl
 
 -- The bytes of the fields that stand in some bytes are these bytes.
@@ -202,7 +202,7 @@ same_fields a b flags places saved seed draws events prompt count rows looping t
 -- ---- the length of the piece, and what stands after it ----
 
 -- The bytes before the piece's length.
-pub before_piece : Fields → List ℕ
+pub before_piece : Fields → Bytes
 before_piece f =
     f.flags ++ (f.places ++ ((f.saved.there ∷ []) ++ (f.saved.flags ++ (f.saved.places
     ++ ((to_le_bytes w64 f.seed ++ (to_le_bytes w64 f.draws ++ (to_le_bytes w64 f.events ++ (f.prompt ∷ f.count ∷ []))))
@@ -276,7 +276,7 @@ listed f =
 
 pub bytes_same : (f : Fields) → bytes_of (state_fields f) ≡ field_bytes f
 bytes_same f =
-    let piece : bytes_of (from_piece f) ≡ two_bytes f.piece ++ after_piece f = ap (λ (l : List ℕ). two_bytes f.piece ++ l) (kept_same f.kept) in
+    let piece : bytes_of (from_piece f) ≡ two_bytes f.piece ++ after_piece f = ap (λ (l : Bytes). two_bytes f.piece ++ l) (kept_same f.kept) in
     let pending = join (pending_fields f) (from_piece f) ((f.earlier ∷ f.pending ∷ []) ++ f.line) _ (pending_same f) piece in
     let looping = join (looping_fields f) (from_pending f) ((f.looping ∷ []) ++ loop_shape.bytes f.turning) _ (looping_same f) pending in
     let tables = join (table_fields f) (from_looping f) (flat_map frame_shape.bytes f.rows) _

@@ -1,5 +1,5 @@
 -- The laws of a state's bytes, proved.
-use Rattle.std.proofs.Common.{◌≡◌, ℕ, ◌≤◌, List, [], ◌++◌, Some, None, length, take, drop, sym, ap, ◌∙◌, subst}
+use Rattle.std.proofs.Common.{◌≡◌, ℕ, ◌≤◌, [], ◌++◌, Some, None, length, take, drop, sym, ap, ◌∙◌, subst}
 use Rattle.std.proofs.lemmas.List.{take-append-drop, take_at}
 use Rattle.paw_base.specs.Bytes.{Bytes}
 use Rattle.paw_base.specs.declared.layout.TheConstants.{STATE_LENGTH}
@@ -27,12 +27,12 @@ use Rattle.paw_state.proofs.Ruled.{fields_back, fits_at, sized_of}
 use Rattle.paw_state.proofs.Told.{AreLong}
 
 pub fields_stand : FieldsStand
-fields_stand f rest s = ap (λ (l : List ℕ). fields_at (l ++ rest)) (bytes_same f) ∙ fields_cut f rest s
+fields_stand f rest s = ap (λ (l : Bytes). fields_at (l ++ rest)) (bytes_same f) ∙ fields_cut f rest s
 
 pub one_fault : OneFault
 one_fault g bytes at u =
     let split : bytes ≡ field_bytes u.fields ++ drop STATE_LENGTH bytes =
-    sym (take-append-drop STATE_LENGTH bytes) ∙ ap (λ (l : List ℕ). l ++ drop STATE_LENGTH bytes) (u.are ∙ bytes_same u.fields) in
+    sym (take-append-drop STATE_LENGTH bytes) ∙ ap (λ (l : Bytes). l ++ drop STATE_LENGTH bytes) (u.are ∙ bytes_same u.fields) in
     ap (fields_fault g) (ap fields_at split ∙ fields_cut u.fields (drop STATE_LENGTH bytes) u.sized) ∙ u.fault
 
 -- A fault of the fields at their offsets is the one of the bytes.
@@ -45,7 +45,7 @@ fields_there : (g : GameLists) (s : State) (bytes : Bytes) → Valid g → Follo
     → fields_at bytes ≡ fields_of s
 fields_there g s bytes v k h e =
     let split : bytes ≡ field_bytes (fields_of s) ++ drop STATE_LENGTH bytes =
-    sym (take-append-drop STATE_LENGTH bytes) ∙ ap (λ (l : List ℕ). l ++ drop STATE_LENGTH bytes) (e ∙ state_same s) in
+    sym (take-append-drop STATE_LENGTH bytes) ∙ ap (λ (l : Bytes). l ++ drop STATE_LENGTH bytes) (e ∙ state_same s) in
     ap fields_at split ∙ fields_cut (fields_of s) (drop STATE_LENGTH bytes) (sized_of g s v k h)
 
 pub fit_has_none : (g : GameLists) (bytes : Bytes) → Valid g → Fit g bytes → unfit g bytes ≡ None
@@ -90,7 +90,7 @@ bytes_give_the_state g s t v ks hs kt ht e =
     let a = fields_cut (fields_of s) [] (sized_of g s v es hs) in
     let b = fields_cut (fields_of t) [] (sized_of g t v et ht) in
     let same : field_bytes (fields_of s) ≡ field_bytes (fields_of t) = sym (state_same s) ∙ (e ∙ state_same t) in
-    let f : fields_of s ≡ fields_of t = sym a ∙ (ap (λ (l : List ℕ). fields_at (l ++ [])) same ∙ b) in
+    let f : fields_of s ≡ fields_of t = sym a ∙ (ap (λ (l : Bytes). fields_at (l ++ [])) same ∙ b) in
     sym (fields_back g s es) ∙ (ap (state_in g) f ∙ fields_back g t et)
 
 pub long_state : (g : GameLists) (s : State) → Valid g → IsValidState g s → FitsFields s → AreLong s

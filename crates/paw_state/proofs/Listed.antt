@@ -19,21 +19,21 @@ use Rattle.paw_state.specs.inner.Fields.{frame_shape, loop_shape, position_shape
 pub each_bytes : (h : ℕ → ℕ → GameLists → Bool) (i : ℕ) (bs : Bytes) → bytes_of (one_by_one h i bs) ≡ bs
 unfolding one_by_one
 each_bytes h i [] = refl
-each_bytes h i (b ∷ bs) = ap (λ (l : List ℕ). b ∷ l) (each_bytes h (suc i) bs)
+each_bytes h i (b ∷ bs) = ap (λ (l : Bytes). b ∷ l) (each_bytes h (suc i) bs)
 
 pub there_bytes : (n : ℕ) (fs : List Field) → bytes_of (if_there n fs) ≡ bytes_of fs
 unfolding if_there
 there_bytes n [] = refl
-there_bytes n (f ∷ fs) = ap (λ (l : List ℕ). f.bytes ++ l) (there_bytes n fs)
+there_bytes n (f ∷ fs) = ap (λ (l : Bytes). f.bytes ++ l) (there_bytes n fs)
 
-pub join : (xs ys : List Field) (x y : List ℕ) → bytes_of xs ≡ x → bytes_of ys ≡ y → bytes_of (xs ++ ys) ≡ x ++ y
-join xs ys x y e k = flat_map-append (λ (f : Field). f.bytes) xs ys ∙ (ap (λ (l : List ℕ). l ++ bytes_of ys) e ∙ ap (λ (l : List ℕ). x ++ l) k)
+pub join : (xs ys : List Field) (x y : Bytes) → bytes_of xs ≡ x → bytes_of ys ≡ y → bytes_of (xs ++ ys) ≡ x ++ y
+join xs ys x y e k = flat_map-append (λ (f : Field). f.bytes) xs ys ∙ (ap (λ (l : Bytes). l ++ bytes_of ys) e ∙ ap (λ (l : Bytes). x ++ l) k)
 
 pub held_same : (h : PositionField) → bytes_of (position_fields h) ≡ position_shape.bytes h
 held_same h =
     let flags = flag_fields h.flags in
     let places = place_fields h.places in
-    ap (λ (l : List ℕ). h.there ∷ l)
+    ap (λ (l : Bytes). h.there ∷ l)
     (there_bytes h.there (flags ++ places)
     ∙ join flags places h.flags h.places (each_bytes (λ i flag g. true) 0 h.flags) (each_bytes place_holds 0 h.places))
 
@@ -57,7 +57,7 @@ pub loop_same : (f : Fields) (l : OpenLoop) → bytes_of (loop_fields f l) ≡ l
 loop_same f l = there_bytes f.looping _
 
 pub pending_same : (f : Fields) → bytes_of (pending_fields f) ≡ (f.earlier ∷ f.pending ∷ []) ++ f.line
-pending_same f = ap (λ (l : List ℕ). f.earlier ∷ f.pending ∷ l) (each_bytes _ 0 f.line)
+pending_same f = ap (λ (l : Bytes). f.earlier ∷ f.pending ∷ l) (each_bytes _ 0 f.line)
 
 pub looping_same : (f : Fields) → bytes_of (looping_fields f) ≡ (f.looping ∷ []) ++ loop_shape.bytes f.turning
-looping_same f = ap (λ (l : List ℕ). f.looping ∷ l) (loop_same f f.turning)
+looping_same f = ap (λ (l : Bytes). f.looping ∷ l) (loop_same f f.turning)

@@ -1,5 +1,5 @@
 -- Ranges of bytes, one after the other.
-use Rattle.std.proofs.Common.{◌≡◌, ℕ, zero, suc, ◌+◌, ◌-◌, ◌<◌, ◌≤◌, List, [], ◌∷◌, ◌++◌, length, take, drop}
+use Rattle.std.proofs.Common.{◌≡◌, ℕ, zero, suc, ◌+◌, ◌-◌, ◌<◌, ◌≤◌, [], ◌∷◌, ◌++◌, length, take, drop}
 use Rattle.std.proofs.Common.{get_or, sym, ap, ◌∙◌, add-zero, lit<, arith}
 use Rattle.std.specs.Prelude.{slice_index, slice_range}
 use Rattle.std.proofs.Math.Seq.{take-add, drop-cons}
@@ -11,19 +11,19 @@ use Rattle.paw_state.specs.State.{AreBytes}
 -- ---- what stands at an offset of bytes ----
 
 -- The range that these bytes fill.
-pub range_is : (bytes x q : List ℕ) (at n : ℕ) → drop at bytes ≡ x ++ q → length x ≡ n → slice_range bytes at (at + n) ≡ x
+pub range_is : (bytes x q : Bytes) (at n : ℕ) → drop at bytes ≡ x ++ q → length x ≡ n → slice_range bytes at (at + n) ≡ x
 range_is bytes x q at n h k =
     let m : at + n - at ≡ n = omega arith in
     rw m (ap (take n) h ∙ take_at x q n k)
 
 -- What follows them.
-pub behind : (bytes x q : List ℕ) (at n : ℕ) → drop at bytes ≡ x ++ q → length x ≡ n → drop (at + n) bytes ≡ q
+pub behind : (bytes x q : Bytes) (at n : ℕ) → drop at bytes ≡ x ++ q → length x ≡ n → drop (at + n) bytes ≡ q
 behind bytes x q at n h k = sym (drop-drop n at bytes) ∙ (ap (drop n) h ∙ drop_at x q n k)
 
 -- One byte.
-pub byte_is : (bytes q : List ℕ) (at b : ℕ) → drop at bytes ≡ b ∷ q → slice_index bytes at ≡ b
+pub byte_is : (bytes q : Bytes) (at b : ℕ) → drop at bytes ≡ b ∷ q → slice_index bytes at ≡ b
 byte_is bytes q at b h =
-    ap (λ (i : ℕ). get_or bytes i 0) (sym (add-zero at)) ∙ (sym (get_or-drop at bytes 0 0) ∙ ap (λ (l : List ℕ). get_or l 0 0) h)
+    ap (λ (i : ℕ). get_or bytes i 0) (sym (add-zero at)) ∙ (sym (get_or-drop at bytes 0 0) ∙ ap (λ (l : Bytes). get_or l 0 0) h)
 
 -- ---- ranges ----
 
@@ -35,7 +35,7 @@ range_join bytes a b c low high =
     let e : take (b - a + (c - b)) (drop a bytes)
     ≡ slice_range bytes a b ++ take (c - b) (drop (b - a) (drop a bytes)) = take-add (b - a) (c - b) (drop a bytes) in
     let f : drop (b - a) (drop a bytes) ≡ drop b bytes = drop-drop (b - a) a bytes ∙ ap (λ (i : ℕ). drop i bytes) m in
-    sym (ap (λ (l : List ℕ). slice_range bytes a b ++ take (c - b) l) f) ∙ (sym e ∙ ap (λ (i : ℕ). take i (drop a bytes)) n)
+    sym (ap (λ (l : Bytes). slice_range bytes a b ++ take (c - b) l) f) ∙ (sym e ∙ ap (λ (i : ℕ). take i (drop a bytes)) n)
 
 -- One byte as a range.
 pub byte_range : (bytes : Bytes) (at : ℕ) → at < length bytes → slice_index bytes at ∷ [] ≡ slice_range bytes at (at + 1)

@@ -1,6 +1,6 @@
 -- What takes the rules of a state one by one: the first fault of its fields, and the state that fields without a fault
 -- say.
-use Rattle.std.proofs.Common.{◌≡◌, ℕ, ◌+◌, ◌*◌, ◌<◌, ◌≤◌, List, ◌∷◌, length, take, drop, refl, ap, arith, suc, ◌-◌}
+use Rattle.std.proofs.Common.{◌≡◌, ℕ, ◌+◌, ◌*◌, ◌<◌, ◌≤◌, ◌∷◌, length, take, drop, refl, ap, arith, suc, ◌-◌}
 use Rattle.std.proofs.Common.{Bool, true, Option, None, sym, ◌∙◌, ◌==◌, ◌||◌, false, not, is_some, nat_le, map, get_or}
 use Rattle.std.proofs.Common.{[], subst}
 use Rattle.std.proofs.lemmas.Bool.{leb-true, le-leb}
@@ -339,7 +339,7 @@ each_of g s k =
       frames = subst (λ (x : Frames). fault_at g (waiting_code s.prompt) x ≡ None) frames
           (subst (λ (p : Prompt). fault_at g (waiting_code p) (frames_in f) ≡ None) (prompt_again s.prompt) (frames_kept g f sound));
       line = k.line;
-      pending = subst (λ (l : List ℕ). IfNone (waiting_code s.prompt) (l ≡ [])) (take_filled (length s.pending.bytes) s.pending.bytes refl)
+      pending = subst (λ (l : Bytes). IfNone (waiting_code s.prompt) (l ≡ [])) (take_filled (length s.pending.bytes) s.pending.bytes refl)
           (subst (λ (p : Prompt). IfNone (waiting_code p) (take (length s.pending.bytes) (filled_with_zeros LINE_LIMIT s.pending.bytes) ≡ []))
           (prompt_again s.prompt)
           (line_kept (waiting_code (prompt_of f.prompt)) (length s.pending.bytes) (filled_with_zeros LINE_LIMIT s.pending.bytes) sound.pending));

@@ -17,7 +17,7 @@ use Rattle.paw_state.specs.inner.Faults.{called_table}
 -- ---- bytes ----
 
 -- The bytes from number i on have the first fault of all.
-abbrev pub Looked : (ℕ → Bool) → ℕ → ℕ → List ℕ → Type 0
+abbrev pub Looked : (ℕ → Bool) → ℕ → ℕ → Bytes → Type 0
 Looked p at i bytes = first_not p (at + i) (drop i bytes) ≡ first_not p at bytes
 
 one : (p : ℕ → Bool) (at b : ℕ) (bs : Bytes) → first_not p at (b ∷ bs) ≡ (if p b then first_not p (suc at) bs else Some at)

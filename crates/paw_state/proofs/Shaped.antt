@@ -73,8 +73,8 @@ pair_sound {A = A} {B = B} c d s t = record {
       both;
   read = λ bytes at low h.
       let end : at + c.size + d.size ≡ at + (c.size + d.size) = omega arith in
-      ap (λ (l : List ℕ). l ++ d.bytes (d.value bytes (at + c.size))) (s.read bytes at (omega (arith, low)) h)
-      ∙ (ap (λ (l : List ℕ). slice_range bytes at (at + c.size) ++ l) (t.read bytes (at + c.size) (omega (arith, low)) h)
+      ap (λ (l : Bytes). l ++ d.bytes (d.value bytes (at + c.size))) (s.read bytes at (omega (arith, low)) h)
+      ∙ (ap (λ (l : Bytes). slice_range bytes at (at + c.size) ++ l) (t.read bytes (at + c.size) (omega (arith, low)) h)
       ∙ (range_join bytes at (at + c.size) (at + c.size + d.size) (omega arith) (omega arith) ∙ ap (slice_range bytes at) end));
   fit = λ bytes at low h. (s.fit bytes at (omega (arith, low)) h, t.fit bytes (at + c.size) (omega (arith, low)) h);
 }
@@ -121,8 +121,8 @@ times_read c s zero bytes at low h =
     ap (λ (i : ℕ). take i (drop at bytes)) (sym none)
 times_read c s (suc n) bytes at low h =
     let end : at + c.size + n * c.size ≡ at + suc n * c.size = omega arith in
-    ap (λ (l : List ℕ). l ++ flat_map c.bytes (values_at c n bytes (at + c.size))) (s.read bytes at (omega (arith, low)) h)
-    ∙ (ap (λ (l : List ℕ). slice_range bytes at (at + c.size) ++ l) (times_read c s n bytes (at + c.size) (omega (arith, low)) h)
+    ap (λ (l : Bytes). l ++ flat_map c.bytes (values_at c n bytes (at + c.size))) (s.read bytes at (omega (arith, low)) h)
+    ∙ (ap (λ (l : Bytes). slice_range bytes at (at + c.size) ++ l) (times_read c s n bytes (at + c.size) (omega (arith, low)) h)
     ∙ (range_join bytes at (at + c.size) (at + c.size + n * c.size) (omega arith) (omega arith) ∙ ap (slice_range bytes at) end))
 
 times_fit : {A : Type 0} → (c : Shape A) → IsSound c → (n : ℕ) (bytes : Bytes) (at : ℕ) → at + n * c.size ≤ length bytes → AreBytes bytes

@@ -1,5 +1,5 @@
 -- The two bytes of a state that give the length of the piece.
-use Rattle.std.proofs.Common.{◌≡◌, ℕ, ◌+◌, ◌*◌, ◌<◌, ◌^◌, List, ◌++◌, length, take, drop, get_or, sym, ap}
+use Rattle.std.proofs.Common.{◌≡◌, ℕ, ◌+◌, ◌*◌, ◌<◌, ◌^◌, ◌++◌, length, take, drop, get_or, sym, ap}
 use Rattle.std.proofs.Common.{◌∙◌, arith, length-append, ◌-◌, subst}
 use Rattle.std.proofs.lemmas.List.{get_or_append_left, get_or-append-add, take-append-drop}
 use Rattle.paw_base.specs.Bytes.{Bytes}
@@ -15,7 +15,7 @@ use Rattle.paw_state.specs.inner.Fields.{after_piece, field_bytes}
 use Rattle.paw_state.proofs.EachField.{before_piece, state_ends}
 
 -- The two bytes from 1,369 on.
-two_there : (front : List ℕ) (n : ℕ) (q : List ℕ) → length front ≡ PIECE → n < 2 ^ 16
+two_there : (front : Bytes) (n : ℕ) (q : Bytes) → length front ≡ PIECE → n < 2 ^ 16
     → get_or (front ++ (two_bytes n ++ q)) PIECE 0 + 256 * get_or (front ++ (two_bytes n ++ q)) (PIECE + 1) 0 ≡ n
 two_there front n q l h =
     let bytes = front ++ (two_bytes n ++ q) in
@@ -25,7 +25,7 @@ two_there front n q l h =
     ap (λ k. get_or bytes k 0) (omega (arith, l)) ∙ get_or-append-add front (two_bytes n ++ q) 1 0 in
     rw (a, b) (grind (arith))
 
-front_long : (front : List ℕ) (n : ℕ) (q : List ℕ) → length (front ++ (two_bytes n ++ q)) ≡ STATE_LENGTH → length q ≡ STATE_LENGTH - (PIECE + 2)
+front_long : (front : Bytes) (n : ℕ) (q : Bytes) → length (front ++ (two_bytes n ++ q)) ≡ STATE_LENGTH → length q ≡ STATE_LENGTH - (PIECE + 2)
     → length front ≡ PIECE
 front_long front n q l k =
     let m = length-append front (two_bytes n ++ q) in
@@ -79,7 +79,7 @@ written_state : (s : State) (f : Fields) (into : Bytes) → FitsFields s → f �
     → length into ≡ STATE_ROOM → length (after_piece f) ≡ STATE_LENGTH - KEPT → IsWritten s into
 written_state s f into h same is room later =
     let value : into ≡ state_bytes s ++ zeros (STATE_ROOM - STATE_LENGTH) =
-    is ∙ ap (λ (l : List ℕ). l ++ zeros (STATE_ROOM - STATE_LENGTH)) (ap field_bytes same ∙ sym (state_same s)) in
+    is ∙ ap (λ (l : Bytes). l ++ zeros (STATE_ROOM - STATE_LENGTH)) (ap field_bytes same ∙ sym (state_same s)) in
     let long : AreLong s = record {
       all = buffer_long (state_bytes s) into value room;
       behind = ap (λ (x : Fields). length (after_piece x)) (sym same) ∙ later;

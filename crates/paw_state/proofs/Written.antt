@@ -26,7 +26,7 @@ drop-zeros n m = drop-replicate n m 0
 
 -- ---- a field more ----
 
-pub zeros_behind : (bytes field : List ℕ) (count : ℕ) → count + length field ≤ STATE_ROOM → length bytes ≡ STATE_ROOM →
+pub zeros_behind : (bytes field : Bytes) (count : ℕ) → count + length field ≤ STATE_ROOM → length bytes ≡ STATE_ROOM →
     drop count bytes ≡ zeros (STATE_ROOM - count)
     → drop (count + length field) (put_mid count (count + length field - count) bytes field) ≡ zeros (STATE_ROOM - (count + length field))
 zeros_behind bytes field count room size behind =
@@ -36,11 +36,11 @@ zeros_behind bytes field count room size behind =
     ∙ (sym (drop-drop (length field) count bytes)
     ∙ (ap (drop (length field)) behind ∙ (drop-zeros (length field) (STATE_ROOM - count) ∙ ap zeros n)))
 
-pub one_more : (bytes field old : List ℕ) (count : ℕ) → count + length field ≤ STATE_ROOM → length bytes ≡ STATE_ROOM → take count bytes ≡ old
+pub one_more : (bytes field old : Bytes) (count : ℕ) → count + length field ≤ STATE_ROOM → length bytes ≡ STATE_ROOM → take count bytes ≡ old
     → take (count + length field) (put_mid count (count + length field - count) bytes field) ≡ old ++ field
 one_more bytes field old count room size h =
     take-put_mid count (count + length field - count) bytes field (count + length field) refl (omega arith)
-    ∙ ap (λ (l : List ℕ). l ++ field) h
+    ∙ ap (λ (l : Bytes). l ++ field) h
 
 -- What was written has its count of bytes.
 pub count_of : (bytes old : Bytes) (count : ℕ) → count ≤ STATE_ROOM → length bytes ≡ STATE_ROOM → take count bytes ≡ old → length old ≡ count
@@ -53,7 +53,7 @@ three w0 w1 w2 w3 x y z e f g = rw (g, f, e) (simp append_assoc)
 
 -- Bytes in front of 255 zeros.
 pub filled_behind : (bytes new : Bytes) → new ≡ bytes → new ++ drop (length bytes) (replicate 255 0) ≡ filled_with_zeros 255 bytes
-filled_behind bytes new h = rw (h, zeros_all 255) (ap (λ (l : List ℕ). bytes ++ l) (drop-zeros (length bytes) 255))
+filled_behind bytes new h = rw (h, zeros_all 255) (ap (λ (l : Bytes). bytes ++ l) (drop-zeros (length bytes) 255))
 
 -- ---- frames ----
 
@@ -61,7 +61,7 @@ pub length-frames : (rows : List FrameField) → length (flat_map frame_shape.by
 length-frames [] = refl
 length-frames (r ∷ rs) = length-append (frame_shape.bytes r) (flat_map frame_shape.bytes rs) ∙ (ap (λ n. FRAME_LENGTH + n) (length-frames rs) ∙ omega arith)
 
-pub room_for_frame : (rows : List FrameField) (old new : List ℕ) (i : ℕ) → i < length rows → length rows ≡ MOST_FRAMES
+pub room_for_frame : (rows : List FrameField) (old new : Bytes) (i : ℕ) → i < length rows → length rows ≡ MOST_FRAMES
     → new ≡ old ++ flat_map frame_shape.bytes (take i rows)
     → length old + MOST_FRAMES * FRAME_LENGTH ≤ STATE_ROOM → length new + FRAME_LENGTH ≤ STATE_ROOM
 room_for_frame rows old new i low size h room =

@@ -1,4 +1,5 @@
-use Rattle.std.proofs.Common.{◌≡◌, ◌++◌, ◌∙◌, List, ℕ, refl, sym, ap, subst}
+use Rattle.std.proofs.Common.{◌≡◌, ◌++◌, ◌∙◌, refl, sym, ap, subst}
+use Rattle.paw_base.specs.Bytes.{Bytes}
 use Rattle.paw_stage.specs.Stage.{Standing}
 use Rattle.paw_stage.proofs.Time.{Passes_map, Passes_none}
 use Rattle.paw_journal.specs.Session.{Digests, Recovered, Shown}
@@ -13,10 +14,10 @@ use Rattle.paw_host.proofs.Sitting.{shows_by}
 use Rattle.paw_host.proofs.Opening.{sits, first_answer, first_stands, first_refused, in_beginning}
 use Rattle.paw_host.proofs.answer.begin_session.Goals as goal
 
-same_digests : (a b c d : List ℕ) → a ≡ c → b ≡ d → digests_of a b ≡ digests_of c d
+same_digests : (a b c d : Bytes) → a ≡ c → b ≡ d → digests_of a b ≡ digests_of c d
 same_digests a b c d e f = ap (λ x. digests_of x b) e ∙ ap (digests_of c) f
 
-same_shown : (d e : Digests) (s t p q : List ℕ) → d ≡ e → s ≡ t → p ≡ q → ◌≡◌ {A = Recovered} (Shown d s p) (Shown e t q)
+same_shown : (d e : Digests) (s t p q : Bytes) → d ≡ e → s ≡ t → p ≡ q → ◌≡◌ {A = Recovered} (Shown d s p) (Shown e t q)
 same_shown d e s t p q a b c = ap (λ x. Shown x s p) a ∙ ap (λ x. Shown e x p) b ∙ ap (λ x. Shown e t x) c
 
 pub returns-in-Some-clause-leaves : goal.returns-in-Some-clause-leaves

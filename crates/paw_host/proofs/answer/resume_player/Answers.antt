@@ -1,6 +1,7 @@
-use Rattle.std.proofs.Common.{◌≡◌, ◌≤◌, ◌+◌, ◌*◌, List, ℕ, refl, sym, ap, subst}
+use Rattle.std.proofs.Common.{◌≡◌, ◌≤◌, ◌+◌, ◌*◌, refl, sym, ap, subst}
 use Rattle.std.specs.Prelude.{Result, Ok, Err, IsOk}
 use Rattle.sha2.specs.Sha256.{sha256}
+use Rattle.paw_base.specs.Bytes.{Bytes}
 use Rattle.paw_base.specs.declared.limits.TheConstants.{READ_LIMIT}
 use Rattle.paw_game.specs.Game.{GameLists}
 use Rattle.paw_game.specs.Image.{image}
@@ -57,7 +58,7 @@ stays_at : {F : Type 0} (w : World) (m : OpenTables) (p : PendingLine) (at : Pro
 stays_at {F} w m p at old new seated is =
     record { seated = seated; game = ap (λ (q : PlayerView F). q.game) is; routines = ap (λ (q : PlayerView F). q.routines) is }
 
-of_story : (g : Story) (game rules bytes : List ℕ) → game ≡ sha256 (image g.game) → rules ≡ measure g.answers → BelongsTo game rules (kept_digests bytes) →
+of_story : (g : Story) (game rules bytes : Bytes) → game ≡ sha256 (image g.game) → rules ≡ measure g.answers → BelongsTo game rules (kept_digests bytes) →
     IsOfStory g (kept_digests bytes)
 of_story g game rules bytes e f b = subst (λ x. BelongsTo x (measure g.answers) (kept_digests bytes)) e (subst (λ x. BelongsTo game x (kept_digests bytes)) f b)
 

@@ -1,4 +1,5 @@
-use Rattle.std.proofs.Common.{◌≡◌, ◌+◌, ◌++◌, ℕ, List, ap, ◌∙◌}
+use Rattle.std.proofs.Common.{◌≡◌, ◌+◌, ◌++◌, ap, ◌∙◌}
+use Rattle.paw_base.specs.Bytes.{Bytes}
 use Rattle.paw_journal.specs.inner.Room.{Room}
 use Rattle.paw_journal.specs.Session.{zeros}
 use Rattle.paw_journal.proofs.Slots.{added_zeros}
@@ -9,7 +10,7 @@ returns c =
     let longer : c.resize.new.self.items ≡ c.self.inside.slot.items ++ zeros c.args.count =
     added_zeros _ _ _ _ c.args.count c.self.inside.slot.ok.0 (ap (λ n. n + c.args.count) c.len.ensures) c.unwrap.ensures
     c.resize.ensures.items in
-    let with_slot : List ℕ → Room = λ l.
+    let with_slot : Bytes → Room = λ l.
     record {
       slot = l;
       state = c.self.inside.state;

@@ -1,5 +1,6 @@
-use Rattle.std.proofs.Common.{◌≡◌, List, ℕ, ◌++◌, length, ap, ◌∙◌, arith}
+use Rattle.std.proofs.Common.{◌≡◌, ◌++◌, length, ap, ◌∙◌, arith}
 use Rattle.std.specs.Int.{w64, to_le_bytes}
+use Rattle.paw_base.specs.Bytes.{Bytes}
 use Rattle.paw_state.proofs.Written.{three}
 use Rattle.paw_state.proofs.fields.Fields.put_numbers.Goals as goal
 
@@ -12,9 +13,9 @@ returns c = record {
       record {
         puts = three c.args.writer.now c.put.new.self c.put-2.new.self c.put-3.new.self
             (to_le_bytes w64 c.args.self.now.seed) (to_le_bytes w64 c.args.self.now.draws) (to_le_bytes w64 c.args.self.now.events)
-            (c.put.ensures.writes.puts ∙ ap (λ (l : List ℕ). c.args.writer.now ++ l) c.to_le_bytes.ensures)
-            (c.put-2.ensures.writes.puts ∙ ap (λ (l : List ℕ). c.put.new.self ++ l) c.to_le_bytes-2.ensures)
-            (c.put-3.ensures.writes.puts ∙ ap (λ (l : List ℕ). c.put-2.new.self ++ l) c.to_le_bytes-3.ensures);
+            (c.put.ensures.writes.puts ∙ ap (λ (l : Bytes). c.args.writer.now ++ l) c.to_le_bytes.ensures)
+            (c.put-2.ensures.writes.puts ∙ ap (λ (l : Bytes). c.put.new.self ++ l) c.to_le_bytes-2.ensures)
+            (c.put-3.ensures.writes.puts ∙ ap (λ (l : Bytes). c.put-2.new.self ++ l) c.to_le_bytes-3.ensures);
         long = omega (arith, c.put.ensures.writes.long, c.put-2.ensures.writes.long, c.put-3.ensures.writes.long);
       };
 }
