@@ -2,7 +2,7 @@
 use Rattle.std.proofs.Common.{◌≡◌, ◌≢◌, ℕ, suc, ◌+◌, ◌<◌, Bool, true, false, List, Option, refl, slice_get, length}
 use Rattle.std.proofs.Common.{All, IsTrue, arith}
 use Rattle.std.proofs.Math.Nat.{min-le_left}
-use Rattle.paw_base.specs.Bytes.{RoutineAnswers, Seed}
+use Rattle.paw_base.specs.Bytes.{RoutineAnswers, Seed, Text}
 use Rattle.paw_base.specs.declared.codes.TheConstants.{QUIT, SAVE, PLACE, PUTO}
 use Rattle.paw_base.specs.declared.flags.TheConstants.{VERB_FLAG, REFERRED_FLAG, LOCATION_FLAG}
 use Rattle.paw_base.specs.declared.parts.Condact.{Condact}
@@ -88,7 +88,7 @@ chance code so = record {
 }
 
 -- An action that changes nothing.
-still : (code : ℕ) (text : Story → World → Condact → List ℕ) (act : Story → World → Condact → Act)
+still : (code : ℕ) (text : Story → World → Condact → Text) (act : Story → World → Condact → Act)
     → ((s : Story) (w : World) (c : Condact) → c.code ≡ code → Leads w c (act s w c).effect)
     → Facts code (Acts (λ s w c. record { text = text s w c; world = w; act = act s w c }))
 still code text act leads = record {
@@ -99,7 +99,7 @@ still code text act leads = record {
 }
 
 -- An action that prints.
-printed : (code : ℕ) (text : GameLists → World → Condact → List ℕ) → Facts code (printing_action text)
+printed : (code : ℕ) (text : GameLists → World → Condact → Text) → Facts code (printing_action text)
 printed code text = still code _ _ (λ s w c is. tt)
 
 -- An action that gives a flag a byte.

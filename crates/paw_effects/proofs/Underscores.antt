@@ -1,14 +1,14 @@
 -- Where the first underscore of a text stands, and what the text is with a name in place of each underscore.
-use Rattle.std.proofs.Common.{◌≡◌, ℕ, zero, suc, ◌<◌, ◌==◌, Bool, false, List, [], ◌∷◌, ◌++◌, length, take, drop, refl}
+use Rattle.std.proofs.Common.{◌≡◌, ℕ, zero, suc, ◌<◌, ◌==◌, Bool, false, [], ◌∷◌, ◌++◌, length, take, drop, refl}
 use Rattle.std.proofs.Common.{ap, arith}
 use Rattle.std.proofs.lemmas.Bool.{false_from_ne_true, or_parts}
 use Rattle.std.specs.List.{list_any}
 use Rattle.memchr.specs.Find.{Passes, is_byte, Nowhere}
-use Rattle.paw_base.specs.Bytes.{Bytes}
+use Rattle.paw_base.specs.Bytes.{Bytes, Text}
 use Rattle.paw_effects.specs.Texts.{with_name}
 
 -- Whether an underscore stands in a text.
-abbrev pub stands_in : List ℕ → Bool
+abbrev pub stands_in : Text → Bool
 stands_in text = list_any (λ b. b == 95) text
 
 -- Where none stands the text stays as it is.

@@ -12,7 +12,7 @@ use Rattle.std.proofs.lemmas.List.{length-set, length-map, get_or_past}
 use Rattle.std.proofs.lemmas.List.Elements.{All-set, All-replicate}
 use Rattle.std.proofs.lemmas.List.Sums.{count_by-le-length}
 use Rattle.std.proofs.lemmas.Option.{slice_get-map}
-use Rattle.paw_base.specs.Bytes.{Seed}
+use Rattle.paw_base.specs.Bytes.{Seed, Bytes}
 use Rattle.paw_base.specs.declared.words.TheConstants.{LEAST_WORD, GREATEST_WORD, NO_WORD, ADVERB_CLASS, NOUN_CLASS}
 use Rattle.paw_base.specs.declared.words.TheConstants.{ADJECTIVE_CLASS, PREPOSITION_CLASS}
 use Rattle.paw_base.specs.declared.places.TheConstants.{NOT_CREATED_PLACE, CARRIED_PLACE, HERE_PLACE}
@@ -63,13 +63,13 @@ world_is g seed n w k = record { of = k.of; flags = k.flags; places = k.places; 
 
 -- ---- bytes ----
 
-pub byte_at : (xs : List ℕ) (i : ℕ) → AreBytes xs → slice_index xs i < 256
+pub byte_at : (xs : Bytes) (i : ℕ) → AreBytes xs → slice_index xs i < 256
 byte_at xs i all = elim (cases_lt i (length xs)) [
   | inl low ↦ all i 0 low
   | inr high ↦ let none : slice_index xs i ≡ 0 = get_or_past xs i 0 high in omega (arith, none)
 ]
 
-pub byte_set : (xs : List ℕ) (i x : ℕ) → x < 256 → AreBytes xs → AreBytes (slice_set xs i x)
+pub byte_set : (xs : Bytes) (i x : ℕ) → x < 256 → AreBytes xs → AreBytes (slice_set xs i x)
 byte_set xs i x small all = All-set (λ b. b < 256) xs i x small all
 
 -- ---- what the rules of a game say of numbers ----
@@ -311,14 +311,14 @@ module _ (g : GameLists) (v : Valid g) (seed : Seed) where
   start_count = length-map (map (λ (o : ObjectRow). o.facts) g.objects) (λ (f : ObjectFacts). f.start) ∙ length-map g.objects (λ (o : ObjectRow). o.facts)
 
   -- 256 flags that are bytes.
-  record AreFlags (flags : List ℕ) : Type 0 where
+  record AreFlags (flags : Bytes) : Type 0 where
     all : length flags ≡ FLAG_COUNT
     bytes : AreBytes flags
 
-  one_set : (flags : List ℕ) → AreFlags flags → (f x : ℕ) → x < 256 → AreFlags (slice_set flags f x)
+  one_set : (flags : Bytes) → AreFlags flags → (f x : ℕ) → x < 256 → AreFlags (slice_set flags f x)
   one_set flags k f x small = record { all = length-set flags f x ∙ k.all; bytes = byte_set flags f x small k.bytes }
 
-  none_set : (flags : List ℕ) → AreFlags flags → (f : ℕ) → AreFlags (slice_set flags f NO_WORD)
+  none_set : (flags : Bytes) → AreFlags flags → (f : ℕ) → AreFlags (slice_set flags f NO_WORD)
   none_set flags k f = one_set flags k f NO_WORD (omega arith)
 
   flags_at_start : (carried : ℕ) → carried < 256 → AreFlags (flags_with carried)

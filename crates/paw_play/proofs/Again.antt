@@ -1,5 +1,5 @@
 -- The attach of the store of a session that is taken up again.
-use Rattle.std.proofs.Common.{◌≡◌, ◌≢◌, ℕ, ◌+◌, ◌≤◌, List, [], ◌∷◌, Some, None, refl, sym, ap, ◌∙◌, subst, arith, inl}
+use Rattle.std.proofs.Common.{◌≡◌, ◌≢◌, ℕ, ◌+◌, ◌≤◌, [], ◌∷◌, Some, None, refl, sym, ap, ◌∙◌, subst, arith, inl}
 use Rattle.std.proofs.Common.{inr}
 use Rattle.std.specs.Prelude.{IfSome}
 use Rattle.std.proofs.lemmas.List.{append-nil}
@@ -40,7 +40,7 @@ module _ (g : Story) (digests : Digests) (name : Name) (st : State) (piece : Tex
     (shows : ShowsState g.game digests (store_bytes old name) st piece) where
   -- The store is attached, and nothing was asked or shown.
   at_attached : (m : Standing) → m.asked ≡ old.asked → m.shown ≡ old.shown → m.attached ≡ Some name →
-      ((n : List ℕ) → n ≢ name → m.files n ≡ old.files n) → m.disk ≡ stable (store_bytes old name) →
+      ((n : Name) → n ≢ name → m.files n ≡ old.files n) → m.disk ≡ stable (store_bytes old name) →
       InPlay (from_state g st piece digests name) old m
   at_attached m asked shown attached files disk = record {
     taken = 0;

@@ -1,5 +1,5 @@
 -- The attach of a session's store.
-use Rattle.std.proofs.Common.{◌≡◌, ◌≢◌, ℕ, List, [], ◌∷◌, Option, Some, None, Ok, refl, sym, ap, ◌∙◌, subst, length}
+use Rattle.std.proofs.Common.{◌≡◌, ◌≢◌, ℕ, [], ◌∷◌, Option, Some, None, Ok, refl, sym, ap, ◌∙◌, subst, length}
 use Rattle.std.proofs.Common.{inl, inr}
 use Rattle.paw_base.specs.Bytes.{Bytes, Name}
 use Rattle.paw_stage.specs.Disk.{MayLeave, stable}
@@ -18,19 +18,19 @@ no_bytes (b ∷ bytes) h = cc
 
 -- ---- files ----
 
-there_by : (name : Name) (files : Files) (file : Option (List ℕ)) → files name ≡ file → made_if_missing name file files name ≡ Some (bytes_or_none file)
+there_by : (name : Name) (files : Files) (file : Option Bytes) → files name ≡ file → made_if_missing name file files name ≡ Some (bytes_or_none file)
 there_by name files None e = holds_same name (Some []) files
 there_by name files (Some bytes) e = e
 
 is_there : (name : Name) (files : Files) → made_if_missing name (files name) files name ≡ Some (bytes_or_none (files name))
 is_there name files = there_by name files (files name) refl
 
-other_by : (name n : List ℕ) (files : Files) (file : Option (List ℕ)) → n ≢ name → made_if_missing name file files n ≡ files n
+other_by : (name n : Name) (files : Files) (file : Option Bytes) → n ≢ name → made_if_missing name file files n ≡ files n
 other_by name n files None ne = holds_other name n (Some []) files ne
 other_by name n files (Some bytes) ne = refl
 
 -- Another file than the store's is as it was.
-pub other_file : (old : Standing) (name n : List ℕ) → n ≢ name → (attached_to old name).files n ≡ old.files n
+pub other_file : (old : Standing) (name n : Name) → n ≢ name → (attached_to old name).files n ≡ old.files n
 other_file old name n ne = other_by name n old.files (old.files name) ne
 
 -- ---- the store ----

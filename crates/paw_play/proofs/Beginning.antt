@@ -1,8 +1,8 @@
 -- A new session, from the attach of its store to its first prompt.
-use Rattle.std.proofs.Common.{◌≡◌, ◌≢◌, ℕ, ◌+◌, List, [], ◌++◌, Option, Some, None, refl, sym, ap, ◌∙◌, subst, take}
+use Rattle.std.proofs.Common.{◌≡◌, ◌≢◌, ◌+◌, [], ◌++◌, Option, Some, None, refl, sym, ap, ◌∙◌, subst, take}
 use Rattle.std.proofs.Common.{drop, length, arith, inl, inr, ◌⊎◌}
 use Rattle.std.proofs.lemmas.List.{take-append-drop}
-use Rattle.paw_base.specs.Bytes.{Text, Name, Seed}
+use Rattle.paw_base.specs.Bytes.{Text, Name, Seed, Bytes}
 use Rattle.paw_base.specs.declared.limits.TheConstants.{EVENT_LIMIT}
 use Rattle.paw_stage.specs.Disk.{IsStable}
 use Rattle.paw_stage.specs.Stage.{Standing}
@@ -70,7 +70,7 @@ pub begun : {F : Type 0} (g : Story) (seed : Seed) (digests : Digests) (name : N
 begun g seed digests name first kept next found store seated last plays fine beside = assumption (shows_piece found fine)
 
 -- What a session shows, by its parts.
-pub shown_as : (digests : Digests) {state kept piece text : List ℕ} → state ≡ kept → piece ≡ text → Shown digests state piece ≡ Shown digests kept text
+pub shown_as : (digests : Digests) {state kept piece text : Bytes} → state ≡ kept → piece ≡ text → Shown digests state piece ≡ Shown digests kept text
 shown_as digests e f = cc
 
 module _ {F : Type 0} {g : Story} {s : PlayedSession} {first kept : Standing} {next : PlayerView F} {found : Step} (b : Begun g s first kept next found) where
@@ -86,7 +86,7 @@ module _ {F : Type 0} {g : Story} {s : PlayedSession} {first kept : Standing} {n
   keeps_none : KeepsLines s first.lines 0 (Shown s.digests (seat_state 0 next) next.piece)
   keeps_none = let new_one = b.new_one in rw new_one keeps_first
 
-  not_this : (f : List ℕ) → f ≢ s.name → first.attached ≢ Some f
+  not_this : (f : Name) → f ≢ s.name → first.attached ≢ Some f
   not_this f other e = let a : Some s.name ≡ Some f = sym b.store.attached ∙ e in other (cc)
 
   -- Inside the making.

@@ -1,6 +1,6 @@
 -- Making a new session is part of playing it.
-use Rattle.std.proofs.Common.{◌≡◌, ◌∙◌, ℕ, List, refl, sym, ap, subst, inl, inr}
-use Rattle.paw_base.specs.Bytes.{Name, RoutineAnswers, Seed}
+use Rattle.std.proofs.Common.{◌≡◌, ◌∙◌, refl, sym, ap, subst, inl, inr}
+use Rattle.paw_base.specs.Bytes.{Name, RoutineAnswers, Seed, Bytes}
 use Rattle.paw_effects.specs.Story.{Story, story_of}
 use Rattle.paw_game.specs.Game.{GameLists}
 use Rattle.paw_world.specs.World.{World}
@@ -30,7 +30,7 @@ pub own_seed : {F : Type 0} (fresh : PlayerView F) (seed : Seed) → IsNew fresh
 own_seed fresh seed is = subst (IsNew fresh) (sym (ap (λ (w : World). w.seed) is.world)) is
 
 -- A session that a new player plays, by what was found of its routines.
-pub session_of : {F : Type 0} (fresh : PlayerView F) (g : GameLists) (X : RoutineAnswers) (seed : Seed) (game rules measured name : List ℕ) →
+pub session_of : {F : Type 0} (fresh : PlayerView F) (g : GameLists) (X : RoutineAnswers) (seed : Seed) (game rules measured name : Bytes) →
     IsNew fresh seed → fresh.game ≡ g → rules ≡ measured →
     begun_with (story_of fresh.game X) fresh.world.seed (digests_of game rules) name ≡ begun_with (story_of g X) seed (digests_of game measured) name
 session_of fresh g X seed game rules measured name is of same =

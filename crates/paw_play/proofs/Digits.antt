@@ -1,5 +1,5 @@
 -- A word of decimal digits, and the number that it is parsed as.
-use Rattle.std.proofs.Common.{◌≡◌, ℕ, ◌<◌, ◌^◌, true, false, ltb, leb, cond, List, length, Option, Some, None, Result}
+use Rattle.std.proofs.Common.{◌≡◌, ℕ, ◌<◌, ◌^◌, true, false, ltb, leb, cond, length, Option, Some, None, Result}
 use Rattle.std.proofs.Common.{Ok, Err}
 use Rattle.std.proofs.Common.{refl, ◌&&◌}
 use Rattle.std.specs.Char.{is_ascii_digit}
@@ -10,6 +10,7 @@ use Rattle.std.specs.Str.Parse.{digits_value, ParsesUnsigned}
 use Rattle.std.proofs.lemmas.Bool.{and_from, and_parts, le-leb, leb-true, lt-ltb, ltb-true}
 use Rattle.std.proofs.Math.Bool.{and-true}
 use Rattle.std.proofs.lemmas.Str.Parse.{IsNumeralModel, numerals_by_value, parse_digits}
+use Rattle.paw_base.specs.Bytes.{Bytes}
 use Rattle.paw_play.specs.Numbers.{number_of, seed_of}
 
 -- What decimal digits alone make, and what they are worth.
@@ -36,7 +37,7 @@ kept_below limit n count (Err e) h =
     ] refl
 
 -- A word of at most this many digits is parsed as its number, where that is below two to the power of the bits.
-pub number_is : {E : Type 0} (bits most : ℕ) (word : List ℕ) (r : Result ℕ E)
+pub number_is : {E : Type 0} (bits most : ℕ) (word : Bytes) (r : Result ℕ E)
     → (leb (length word) most && list_all is_ascii_digit word) ≡ true → ParsesUnsigned bits 10 word r
     → result_ok r ≡ option_and_then (λ n. cond (ltb n (2 ^ bits)) (Some n) None) (number_of most word)
 number_is bits most word r t h =
@@ -45,6 +46,6 @@ number_is bits most word r t h =
     (kept_below (2 ^ bits) (digits_value 10 word) (length word) r (parse_digits decimal_digits bits word r h both.1))
 
 -- A seed is parsed so.
-pub seed_is : {E : Type 0} (word : List ℕ) (r : Result ℕ E) → (leb (length word) 20 && list_all is_ascii_digit word) ≡ true
+pub seed_is : {E : Type 0} (word : Bytes) (r : Result ℕ E) → (leb (length word) 20 && list_all is_ascii_digit word) ≡ true
     → ParsesUnsigned 64 10 word r → result_ok r ≡ seed_of word
 seed_is word r t h = number_is 64 20 word r t h

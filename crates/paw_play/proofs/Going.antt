@@ -126,7 +126,7 @@ traces_of Unended = []
 
 module _ (g : Story) (seed : Seed) (es fs : Lines) where
   -- A reading that ended in this way ends with more lines as going on from its state and last piece does.
-  abbrev pub GoesOnFrom : Ending → State → List ℕ → Type 0
+  abbrev pub GoesOnFrom : Ending → State → Text → Type 0
   GoesOnFrom e st piece =
       (length (pieces_of e) ≡ suc (length es)) × (length (traces_of e) ≡ suc (length es)) × (x : Ending)
       × (reading g seed (es ++ fs) ≡ ending_with_past (pieces_of e) (traces_of e) x)

@@ -1,5 +1,5 @@
 -- What loading a file cuts off, and what an image that was loaded says of its file.
-use Rattle.std.proofs.Common.{◌≡◌, ◌⊎◌, inl, inr, ℕ, ◌+◌, ◌≤◌, List, Option, Some, length, take, sym, ◌∙◌, subst, arith}
+use Rattle.std.proofs.Common.{◌≡◌, ◌⊎◌, inl, inr, ℕ, ◌+◌, ◌≤◌, Option, Some, length, take, sym, ◌∙◌, subst, arith}
 use Rattle.std.proofs.lemmas.List.{take_all, length-take-le}
 use Rattle.paw_base.specs.Bytes.{Bytes, Name}
 use Rattle.paw_base.specs.declared.limits.TheConstants.{IMAGE_LIMIT}
@@ -59,7 +59,7 @@ pub damage_loaded : (name given : Bytes) (old new : Standing) (at : ℕ) → Loa
 damage_loaded name given old new at f none h = (f.0, f.1, loaded_none given f.0 f.2 none, loaded_bad given f.0 at f.2 h)
 
 -- A file has one content.
-pub same_file : (file : Option (List ℕ)) (a b : List ℕ) → file ≡ Some a → file ≡ Some b → a ≡ b
+pub same_file : (file : Option Bytes) (a b : Bytes) → file ≡ Some a → file ≡ Some b → a ≡ b
 same_file file a b h k = cc
 
 -- It is the image of one game.

@@ -46,7 +46,7 @@ shown_at : {F : Type 0} (digests : Digests) (events : ℕ) (p : Prompt) (path : 
     (last_piece (pieces ++ next.piece ∷ []))
 shown_at digests events p path next pieces is =
     ap (λ (k : Frames). Shown digests (kept_bytes (parts events p next k (length next.piece))) next.piece) is
-    ∙ ap (λ (q : List ℕ). Shown digests (kept_bytes (parts events p next (frames_at path next.machine.turning) (length q))) q)
+    ∙ ap (λ (q : Text). Shown digests (kept_bytes (parts events p next (frames_at path next.machine.turning) (length q))) q)
     (sym (last_more pieces next.piece))
 
 -- Where a player waits, its session keeps the reading.

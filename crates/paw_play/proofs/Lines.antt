@@ -6,7 +6,7 @@ use Rattle.std.specs.List.{slice_index_or, list_all}
 use Rattle.std.proofs.lemmas.Bool.{leb-true, cases_lt, lt-ltb}
 use Rattle.std.proofs.lemmas.Fmt.{length-decimal-le}
 use Rattle.std.proofs.lemmas.List.{get_or_past}
-use Rattle.paw_base.specs.Bytes.{Bytes}
+use Rattle.paw_base.specs.Bytes.{Bytes, Text}
 use Rattle.paw_base.specs.declared.codes.TheConstants.{INDIRECT}
 use Rattle.paw_base.specs.Condacts.{CondactLine, is_plain_code, is_indirect, no_line, condact_lines, plain_line}
 use Rattle.paw_base.specs.Condacts.{indirect_line, line_of, name_of}
@@ -92,7 +92,7 @@ place_short table entry at low few under =
 -- A line of a step is of at most 27 bytes.
 pub line_short : (step : StepRow) → length (step_address step.table step.entry step.at) ≤ 13 → length (step_line step) ≤ 27
 line_short step place =
-    let text : List ℕ = step_address step.table step.entry step.at in
+    let text : Text = step_address step.table step.entry step.at in
     let one = length-append text (codes " " ++ (name_of step.code ++ answer_text step.yes)) in
     let two = length-append (codes " ") (name_of step.code ++ answer_text step.yes) in
     let three = length-append (name_of step.code) (answer_text step.yes) in

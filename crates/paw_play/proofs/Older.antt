@@ -1,5 +1,5 @@
 -- An older session of a game that never saves stands for its lines.
-use Rattle.std.proofs.Common.{◌≡◌, ℕ, ◌-◌, Bool, true, false, List, [], ◌++◌, Option, Some, None, length, take, refl}
+use Rattle.std.proofs.Common.{◌≡◌, ℕ, ◌-◌, Bool, true, false, [], ◌++◌, Option, Some, None, length, take, refl}
 use Rattle.std.proofs.Common.{sym, ap, ◌∙◌, arith}
 use Rattle.std.specs.Prelude.{if◌then◌else◌, nat_le}
 use Rattle.std.proofs.lemmas.List.{length-take-le, take_at}
@@ -31,28 +31,28 @@ use Rattle.paw_play.proofs.Settling.{reading_settles}
 
 -- ---- what the slot in use shows ----
 
-by_changes : (digests : Digests) (s : List ℕ) (d : Digests) (st p : List ℕ) (o : Option ℕ) → shown_unless digests s o ≡ Shown d st p → shown_state s ≡ st
+by_changes : (digests : Digests) (s : Bytes) (d : Digests) (st p : Bytes) (o : Option ℕ) → shown_unless digests s o ≡ Shown d st p → shown_state s ≡ st
 by_changes digests s d st p None e = cc
 by_changes digests s d st p (Some n) e = absurd (cc e)
 
-by_count : (digests : Digests) (s : List ℕ) (d : Digests) (st p : List ℕ) (b : Bool) →
+by_count : (digests : Digests) (s : Bytes) (d : Digests) (st p : Bytes) (b : Bool) →
     (if b then shown_unless digests s (first_unsound (slot_changes s)) else Damaged part.Slot 0) ≡ Shown d st p → shown_state s ≡ st
 by_count digests s d st p true e = by_changes digests s d st p (first_unsound (slot_changes s)) e
 by_count digests s d st p false e = absurd (cc e)
 
-by_slot : (digests : Digests) (s : List ℕ) (d : Digests) (st p : List ℕ) → slot_shows digests s ≡ Shown d st p → shown_state s ≡ st
+by_slot : (digests : Digests) (s : Bytes) (d : Digests) (st p : Bytes) → slot_shows digests s ≡ Shown d st p → shown_state s ≡ st
 unfolding slot_shows
 by_slot digests s d st p e = by_count digests s d st p (nat_le (two_byte_number 0 s) most_changes) e
 
 -- Of version 1, a slot shows its first 1,371 bytes and zeros.
-shown_first : (s st : List ℕ) → form_length (slot_version s) ≡ first_length → shown_state s ≡ st → length (slot_state s) ≡ base_length
+shown_first : (s st : Bytes) → form_length (slot_version s) ≡ first_length → shown_state s ≡ st → length (slot_state s) ≡ base_length
     → take first_length st ++ zeros (state_length - first_length) ≡ st
 shown_first s st first is n =
-    let head : List ℕ = take first_length (slot_state s) in
-    let behind : List ℕ = zeros (state_length - first_length) in
+    let head : Bytes = take first_length (slot_state s) in
+    let behind : Bytes = zeros (state_length - first_length) in
     let form : st ≡ head ++ behind = sym is ∙ ap (λ (n : ℕ). take n (slot_state s) ++ zeros (state_length - n)) first in
     let l : length head ≡ first_length = length-take-le first_length (slot_state s) (omega (arith, n)) in
-    ap (λ (x : List ℕ). x ++ behind) (ap (take first_length) form ∙ take_at head behind first_length l) ∙ sym form
+    ap (λ (x : Bytes). x ++ behind) (ap (take first_length) form ∙ take_at head behind first_length l) ∙ sym form
 
 -- So does a store whose slot in use is of version 1.
 chosen_first : (bytes : Bytes) (digests : Digests) (state piece : Bytes) → form_length (slot_version (slot (slot_in_use bytes) bytes)) ≡ first_length
@@ -74,8 +74,8 @@ state_same : (g : GameLists) (v : Valid g) (st : State) → IsValidState g st �
 unfolding kept_bytes
 state_same g v st keeps fits none bytes digests state piece first shown same =
     let is : state ≡ kept_bytes st = sym (chosen_first bytes digests state piece first shown)
-    ∙ (ap (λ (x : List ℕ). x ++ zeros (state_length - first_length)) same ∙ ends_in_zeros st (long_state g st v keeps fits) none) in
-    shown ∙ ap (λ (x : List ℕ). Shown digests x piece) is
+    ∙ (ap (λ (x : Bytes). x ++ zeros (state_length - first_length)) same ∙ ends_in_zeros st (long_state g st v keeps fits) none) in
+    shown ∙ ap (λ (x : Bytes). Shown digests x piece) is
 
 ending_kept : (g : GameLists) (v : Valid g) (digests : Digests) (n : ℕ) (bytes : Bytes) (e : Ending) → IsSettled g n e → EndsKeeping no_positions e
     → KeepsAsOlder digests n e bytes → IsKept digests n e (recover bytes)

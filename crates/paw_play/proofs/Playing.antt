@@ -1,11 +1,11 @@
 -- A session, line by line.
-use Rattle.std.proofs.Common.{◌≡◌, ◌≢◌, ℕ, zero, suc, ◌+◌, ◌≤◌, ◌<◌, List, [], ◌∷◌, ◌++◌, Option, Some, None, refl, sym}
+use Rattle.std.proofs.Common.{◌≡◌, ◌≢◌, ℕ, zero, suc, ◌+◌, ◌≤◌, ◌<◌, [], ◌∷◌, ◌++◌, Option, Some, None, refl, sym}
 use Rattle.std.proofs.Common.{ap, ◌∙◌, subst}
 use Rattle.std.proofs.Common.{length, take, drop, arith, append_assoc, inl, inr}
 use Rattle.std.proofs.lemmas.List.{append-nil, take-append-drop}
 use Rattle.std.specs.Prelude.{reverse}
 use Rattle.std.specs.List.{concat}
-use Rattle.paw_base.specs.Bytes.{Bytes, Line, Lines, Text}
+use Rattle.paw_base.specs.Bytes.{Bytes, Line, Lines, Text, Name}
 use Rattle.paw_base.specs.declared.limits.TheConstants.{EVENT_LIMIT, LINE_LIMIT}
 use Rattle.paw_stage.specs.Disk.{MayLeave, IsStable}
 use Rattle.paw_stage.specs.Stage.{Standing, AsksTo}
@@ -55,7 +55,7 @@ keeps_all s lines zero text bytes h = h
 keeps_all s lines (suc n) text bytes h = inl h
 
 whole_text : (s : PlayedSession) (lines : Lines) (n : ℕ) (text : Text) → text_for s.whole lines n ≡ text →
-    (rest : List ℕ) × (text ++ rest ≡ text_for s.whole lines n)
+    (rest : Text) × (text ++ rest ≡ text_for s.whole lines n)
 whole_text s lines n text e = ([], append-nil text ∙ sym e)
 
 -- The text so far.
@@ -203,10 +203,10 @@ module _ {F : Type 0} {g : Story} {s : PlayedSession} {most n events : ℕ} {fir
   attached_still : mid.attached ≡ Some s.name
   attached_still = mid_attached g s first now mid seat n w t.took
 
-  not_this : (f : List ℕ) → f ≢ s.name → mid.attached ≢ Some f
+  not_this : (f : Name) → f ≢ s.name → mid.attached ≢ Some f
   not_this f other e = let a : Some s.name ≡ Some f = sym attached_still ∙ e in other (cc)
 
-  others_still : (f : List ℕ) → f ≢ s.name → mid.files f ≡ first.files f
+  others_still : (f : Name) → f ≢ s.name → mid.files f ≡ first.files f
   others_still f other = ap (λ (q : Standing). q.files f) t.took ∙ w.rests.others f other
 
   digests_still : kept_digests mid.disk.bytes ≡ s.digests

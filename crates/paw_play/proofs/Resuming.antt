@@ -3,7 +3,7 @@ use Rattle.std.proofs.Common.{◌≡◌, ◌≢◌, ℕ, ◌+◌, List, [], ◌�
 use Rattle.std.proofs.Common.{take, drop, arith}
 use Rattle.std.specs.Prelude.{reverse}
 use Rattle.std.proofs.lemmas.List.{append-nil, take-append-drop}
-use Rattle.paw_base.specs.Bytes.{Bytes, Lines, Text}
+use Rattle.paw_base.specs.Bytes.{Bytes, Lines, Text, Name}
 use Rattle.paw_game.specs.Game.{GameLists}
 use Rattle.paw_world.specs.World.{World}
 use Rattle.paw_phrase.specs.Pending.{PendingLine}
@@ -109,7 +109,7 @@ waits_at prompt.Over h = absurd (h refl)
 -- ---- the session ----
 
 -- The session that goes on from what was read of a store's state.
-abbrev pub read_session : Story → List ℕ → List ℕ → Restored → Standing → PlayedSession
+abbrev pub read_session : Story → Name → Text → Restored → Standing → PlayedSession
 read_session g name piece r first = from_state g (state_read r) piece (kept_digests first.disk.bytes) name
 
 -- A player was made of what was read of the state of the attached store.
@@ -151,7 +151,7 @@ module _ {F : Type 0} {g : Story} {name piece : Bytes} {r : Restored} {first : S
   rests_shown : (new : Standing) (text : Text) → new ≡ record first { shown = text } → RestsWith (read_session g name piece r first) first new 0
   rests_shown new text e = rests_on (read_session g name piece r first) first first new 0 first.lines first.asked text e rests_first
 
-  stands_with : (new : Standing) (part : List ℕ) → new ≡ record first { shown = first.shown ++ part } → new ≡ with_lines_taken (with_store new first) 0 part
+  stands_with : (new : Standing) (part : Text) → new ≡ record first { shown = first.shown ++ part } → new ≡ with_lines_taken (with_store new first) 0 part
   stands_with new part e =
       subst (λ q. new ≡ with_lines_taken q 0 part) (ap (λ (q : Standing). with_store q first) (sym e)) (first_stands first new part e)
 

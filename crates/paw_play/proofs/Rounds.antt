@@ -76,7 +76,7 @@ store_left name left m is (inr apart) = absurd (apart.0 is)
 -- ---- the lines of a round ----
 
 -- n lines are kept of a round, and there is room for them; the bytes that it left keep them.
-abbrev KeptOf : PlayedSession → Standing → RoundStop → List ℕ → Type 0
+abbrev KeptOf : PlayedSession → Standing → RoundStop → Bytes → Type 0
 KeptOf s old stop left = (n : ℕ) × AreKept old stop n × (n ≤ length old.lines) × (s.before + n ≤ EVENT_LIMIT) × KeptBy s old.lines n left
 
 module _ (s : PlayedSession) (old : Standing) where
@@ -87,7 +87,7 @@ module _ (s : PlayedSession) (old : Standing) where
   kept_up m (suc n) text left there few asked (inl kept) = (suc n, inl asked, there, few, kept.0)
   kept_up m (suc n) text left there few asked (inr kept) = (n, inr asked, omega (arith, there), omega (arith, few), kept.0)
 
-  cut_keeps : (m : Standing) (left : List ℕ) → InPlay s old m → MayBeLeft s.name m left → KeptOf s old (cut_at m) left
+  cut_keeps : (m : Standing) (left : Bytes) → InPlay s old m → MayBeLeft s.name m left → KeptOf s old (cut_at m) left
   cut_keeps m left i may = kept_up m i.taken i.text left i.there i.few i.asked (i.leaves left (store_left s.name left m i.attached may))
 
   -- Of a round that ended by itself, all lines but those that are lost by its end.
@@ -110,7 +110,7 @@ module _ (s : PlayedSession) (old : Standing) where
 
 -- ---- the first round ----
 
-empty_unmade : (left : List ℕ) → left ≡ [] → IsUnmade (recover left)
+empty_unmade : (left : Bytes) → left ≡ [] → IsUnmade (recover left)
 empty_unmade left e = no_session left (inl (λ q. omega (arith, q, ap length e)))
 
 no_writing : (c : StageCall) → IsOneOf writing_calls c → ¬ AtRest (end.Outside c)
@@ -158,11 +158,11 @@ StandsBehind g seed es old stop left = (n : ℕ) × AreKept old stop n × Stands
 
 module _ (g : Story) (seed : Seed) (es : Lines) (bytes : Bytes) (r : Round) (begins : BeginsOver bytes r) (stands : Stands g seed es bytes) where
   -- With no line more it stands for those before.
-  none_more : (left : List ℕ) → left ≡ bytes → Stands g seed (es ++ first_lines 0 r.old.lines) left
+  none_more : (left : Bytes) → left ≡ bytes → Stands g seed (es ++ first_lines 0 r.old.lines) left
   none_more left e = subst (λ q. Stands g seed (es ++ []) q) (sym e) (subst (λ q. Stands g seed q bytes) (sym (append-nil es)) stands)
 
   -- What is kept of the session stands for those before and its own.
-  more_stand : (stop : RoundStop) (left : List ℕ) → KeptOf (from_lines g seed es stands.digests r.name) r.old stop left →
+  more_stand : (stop : RoundStop) (left : Bytes) → KeptOf (from_lines g seed es stands.digests r.name) r.old stop left →
       StandsBehind g seed es r.old stop left
   more_stand stop left k =
       (k.0, k.1, later_stands g seed es r.old.lines stands.digests r.name k.0 left stands.belongs k.2 k.3 k.4)

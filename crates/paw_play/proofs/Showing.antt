@@ -1,5 +1,5 @@
 -- What the bytes of a store show.
-use Rattle.std.proofs.Common.{◌≡◌, ℕ, ◌+◌, List, [], Option, Some, None, refl, sym, ap, ◌∙◌, subst, length}
+use Rattle.std.proofs.Common.{◌≡◌, ℕ, ◌+◌, [], Option, Some, None, refl, sym, ap, ◌∙◌, subst, length}
 use Rattle.std.proofs.Common.{take, arith}
 use Rattle.std.specs.Prelude.{IfNone}
 use Rattle.paw_base.specs.Bytes.{Bytes, Text}
@@ -49,11 +49,11 @@ bytes_same : (s t : State) → kept_bytes s ≡ kept_bytes t → state_bytes s �
 unfolding kept_bytes
 bytes_same s t e = e
 
-same_shown : (d e : Digests) (a p b q : List ℕ) → Shown d a p ≡ Shown e b q → (d ≡ e) × (a ≡ b) × (p ≡ q)
+same_shown : (d e : Digests) (a p b q : Bytes) → Shown d a p ≡ Shown e b q → (d ≡ e) × (a ≡ b) × (p ≡ q)
 same_shown d e a p b q h = (cc, cc, cc)
 
 -- The bytes show one state and one piece, in one session.
-pub one_state : (g : Story) (d e : Digests) (bytes name : Bytes) (s t : State) (p q : List ℕ) → Valid g.game →
+pub one_state : (g : Story) (d e : Digests) (bytes name : Bytes) (s t : State) (p q : Text) → Valid g.game →
     ShowsState g.game d bytes s p → ShowsState g.game e bytes t q → from_state g s p d name ≡ from_state g t q e name
 one_state g d e bytes name s t p q valid h k =
     let one = same_shown d e (kept_bytes s) p (kept_bytes t) q (sym h.shown ∙ k.shown) in
@@ -109,7 +109,7 @@ pub resumed : {F : Type 0} (g : Story) (name buffer state piece : Bytes) (r : Re
     seat ≡ seat_at g.game routines r.world (only_counting r.machine) r.pending r.prompt → IsSeated seat → IsRestingStore name first →
     MadeOfRead g name piece r first routines seat
 resumed g name buffer state piece r first routines seat shown same read long is seated store =
-    let bytes : List ℕ = first.disk.bytes in
+    let bytes : Bytes = first.disk.bytes in
     let digests : Digests = kept_digests first.disk.bytes in
     let there : recover bytes ≡ Shown digests (take state_length buffer) piece =
     subst (λ x. recover bytes ≡ Shown digests (take state_length x) piece) (sym same) shown in
@@ -124,7 +124,7 @@ resumed g name buffer state piece r first routines seat shown same read long is 
 
 -- The store shows no other state and piece.
 pub one_session : {F : Type 0} (g : Story) (name piece : Bytes) (r : Restored) (first : Standing) (routines : Routines F) (seat : PlayerView F)
-    (digests : Digests) (st : State) (other : List ℕ) → MadeOfRead g name piece r first routines seat →
+    (digests : Digests) (st : State) (other : Text) → MadeOfRead g name piece r first routines seat →
     ShowsState g.game digests first.disk.bytes st other → read_session g name piece r first ≡ from_state g st other digests name
 one_session g name piece r first routines seat digests st other u shows =
     let valid : Valid g.game = subst Valid (seat_game g.game routines r.world (only_counting r.machine) r.pending r.prompt seat u.is) u.seated.valid in

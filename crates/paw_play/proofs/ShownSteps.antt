@@ -113,17 +113,17 @@ shows_piece (step.TooDeep table) h = cc
 -- ---- one text after another ----
 
 -- A first part of the first text.
-part_of : (n : ℕ) (xs ys : List ℕ) → (m : ℕ) × (take n xs ≡ take m (xs ++ ys))
+part_of : (n : ℕ) (xs ys : Text) → (m : ℕ) × (take n xs ≡ take m (xs ++ ys))
 part_of zero xs ys = (0, refl)
 part_of (suc n) [] ys = (0, refl)
 part_of (suc n) (x ∷ xs) ys = let k = part_of n xs ys in (suc k.0, ap (λ zs. x ∷ zs) k.1)
 
 -- The first text, and a first part of the second.
-past_part : (n : ℕ) (xs ys : List ℕ) → (m : ℕ) × (xs ++ take n ys ≡ take m (xs ++ ys))
+past_part : (n : ℕ) (xs ys : Text) → (m : ℕ) × (xs ++ take n ys ≡ take m (xs ++ ys))
 past_part n [] ys = (n, refl)
 past_part n (x ∷ xs) ys = let k = past_part n xs ys in (suc k.0, ap (λ zs. x ∷ zs) k.1)
 
-module _ (old : Standing) (text more : List ℕ) where
+module _ (old : Standing) (text more : Text) where
   -- A part of the first was shown.
   pub part_before : (m : Standing) → InShow old text m → InShow old (text ++ more) m
   part_before m i = let k = part_of i.0 text more in (k.0, i.1 ∙ ap (λ t. with_shown t old) k.1)

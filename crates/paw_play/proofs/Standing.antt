@@ -83,7 +83,7 @@ going_on_is_the_reading g seed es fs p path r played few is =
     let counted : Counted (length es) (WaitsAt p path r) = subst (Counted (length es)) is (pieces_of_lines g seed es) in
     let goes = waiting_goes g seed es fs p path r is settled counted in
     let st : State = state_at (length es) p path r in
-    let last : List ℕ = last_piece r.pieces in
+    let last : Text = last_piece r.pieces in
     let ended : ending_with_past (last ∷ []) [] goes.2 ≢ Unended = λ none. goes_to_an_end g st last fs (goes.4 ∙ none) in
     record {
       valid = settled.valid;
@@ -137,7 +137,7 @@ pub record IsShown (g : Story) (name bytes : Bytes) (s : PlayedSession) : Type 0
   pub digests : Digests
   pub belongs : IsOfStory g digests
   pub state : State
-  pub piece : List ℕ
+  pub piece : Text
   pub shows : ShowsState g.game digests bytes state piece
   pub same : from_state g state piece digests name ≡ s
 
@@ -164,7 +164,7 @@ is_shown g name bytes _ (from_played seed es played stands) =
 
 -- ---- it is never refused ----
 
-same_digests : (d e : Digests) (s p t q : List ℕ) → Shown d s p ≡ Shown e t q → d ≡ e
+same_digests : (d e : Digests) (s p t q : Bytes) → Shown d s p ≡ Shown e t q → d ≡ e
 same_digests d e s p t q h = cc
 
 never_refused : (g : Story) (digests : Digests) (bytes state piece : Bytes) (r : JournalRefusal) → IsOfStory g digests →
@@ -183,11 +183,11 @@ never_refused g digests bytes state piece (refusal.WrongRoutines kept found) of 
     ]
 never_refused g digests bytes state piece (refusal.Outside c) of is h = h
 
-same_state : (d e : Digests) (s p t q : List ℕ) → Shown d s p ≡ Shown e t q → s ≡ t
+same_state : (d e : Digests) (s p t q : Bytes) → Shown d s p ≡ Shown e t q → s ≡ t
 same_state d e s p t q h = cc
 
 -- A buffer that begins with the bytes of a state is fit.
-is_fit : (g : GameLists) (d e : Digests) (bytes buffer piece q : List ℕ) (st : State) → ShowsState g d bytes st q →
+is_fit : (g : GameLists) (d e : Digests) (bytes buffer piece q : Bytes) (st : State) → ShowsState g d bytes st q →
     recover bytes ≡ Shown e (take state_length buffer) piece → Fit g buffer
 unfolding kept_bytes
 is_fit g d e bytes buffer piece q st shows is =

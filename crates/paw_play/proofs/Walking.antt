@@ -318,7 +318,7 @@ long_walk showing g whole most n first now seat w seated all =
 
 -- ---- the first piece ----
 
-pub first_stands : (old new : Standing) (part : List ℕ) → new ≡ record old { shown = old.shown ++ part } → new ≡ with_lines_taken old 0 part
+pub first_stands : (old new : Standing) (part : Text) → new ≡ record old { shown = old.shown ++ part } → new ≡ with_lines_taken old 0 part
 first_stands old new part e = let a : old.asked + 0 ≡ old.asked = omega arith in e ∙ rw a refl
 
 -- After piece 0 the walk is at the first prompt, or has ended this way.

@@ -1,5 +1,5 @@
 -- The bytes of a session's store, commit by commit.
-use Rattle.std.proofs.Common.{◌≡◌, ℕ, suc, ◌+◌, List, [], ◌∷◌, ◌++◌, refl, ap, ◌∙◌, length, arith}
+use Rattle.std.proofs.Common.{◌≡◌, ℕ, suc, ◌+◌, [], ◌∷◌, ◌++◌, refl, ap, ◌∙◌, length, arith}
 use Rattle.std.specs.Prelude.{◌-◌}
 use Rattle.paw_base.specs.Bytes.{Bytes, Lines, zeros}
 use Rattle.paw_reading.specs.Turn.{Ending, pieces_of}
@@ -12,10 +12,10 @@ use Rattle.paw_play.specs.Played.{PlayedSession}
 use Rattle.paw_play.specs.Written.{base_after, bytes_before, store_bytes_after}
 
 -- What a session shows, part by part.
-shown_state_is : (d : Digests) (a p b q : List ℕ) → Shown d a p ≡ Shown d b q → a ≡ b
+shown_state_is : (d : Digests) (a p b q : Bytes) → Shown d a p ≡ Shown d b q → a ≡ b
 shown_state_is d a p b q e = cc
 
-shown_piece_is : (d : Digests) (a p b q : List ℕ) → Shown d a p ≡ Shown d b q → p ≡ q
+shown_piece_is : (d : Digests) (a p b q : Bytes) → Shown d a p ≡ Shown d b q → p ≡ q
 shown_piece_is d a p b q e = cc
 
 -- A session that keeps a reading has the state and the piece of it.
@@ -29,17 +29,17 @@ piece_is : (digests : Digests) (events : ℕ) (e : Ending) (state piece : Bytes)
     piece ≡ last_piece (pieces_of e)
 piece_is digests events e state piece k = shown_piece_is digests state piece (state_after events e) (last_piece (pieces_of e)) k.shown
 
-committed_same : (state base piece last old bytes : List ℕ) → state ≡ base → piece ≡ last → old ≡ bytes →
+committed_same : (state base piece last old bytes : Bytes) → state ≡ base → piece ≡ last → old ≡ bytes →
     session_committed state piece old ≡ session_committed base last bytes
 committed_same state base piece last old bytes e f g =
     ap (λ x. session_committed x piece old) e ∙ ap (λ x. session_committed base x old) f ∙ ap (λ x. session_committed base last x) g
 
-pub made_same : (digests : Digests) (state base piece last : List ℕ) → state ≡ base → piece ≡ last →
+pub made_same : (digests : Digests) (state base piece last : Bytes) → state ≡ base → piece ≡ last →
     made_session digests state piece ≡ made_session digests base last
 made_same digests state base piece last e f = ap (λ x. made_session digests x piece) e ∙ ap (λ x. made_session digests base x) f
 
 -- One commit more.
-pub more_bytes : (s : PlayedSession) (n : ℕ) (lines : Lines) (state piece begun old new : List ℕ) →
+pub more_bytes : (s : PlayedSession) (n : ℕ) (lines : Lines) (state piece begun old new : Bytes) →
     IsKept s.digests (s.before + suc n) (s.whole (first_lines (suc n) lines)) (Shown s.digests state piece) →
     new ≡ session_committed (state ++ zeros (base_length - state_length)) piece old → old ≡ store_bytes_after s lines n begun →
     new ≡ store_bytes_after s lines (suc n) begun

@@ -3,6 +3,7 @@ use Rattle.std.proofs.Common.{◌≡◌, ℕ, ◌+◌, ◌≤◌, ◌<◌, true,
 use Rattle.std.proofs.Common.{refl, sym, ap, ◌∙◌, subst, length, arith, add-one, length-append}
 use Rattle.std.specs.Prelude.{if◌then◌else◌, reverse}
 use Rattle.std.proofs.lemmas.List.{append_assoc, append-nil}
+use Rattle.paw_base.specs.Bytes.{Text}
 use Rattle.paw_base.specs.declared.parts.Condact.{Condact}
 use Rattle.paw_base.specs.inner.Steps.{KeptSteps}
 use Rattle.paw_base.specs.inner.Steps.{with_step_noted as noted_step}
@@ -101,7 +102,7 @@ parse_at g fs f found.Nothing s m w p r (e, ew, ev) = rw (e, ew, ev, add-one) re
 parse_at g fs f found.Empty s m w p r (e, ew, ep) = rw (e, ew, ep, add-one) refl
 
 -- What an action did where it isn't spent.
-did_as : (d : Done) (old new : List ℕ) (w : World) (a : Act) (e : Effect) → DoesAs d old new w a e → (e ≡ effect.Spent → ⊥)
+did_as : (d : Done) (old new : Text) (w : World) (a : Act) (e : Effect) → DoesAs d old new w a e → (e ≡ effect.Spent → ⊥)
     → (length old + length d.text ≤ PIECE_LIMIT) × (new ≡ old ++ d.text) × (w ≡ d.world) × (a ≡ d.act)
 did_as d old new w a effect.Go h n = h
 did_as d old new w a (effect.Exit b) h n = h
@@ -112,11 +113,11 @@ did_as d old new w a (effect.Ask p) h n = h
 did_as d old new w a effect.Parse h n = h
 did_as d old new w a effect.Spent h n = absurd (n refl)
 
-pub did : (d : Done) (old new : List ℕ) (w : World) (a : Act) → Does d old new w a → (a.effect ≡ effect.Spent → ⊥)
+pub did : (d : Done) (old new : Text) (w : World) (a : Act) → Does d old new w a → (a.effect ≡ effect.Spent → ⊥)
     → (length old + length d.text ≤ PIECE_LIMIT) × (new ≡ old ++ d.text) × (w ≡ d.world) × (a ≡ d.act)
 did d old new w a h n = did_as d old new w a a.effect h n
 
-pub did_spent : (d : Done) (old new : List ℕ) (w : World) (a : Act)
+pub did_spent : (d : Done) (old new : Text) (w : World) (a : Act)
     → Does d old new w a → effect.Spent ≡ a.effect → PIECE_LIMIT < length old + length d.text
 did_spent d old new w a h e = subst (DoesAs d old new w a) (sym e) h
 

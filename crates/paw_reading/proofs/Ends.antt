@@ -101,7 +101,7 @@ at_main_ends g n go h r [] k = λ e. cc
 at_main_ends g n go h r (line ∷ lines) k =
     let m : brought (line ∷ lines) ≡ length line + (READ_LIMIT + 1) + brought lines = brought_more line lines in
     let s : Run = record r { events = lines } in
-    let said : List ℕ = say_text g.game (with_timeout true r.world) TIMEOUT_MESSAGE in
+    let said : Text = say_text g.game (with_timeout true r.world) TIMEOUT_MESSAGE in
     by_test (is_ignored r.world line) (is_timeout line)
     (at_main_ends g n go h (piece_closed s) lines (omega (arith, m, k)))
     (saying_ends said (go AtTimeFrame) (with_line_heard line s) (h AtTimeFrame (text_printed said (with_line_heard line s)) (omega (arith, m, k))))
@@ -117,10 +117,10 @@ after_phrase_ends : (g : Story) (n : ℕ) (go : TurnPhase → Run → Ending) �
     LeavesBytes (λ rest. length rest < length r.pending) p → after_phrase g go r p ≢ Unended
 after_phrase_ends g n go h r k (IsSentence s rest) less = h AtResponse _ (omega arith)
 after_phrase_ends g n go h r k (IsUnknown rest) less =
-    let text : List ℕ = unknown_text g.game r.world in
+    let text : Text = unknown_text g.game r.world in
     saying_ends text (go AtTimeFrame) (line_dropped r) (h AtTimeFrame (text_printed text (line_dropped r)) (omega arith))
 after_phrase_ends g n go h r k IsNoPhrase less =
-    let text : List ℕ = prompt_text g.game r.world in
+    let text : Text = prompt_text g.game r.world in
     let shown : Run = piece_closed (text_printed text (line_dropped r)) in
     saying_ends text (λ s. at_main g go (piece_closed s) s.events) (line_dropped r)
     (at_main_ends g n go h shown r.events (omega arith))
@@ -133,7 +133,7 @@ turn_ends g zero AtTimeFrame r h = absurd (omega arith)
 turn_ends g zero AtPhrase r h = absurd (omega arith)
 turn_ends g zero AtResponse r h = absurd (omega arith)
 turn_ends g (suc n) AtDescribe r h =
-    let text : List ℕ = view_text g.game (location_described r.world) in
+    let text : Text = view_text g.game (location_described r.world) in
     let s : Run = with_world (location_described r.world) r in
     saying_ends text (λ q. table_done g (turn g n) 1 (table_read g 1 q)) s
     (table_done_ends g n (turn g n) (turn_ends g n) 1 (left_to_read r) (omega arith) _ (table_spends g 1 (text_printed text s)))

@@ -143,7 +143,7 @@ module _ (g : Story) (lines : Lines) where
     after_phrase_follows r none (IsSentence s rest) k =
         follows AtResponse (with_world (turn_counted (taken_phrase s rest r).world) (taken_phrase s rest r)) none k
     after_phrase_follows r none (IsUnknown rest) k =
-        let text : List ℕ = unknown_text g.game r.world in
+        let text : Text = unknown_text g.game r.world in
         saying_follows m text (go AtTimeFrame) (more AtTimeFrame) (line_dropped r)
         (follows AtTimeFrame (text_printed text (line_dropped r)) none) k
     after_phrase_follows r none IsNoPhrase k =
@@ -160,7 +160,7 @@ module _ (g : Story) (lines : Lines) where
   turn_follows zero m s r none k = absurd (k refl)
   turn_follows (suc n) m AtDescribe r none k =
       let e : suc n + m ≡ suc (n + m) = omega arith in
-      let text : List ℕ = view_text g.game (location_described r.world) in
+      let text : Text = view_text g.game (location_described r.world) in
       let s : Run = with_world (location_described r.world) r in
       rw e (saying_follows m text (λ q. table_done g (turn g n) DESCRIBED_TABLE (table_read g DESCRIBED_TABLE q))
       (λ q. table_done g (turn g (n + m)) DESCRIBED_TABLE (table_read g DESCRIBED_TABLE q)) s

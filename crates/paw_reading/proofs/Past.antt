@@ -133,7 +133,7 @@ module _ (g : Story) (ps : Texts) (ts : List (List StepRow)) where
         ≡ ending_with_past ps ts (after_phrase g go r p)
     after_phrase_past r (IsSentence s rest) = pasts AtResponse (with_world (turn_counted (taken_phrase s rest r).world) (taken_phrase s rest r))
     after_phrase_past r (IsUnknown rest) =
-        let text : List ℕ = unknown_text g.game r.world in
+        let text : Text = unknown_text g.game r.world in
         saying_past text (go AtTimeFrame) (line_dropped r) (pasts AtTimeFrame (text_printed text (line_dropped r)))
     after_phrase_past r IsNoPhrase =
         saying_past (prompt_text g.game r.world) (λ s. at_main g go (piece_closed s) s.events) (line_dropped r)

@@ -242,7 +242,7 @@ module _ (g : Story) (valid : ValidStory g) (seed : Seed) (base : ℕ) where
   }
 
   -- The words of the phrase that is taken.
-  phrase_so : (r : Run) → Is r → (s : Sentence) (left : List ℕ) → coming_phrase g r ≡ IsSentence s left →
+  phrase_so : (r : Run) → Is r → (s : Sentence) (left : Bytes) → coming_phrase g r ≡ IsSentence s left →
       Is (taken_phrase s left r)
   phrase_so r k s left e =
       let words =
@@ -254,7 +254,7 @@ module _ (g : Story) (valid : ValidStory g) (seed : Seed) (base : ℕ) where
       (left_line r.pending left (sentence-rest g.game r.pending r.earlier (flag r.world PRONOUN_NOUN_FLAG)
       (flag r.world PRONOUN_ADJECTIVE_FLAG) s left e) k.line) s.verb words.verb r.turning
 
-  unknown_so : (r : Run) → Is r → (left : List ℕ) → coming_phrase g r ≡ IsUnknown left →
+  unknown_so : (r : Run) → Is r → (left : Bytes) → coming_phrase g r ≡ IsUnknown left →
       Is (record r { pending = left })
   unknown_so r k left e =
       with_pending r k left (left_line r.pending left

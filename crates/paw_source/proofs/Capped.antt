@@ -1,6 +1,6 @@
 -- Numbers that are held in four bytes: those above stand for one another, as none of them is the number of a row.
 use Rattle.std.proofs.Common.{◌≡◌, ℕ, suc, ◌-◌, ◌≤◌, Bool, true, false, cond, not, ◌||◌, ◌&&◌, eqb}
-use Rattle.std.proofs.Common.{ltb, min, List, [], ◌∷◌, ◌++◌, length, replicate, drop, Option}
+use Rattle.std.proofs.Common.{ltb, min, [], ◌∷◌, ◌++◌, length, replicate, drop, Option}
 use Rattle.std.proofs.Common.{Some, None, Result, Ok, Err, refl, sym, ap, ◌∙◌, arith}
 use Rattle.std.specs.Prelude.{nat_lt}
 use Rattle.std.proofs.lemmas.Bool.{ltb-true}
@@ -99,7 +99,7 @@ slash_read p d l name rest left o small comment allowed slash tokens cut read =
     past_three (Ok d) (Err kind.Text) (text_added d l) _ (is_comment l) (has_forbidden_byte (is_text_line d l) l)
     (is_text_line d l) comment no_fault no_text in
     ap (λ (x : Option ℕ). slash_line d name x left) read
-    ∙ ap (λ (x : List ℕ). slash_line d name (capped_value (number x)) left) cut
+    ∙ ap (λ (x : Bytes). slash_line d name (capped_value (number x)) left) cut
     ∙ slash_capped d name (number (drop 1 name)) left small
     ∙ sym (ap (λ (x : Tokens). tokens_added p d true blank x) tokens)
     ∙ sym (ap (λ (b : Bool). tokens_added p d b blank (tokens_of l)) slash)

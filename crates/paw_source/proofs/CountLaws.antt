@@ -1,6 +1,6 @@
 -- Lines without a fault begin as many tables as were counted.
 use Rattle.std.proofs.Common.{◌≡◌, ℕ, suc, ◌+◌, ◌-◌, Bool, true, false, cond, not, ◌&&◌}
-use Rattle.std.proofs.Common.{◌||◌, eqb, List, [], ◌∷◌, ◌++◌, length, get_or, replicate, drop, Option}
+use Rattle.std.proofs.Common.{◌||◌, eqb, [], ◌∷◌, ◌++◌, length, get_or, replicate, drop, Option}
 use Rattle.std.proofs.Common.{Some, None, Ok, Err, refl, sym, ap, ◌∙◌, arith}
 use Rattle.std.specs.Prelude.{nat_lt, codes}
 use Rattle.std.specs.Str.{str_to_ascii_lowercase, bytes_eq}
@@ -12,7 +12,7 @@ use Rattle.std.proofs.lemmas.Bool.{eqb-true, lt-ltb}
 use Rattle.std.proofs.lemmas.Bool.Decides.{nat_tests}
 use Rattle.std.proofs.lemmas.List.{length-append, length-set}
 use Rattle.std.proofs.lemmas.List.Sums.{sum_by-cons}
-use Rattle.paw_base.specs.Bytes.{Tokens}
+use Rattle.paw_base.specs.Bytes.{Tokens, Bytes, Line, Token}
 use Rattle.paw_base.specs.declared.fault.SourceKind.TheVariants as kind
 use Rattle.paw_lex.specs.Bytes.{is_comment, has_forbidden_byte}
 use Rattle.paw_lex.specs.Tokens.{tokens_of}
@@ -49,7 +49,7 @@ texts_same section.Con begun ts d = refl
 texts_same section.Obj begun ts d = refl
 texts_same section.Pro begun ts d = refl
 
-text_same : (d e : Spelt) (l : List ℕ) → text_added d l ≡ Ok e → tables e ≡ tables d
+text_same : (d e : Spelt) (l : Line) → text_added d l ≡ Ok e → tables e ≡ tables d
 text_same d e l h =
     let b = bound (text_line d.begun l (texts_of d.section d)) (λ ts. Ok (with_texts d.section true ts d)) e h in
     ap tables (sym (ok_is (with_texts d.section true b.0 d) e b.2)) ∙ texts_same d.section true b.0 d
@@ -79,15 +79,15 @@ item_same section.Pro n d e h = absurd cc
 -- ---- headers
 
 -- A token has one name.
-not_pro : (t name : List ℕ) → is_named t name ≡ true → is_named name (codes "/PRO") ≡ false → is_named t (codes "/PRO") ≡ false
+not_pro : (t name : Bytes) → is_named t name ≡ true → is_named name (codes "/PRO") ≡ false → is_named t (codes "/PRO") ≡ false
 not_pro t name f other =
-    ap (λ (x : List ℕ). bytes_eq x (str_to_ascii_lowercase (codes "/PRO")))
+    ap (λ (x : Bytes). bytes_eq x (str_to_ascii_lowercase (codes "/PRO")))
     ((bytes_eq-Decides (str_to_ascii_lowercase t) (str_to_ascii_lowercase name)).0 f) ∙ other
 
 digit_no_letter : (c : ℕ) → is_ascii_digit c ≡ true → eqb (to_ascii_lowercase c) 112 ≡ false
 digit_no_letter c h = grind (arith, nat_tests)
 
-is_first_digit : (c n : ℕ) (cs : List ℕ) → number (c ∷ cs) ≡ Some n → is_ascii_digit c ≡ true
+is_first_digit : (c n : ℕ) (cs : Bytes) → number (c ∷ cs) ≡ Some n → is_ascii_digit c ≡ true
 is_first_digit c n cs h =
     let some : nat_lt 0 (length (c ∷ cs)) ≡ true = lt-ltb 0 (length (c ∷ cs)) (omega arith) in
     elim (is_ascii_digit c) as (λ b. cond (b && list_all is_ascii_digit cs) (Some (digits_value 10 (c ∷ cs))) None ≡ Some n → b ≡ true) [
@@ -95,7 +95,7 @@ is_first_digit c n cs h =
       | false ↦ λ e. absurd cc
     ] (rw some at h)
 
-number_not_pro : (t : List ℕ) (n : ℕ) → number (drop 1 t) ≡ Some n → is_named t (codes "/PRO") ≡ false
+number_not_pro : (t : Token) (n : ℕ) → number (drop 1 t) ≡ Some n → is_named t (codes "/PRO") ≡ false
 number_not_pro [] n h = refl
 number_not_pro (b ∷ []) n h = absurd cc
 number_not_pro (b ∷ c ∷ cs) n h =
@@ -125,7 +125,7 @@ no_more : (d e : Spelt) (b : Bool) → b ≡ false → tables e ≡ tables d →
 no_more d e true h same = absurd cc
 no_more d e false h same = omega (arith, same)
 
-header_counts : (s : Section) (d e : Spelt) (t : List ℕ) (ts : Tokens)
+header_counts : (s : Section) (d e : Spelt) (t : Token) (ts : Tokens)
     → is_named t (next_header s).0 ≡ true → header_of (next_header s).1 d ts ≡ Ok e
     → tables e ≡ tables d + begun (t ∷ ts)
 header_counts section.Before d e t ts f h = no_more d e (is_named t (codes "/PRO")) (not_pro t (codes "/VOC") f refl) (plain_same section.Voc d e ts h)
@@ -138,7 +138,7 @@ header_counts section.Con d e t ts f h = no_more d e (is_named t (codes "/PRO"))
 header_counts section.Obj d e t ts f h = rw f (pro_more d e ts h)
 header_counts section.Pro d e t ts f h = rw f (pro_more d e ts h)
 
-slash_counts : (d e : Spelt) (t : List ℕ) (o : Option ℕ) (ts : Tokens) → number (drop 1 t) ≡ o
+slash_counts : (d e : Spelt) (t : Token) (o : Option ℕ) (ts : Tokens) → number (drop 1 t) ≡ o
     → slash_line d t o ts ≡ Ok e → tables e ≡ tables d + begun (t ∷ ts)
 slash_counts d e t (Some n) ts o h =
     no_more d e (is_named t (codes "/PRO")) (number_not_pro t n o) (item_same d.section n d e (at_end ts (item_in d.section d n) e h))
@@ -188,18 +188,18 @@ tokens_count p d e false blank [] h = let same = ap tables (ok_is d e h) in omeg
 tokens_count p d e true blank (t ∷ ts) h = slash_counts d e t (number (drop 1 t)) ts refl h
 tokens_count p d e false blank (t ∷ ts) h = let same = row_same p d.section d e blank (t ∷ ts) h in omega (arith, same)
 
-comment_no_table : (l : List ℕ) → is_comment l ≡ true → begins_table l ≡ false
+comment_no_table : (l : Line) → is_comment l ≡ true → begins_table l ≡ false
 comment_no_table [] h = absurd cc
 comment_no_table (b ∷ bs) h = rw (eqb-true b 59 h) refl
 
-no_slash_no_table : (l : List ℕ) (a : Bool) → (a && not (begins_with_slash l)) ≡ true → begins_table l ≡ false
+no_slash_no_table : (l : Line) (a : Bool) → (a && not (begins_with_slash l)) ≡ true → begins_table l ≡ false
 no_slash_no_table l a h =
     elim (begins_with_slash l) as (λ b. (a && not b) ≡ true → (b && is_pro_token (tokens_of l)) ≡ false) [
       | true ↦ λ e. absurd (elim a as (λ v. (v && false) ≡ true → ⊥) [ true ↦ λ f. absurd cc | false ↦ λ f. absurd cc ] e)
       | false ↦ λ e. refl
     ] h
 
-pub step_counts : (p : ℕ) (d e : Spelt) (l : List ℕ) → after_line p d l ≡ Ok e → length e.tables ≡ length d.tables + cond (begins_table l) 1 0
+pub step_counts : (p : ℕ) (d e : Spelt) (l : Line) → after_line p d l ≡ Ok e → length e.tables ≡ length d.tables + cond (begins_table l) 1 0
 unfolding after_line
 step_counts p d e l h =
     elim (is_comment l) as (λ b. is_comment l ≡ b

@@ -8,7 +8,7 @@ use Rattle.std.proofs.lemmas.Bool.{eqb-false}
 use Rattle.std.proofs.lemmas.Bool.Decides.{nat_tests}
 use Rattle.std.proofs.lemmas.List.{length-append, length-set, length-replicate}
 use Rattle.std.proofs.lemmas.List.Folds.{list_all-append}
-use Rattle.paw_base.specs.Bytes.{Name, Tokens, Texts}
+use Rattle.paw_base.specs.Bytes.{Name, Tokens, Texts, Line}
 use Rattle.paw_base.specs.declared.limits.TheConstants.{SYSTEM_LIMIT, MESSAGE_LIMIT, OBJECT_LIMIT, LOCATION_LEAST}
 use Rattle.paw_base.specs.declared.limits.TheConstants.{LOCATION_LIMIT, TABLE_LIMIT}
 use Rattle.paw_base.specs.declared.fault.SourceKind.{SourceKind}
@@ -186,7 +186,7 @@ texts_kept_in p section.Con d k = none_kept 0
 texts_kept_in p section.Obj d k = none_kept 0
 texts_kept_in p section.Pro d k = none_kept 0
 
-text_lawful : (p : ℕ) (d e : Spelt) (l : List ℕ) → IsLawful p d → is_comment l ≡ false → begins_with_slash l ≡ false
+text_lawful : (p : ℕ) (d e : Spelt) (l : Line) → IsLawful p d → is_comment l ≡ false → begins_with_slash l ≡ false
     → has_forbidden_byte true l ≡ false → text_added d l ≡ Ok e → IsLawful p e
 text_lawful p d e l k comment slash bytes h =
     let b = bound (text_line d.begun l (texts_of d.section d)) (λ ts. Ok (with_texts d.section true ts d)) e h in
@@ -437,7 +437,7 @@ no_slash true true h = absurd cc
 no_slash true false h = refl
 no_slash false b h = absurd cc
 
-pub step_lawful : (p : ℕ) (d e : Spelt) (l : List ℕ) → IsLawful p d → after_line p d l ≡ Ok e → IsLawful p e
+pub step_lawful : (p : ℕ) (d e : Spelt) (l : Line) → IsLawful p d → after_line p d l ≡ Ok e → IsLawful p e
 unfolding after_line
 step_lawful p d e l k h =
     let others : Result Spelt SourceKind = tokens_added p d (begins_with_slash l) (begins_with_blank l) (tokens_of l) in

@@ -7,7 +7,7 @@ use Rattle.std.proofs.lemmas.Bool.{and_parts}
 use Rattle.std.proofs.lemmas.Bool.Decides.{nat_tests}
 use Rattle.std.proofs.lemmas.List.{length-set, length-append}
 use Rattle.std.proofs.lemmas.List.Folds.{list_all-append}
-use Rattle.paw_base.specs.Bytes.{Line, Texts}
+use Rattle.paw_base.specs.Bytes.{Line, Texts, Bytes}
 use Rattle.paw_base.specs.declared.limits.TheConstants.{TEXT_LIMIT}
 use Rattle.paw_base.specs.declared.fault.SourceKind.TheVariants as kind
 use Rattle.paw_game.specs.Valid.{is_text, is_text_byte, begins_no_line, is_printed}
@@ -54,7 +54,7 @@ plain b = nat_le 0x20 b && nat_le b 0x7E
 plain_byte : (b : ℕ) → not (is_allowed true b) ≡ false → plain b ≡ true
 plain_byte b h = grind (arith, nat_tests)
 
-plain_line : (l : List ℕ) → list_any (λ b. not (is_allowed true b)) l ≡ false → list_all plain l ≡ true
+plain_line : (l : Line) → list_any (λ b. not (is_allowed true b)) l ≡ false → list_all plain l ≡ true
 plain_line [] h = refl
 plain_line (b ∷ bs) h =
     elim (not (is_allowed true b)) as (λ v. not (is_allowed true b) ≡ v
@@ -67,7 +67,7 @@ plain_is_text : (b : ℕ) → plain b ≡ true → (is_text_byte b ≡ true) × 
 plain_is_text b h = (grind (arith, nat_tests), grind (arith, nat_tests))
 
 -- Inside a line any of these bytes may stand.
-within_line : (l : List ℕ) → list_all plain l ≡ true → is_printed false l ≡ true
+within_line : (l : Line) → list_all plain l ≡ true → is_printed false l ≡ true
 within_line [] h = refl
 within_line (b ∷ bs) h =
     let p = and_parts (plain b) (list_all plain bs) h in
@@ -78,7 +78,7 @@ not_slash : (b : ℕ) → eqb b 59 ≡ false → eqb b 47 ≡ false → begins_n
 not_slash b p q = rw (p, q) refl
 
 -- A line that doesn't begin with `/` or `;` may stand anywhere.
-whole_line : (first : Bool) (l : List ℕ) → list_all plain l ≡ true → is_comment l ≡ false → begins_with_slash l ≡ false → is_printed first l ≡ true
+whole_line : (first : Bool) (l : Line) → list_all plain l ≡ true → is_comment l ≡ false → begins_with_slash l ≡ false → is_printed first l ≡ true
 whole_line first [] h c s = refl
 whole_line first (b ∷ bs) h c s =
     let p = and_parts (plain b) (list_all plain bs) h in
@@ -90,13 +90,13 @@ whole_line first (b ∷ bs) h c s =
     ])
 
 -- What may stand anywhere may stand after a text.
-behind : (first : Bool) (t l : List ℕ) → is_printed first t ≡ true → ((f : Bool) → is_printed f l ≡ true) → is_printed first (t ++ l) ≡ true
+behind : (first : Bool) (t l : Bytes) → is_printed first t ≡ true → ((f : Bool) → is_printed f l ≡ true) → is_printed first (t ++ l) ≡ true
 behind first [] l h any = any first
 behind first (b ∷ bs) l h any =
     let p = and_parts (is_text_byte b && not (first && begins_no_line b)) (is_printed (eqb b 10) bs) h in
     both (is_text_byte b && not (first && begins_no_line b)) (is_printed (eqb b 10) (bs ++ l)) p.0 (behind (eqb b 10) bs l p.1 any)
 
-joined_printed : (begun : Bool) (t l : List ℕ) → is_printed true t ≡ true → ((f : Bool) → is_printed f l ≡ true) → is_printed true (with_line begun t l) ≡ true
+joined_printed : (begun : Bool) (t l : Bytes) → is_printed true t ≡ true → ((f : Bool) → is_printed f l ≡ true) → is_printed true (with_line begun t l) ≡ true
 joined_printed true t l h any = behind true t (10 ∷ l) h (λ f. elim f as (λ f. is_printed f (10 ∷ l) ≡ true) [ true ↦ any true | false ↦ any true ])
 joined_printed false t l h any = behind true t l h any
 

@@ -14,7 +14,7 @@ use Rattle.std.proofs.lemmas.List.{length-take, length-map, length-replicate}
 use Rattle.std.proofs.lemmas.List.Quantifiers.{position-Some}
 use Rattle.std.proofs.lemmas.Cmp.{nat_list_cmp_total}
 use Rattle.std.proofs.lemmas.Map.Text.{is_eq-slice_cmp}
-use Rattle.paw_base.specs.Bytes.{Tokens, Letters}
+use Rattle.paw_base.specs.Bytes.{Tokens, Letters, Bytes, Token}
 use Rattle.paw_base.specs.declared.fault.SourceKind.TheVariants as kind
 use Rattle.paw_base.specs.Condacts.{capitals}
 use Rattle.paw_base.specs.declared.limits.TheConstants.{WORD_LENGTH, WORD_LIMIT}
@@ -41,20 +41,20 @@ filled_spaces zero = refl
 filled_spaces (suc n) = all_spaces n
 
 -- Letters, and then spaces.
-letters_filled : (cs : List ℕ) (n : ℕ) → list_all is_letter cs ≡ true → is_filled (cs ++ replicate n 32) ≡ true
+letters_filled : (cs : Bytes) (n : ℕ) → list_all is_letter cs ≡ true → is_filled (cs ++ replicate n 32) ≡ true
 letters_filled [] n h = filled_spaces n
 letters_filled (c ∷ cs) n h =
     let p = and_parts (is_letter c) (list_all is_letter cs) h in
     rw p.0 (letters_filled cs n p.1)
 
-letters_taken : (i : ℕ) (cs : List ℕ) → list_all is_letter cs ≡ true → list_all is_letter (take i cs) ≡ true
+letters_taken : (i : ℕ) (cs : Bytes) → list_all is_letter cs ≡ true → list_all is_letter (take i cs) ≡ true
 letters_taken zero cs h = refl
 letters_taken (suc i) [] h = refl
 letters_taken (suc i) (c ∷ cs) h =
     let p = and_parts (is_letter c) (list_all is_letter cs) h in
     rw p.0 (letters_taken i cs p.1)
 
-five_letters : (cs : List ℕ) → length (take WORD_LENGTH cs ++ replicate (WORD_LENGTH - length cs) 32) ≡ WORD_LENGTH
+five_letters : (cs : Bytes) → length (take WORD_LENGTH cs ++ replicate (WORD_LENGTH - length cs) 32) ≡ WORD_LENGTH
 five_letters cs =
     let a = length-append (take WORD_LENGTH cs) (replicate (WORD_LENGTH - length cs) 32) in
     let b = length-take WORD_LENGTH cs in
@@ -64,13 +64,13 @@ five_letters cs =
 upper_letter : (b : ℕ) → is_ascii_alphanumeric b ≡ true → is_letter (to_ascii_uppercase b) ≡ true
 upper_letter b h = grind (arith, nat_tests)
 
-upper_letters : (t : List ℕ) → list_all is_ascii_alphanumeric t ≡ true → list_all is_letter (capitals t) ≡ true
+upper_letters : (t : Bytes) → list_all is_ascii_alphanumeric t ≡ true → list_all is_letter (capitals t) ≡ true
 upper_letters [] h = refl
 upper_letters (b ∷ bs) h =
     let p = and_parts (is_ascii_alphanumeric b) (list_all is_ascii_alphanumeric bs) h in
     rw (upper_letter b p.0) (upper_letters bs p.1)
 
-letters_kept : (t : List ℕ) → is_word_token t ≡ true → are_letters (letters_of t) ≡ true
+letters_kept : (t : Token) → is_word_token t ≡ true → are_letters (letters_of t) ≡ true
 letters_kept [] h = absurd cc
 letters_kept (b ∷ bs) h =
     let some = (and_parts (nat_lt 0 (length (b ∷ bs))) (list_all is_ascii_alphanumeric (b ∷ bs)) h).1 in
@@ -100,7 +100,7 @@ class_ok ts x h =
 -- ---- order
 
 -- Of two texts that differ one stands above.
-other_way : (a b : List ℕ) → is_lt (slice_cmp nat_cmp a b) ≡ false → bytes_eq b a ≡ false → is_lt (slice_cmp nat_cmp b a) ≡ true
+other_way : (a b : Bytes) → is_lt (slice_cmp nat_cmp a b) ≡ false → bytes_eq b a ≡ false → is_lt (slice_cmp nat_cmp b a) ≡ true
 other_way a b less same =
     let back = nat_list_cmp_total.antisymm a b in
     let eq = is_eq-slice_cmp b a in
@@ -111,7 +111,7 @@ other_way a b less same =
     ] back eq
 
 -- Some word has these letters.
-abbrev is_declared : List ℕ → List Word → Bool
+abbrev is_declared : Letters → List Word → Bool
 is_declared letters ws = is_some (word_of letters ws)
 
 no_word : (o : Option Word) → is_some o ≡ false → o ≡ None
@@ -119,7 +119,7 @@ no_word None h = refl
 no_word (Some w) h = absurd cc
 
 -- Letters that aren't declared are those of no word.
-undeclared : (l : List ℕ) (v : Word) (vs : List Word) → is_declared l (v ∷ vs) ≡ false → (bytes_eq v.letters l ≡ false) × (is_declared l vs ≡ false)
+undeclared : (l : Letters) (v : Word) (vs : List Word) → is_declared l (v ∷ vs) ≡ false → (bytes_eq v.letters l ≡ false) × (is_declared l vs ≡ false)
 undeclared l v vs h =
     elim (bytes_eq v.letters l) as (λ b. is_some (cond b (Some v) (word_of l vs)) ≡ false → (b ≡ false) × (is_declared l vs ≡ false)) [
       | true ↦ λ e. absurd cc
@@ -185,7 +185,7 @@ declared_ok w ws vs one kept h =
 -- ---- looking up
 
 -- A word that is found is one of the words.
-found_has : (l : List ℕ) (ws : List Word) (w : Word) → word_of l ws ≡ Some w → has_word ws w.class w.value ≡ true
+found_has : (l : Letters) (ws : List Word) (w : Word) → word_of l ws ≡ Some w → has_word ws w.class w.value ≡ true
 found_has l [] w h = absurd cc
 found_has l (u ∷ us) w h =
     elim (bytes_eq u.letters l) as (λ b. cond b (Some u) (word_of l us) ≡ Some w → has_word (u ∷ us) w.class w.value ≡ true) [
@@ -193,7 +193,7 @@ found_has l (u ∷ us) w h =
       | false ↦ λ e. grind (arith, found_has l us w e)
     ] h
 
-known_has : (ws : List Word) (t : List ℕ) (w : Word) → declared_word ws t ≡ Some w → has_word ws w.class w.value ≡ true
+known_has : (ws : List Word) (t : Token) (w : Word) → declared_word ws t ≡ Some w → has_word ws w.class w.value ≡ true
 known_has ws t w h =
     elim (is_word_token t) as (λ b. cond b (word_of (letters_of t) ws) None ≡ Some w → has_word ws w.class w.value ≡ true) [
       | true ↦ λ e. found_has (letters_of t) ws w e
@@ -238,14 +238,14 @@ verb_word_ok ws ts x h =
     verb_has ws x.0 (declared_word ws r.0) (known_has ws r.0) r.1
 
 -- `_` is no word, and anything else what it means.
-none_or : (f : List ℕ → Option ℕ) (t : List ℕ) (v : ℕ) (good : Bool) → (f t ≡ Some v → good ≡ true) → or_none f t ≡ Some v → (eqb v NO_WORD || good) ≡ true
+none_or : (f : Token → Option ℕ) (t : Token) (v : ℕ) (good : Bool) → (f t ≡ Some v → good ≡ true) → or_none f t ≡ Some v → (eqb v NO_WORD || good) ≡ true
 none_or f t v good from h =
     elim (bytes_eq t (95 ∷ [])) as (λ b. cond b (Some NO_WORD) (f t) ≡ Some v → (eqb v NO_WORD || good) ≡ true) [
       | true ↦ λ e. rw (← some_is NO_WORD v e) refl
       | false ↦ λ e. rw (from e) (elim (eqb v NO_WORD) as (λ b. (b || true) ≡ true) [ true ↦ refl | false ↦ refl ])
     ] h
 
-any_or : (f : List ℕ → Option ℕ) (t : List ℕ) (v : ℕ) (good : Bool) → (f t ≡ Some v → good ≡ true) → or_any f t ≡ Some v → (is_wildcard v || good) ≡ true
+any_or : (f : Token → Option ℕ) (t : Token) (v : ℕ) (good : Bool) → (f t ≡ Some v → good ≡ true) → or_any f t ≡ Some v → (is_wildcard v || good) ≡ true
 any_or f t v good from h =
     elim (bytes_eq t (42 ∷ [])) as (λ b. cond b (Some ANY_WORD) (or_none f t) ≡ Some v → (is_wildcard v || good) ≡ true) [
       | true ↦ λ e. rw (← some_is ANY_WORD v e) refl

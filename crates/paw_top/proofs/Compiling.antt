@@ -1,10 +1,10 @@
 -- A compiler, step by step.
-use Rattle.std.proofs.Common.{◌≡◌, ℕ, ◌+◌, ◌≤◌, true, List, length, take, refl, sym, ap, ◌∙◌, subst, arith, ◌⊎◌}
+use Rattle.std.proofs.Common.{◌≡◌, ◌+◌, ◌≤◌, true, length, take, refl, sym, ap, ◌∙◌, subst, arith, ◌⊎◌}
 use Rattle.std.proofs.Common.{inl, inr}
 use Rattle.std.proofs.lemmas.Bool.Decides.{nat_tests}
 use Rattle.std.proofs.lemmas.List.{take_all, length-take-le}
 use Rattle.std.specs.Prelude.{nat_lt, Ok, Err}
-use Rattle.paw_base.specs.Bytes.{Bytes}
+use Rattle.paw_base.specs.Bytes.{Bytes, Name}
 use Rattle.paw_base.specs.declared.limits.TheConstants.{SOURCE_LIMIT}
 use Rattle.paw_base.specs.declared.fault.SourceKind.TheVariants as kind
 use Rattle.paw_game.specs.Game.{GameLists}
@@ -40,21 +40,21 @@ read_whole given bytes e = sym (ap game_spelled e ∙ first_bytes bytes (in_orde
 -- ---- the answers ----
 
 -- A load that gives nothing says why nothing is compiled.
-pub no_source : (source target : List ℕ) (old new : Standing) (o : Outcome) → LoadsNone source old new o → Compiles source target old new o
+pub no_source : (source target : Name) (old new : Standing) (o : Outcome) → LoadsNone source old new o → Compiles source target old new o
 no_source source target old new (outcome.Outside call.LoadAbsent) h = absent h.0 h.1
 no_source source target old new (outcome.Outside call.Load) h = unloaded h
 no_source source target old new (outcome.Memory at) h = memory at h
 no_source source target old new _ h = absurd h
 
 -- A source that gives no image says why nothing is compiled.
-pub no_image : (source target given : List ℕ) (old new : Standing) (o : Outcome) → LoadsSome source SOURCE_LIMIT old new given →
+pub no_image : (source target given : Bytes) (old new : Standing) (o : Outcome) → LoadsSome source SOURCE_LIMIT old new given →
     IsRefusal (game_spelled given) o →
     Compiles source target old new o
 no_image source target given old new (outcome.SourceRefused fault) f h = refused fault (f.0, f.1, read_whole given f.0 f.2 ∙ h) f.3
 no_image source target given old new (outcome.Memory at) f h = memory at f.3
 no_image source target given old new _ f h = absurd h
 
-keeps_so : (source target : List ℕ) (g : GameLists) (old new : Standing) (o : Outcome) → HoldsSource old source (Ok g) →
+keeps_so : (source target : Name) (g : GameLists) (old new : Standing) (o : Outcome) → HoldsSource old source (Ok g) →
     SavesSo target (image g) (image_line (length (image g))) old new o → Compiles source target old new o
 keeps_so source target g old new outcome.Done s k = done g s k
 keeps_so source target g old new (outcome.Outside call.Save) s k = unsaved g s k
@@ -62,7 +62,7 @@ keeps_so source target g old new (outcome.Outside call.Show) s k = unshown g k.2
 keeps_so source target g old new _ s k = absurd k.2
 
 -- An image that is kept is compiled, as far as it was kept.
-pub keeps_image : (source target given made line : List ℕ) (old mid new : Standing) (o : Outcome) → LoadsSome source SOURCE_LIMIT old mid given →
+pub keeps_image : (source target given made line : Bytes) (old mid new : Standing) (o : Outcome) → LoadsSome source SOURCE_LIMIT old mid given →
     (g : GameLists) × (game_spelled given ≡ Ok g) × (made ≡ image g) → line ≡ image_line (length made) →
     SavesSo target made line mid new o → Compiles source target old new o
 keeps_image source target given made line old mid new o f m l k =

@@ -1,10 +1,10 @@
 -- A command whose calls don't fail.
-use Rattle.std.proofs.Common.{◌≡◌, ◌≢◌, ◌≤◌, ◌<◌, ℕ, true, false, List, length, Option, Some, None, refl, sym, ap, ◌∙◌}
+use Rattle.std.proofs.Common.{◌≡◌, ◌≢◌, ◌≤◌, ◌<◌, ℕ, true, false, length, Option, Some, None, refl, sym, ap, ◌∙◌}
 use Rattle.std.proofs.Common.{subst, arith}
 use Rattle.std.specs.Prelude.{Result, Ok, Err, IfSome, nat_le, if◌then◌else◌}
 use Rattle.std.proofs.lemmas.Bool.Decides.{nat_tests}
 use Rattle.paw_wrap.specs.declared.columns.TheConstants.{WRAP_LIMIT}
-use Rattle.paw_base.specs.Bytes.{Bytes, Name, RoutineAnswers, Seed}
+use Rattle.paw_base.specs.Bytes.{Bytes, Name, RoutineAnswers, Seed, Text}
 use Rattle.paw_base.specs.declared.fault.SourceFault.{SourceFault}
 use Rattle.paw_base.specs.declared.limits.TheConstants.{EVENT_LIMIT}
 use Rattle.paw_game.specs.Game.{GameLists}
@@ -59,7 +59,7 @@ pub hindered : (c : StageCall) → c ≢ call.LoadAbsent → IsUnhindered (outco
 hindered c another free = another free
 
 -- A file that isn't there holds nothing.
-is_missing : (file : Option (List ℕ)) (bytes : Bytes) → file ≡ None → file ≡ Some bytes → ⊥
+is_missing : (file : Option Bytes) (bytes : Bytes) → file ≡ None → file ≡ Some bytes → ⊥
 is_missing file bytes h k = cc
 
 -- Memory may be lacking for any source.
@@ -68,11 +68,11 @@ for_memory (Ok g) at = tt
 for_memory (Err fault) at = tt
 
 -- What is read of the source settles the answer.
-reads_so : (file : Option (List ℕ)) (a b : List ℕ) (read : Result GameLists SourceFault) (o : Outcome) → file ≡ Some a → game_spelled a ≡ read → file ≡ Some b →
+reads_so : (file : Option Bytes) (a b : Bytes) (read : Result GameLists SourceFault) (o : Outcome) → file ≡ Some a → game_spelled a ≡ read → file ≡ Some b →
     CompletesSource read o → CompletesSource (game_spelled b) o
 reads_so file a b read o h s k done = subst (λ r. CompletesSource r o) (sym s ∙ ap game_spelled (same_file file a b h k)) done
 
-pub completes_compile : (source target : List ℕ) (old new : Standing) (o : Outcome) → compile.Compiles source target old new o →
+pub completes_compile : (source target : Name) (old new : Standing) (o : Outcome) → compile.Compiles source target old new o →
     IsUnhindered o → CompletesCompile source old o
 completes_compile source target old new _ (compile.done g s e) free = λ bytes is. reads_so _ s.0 bytes (Ok g) outcome.Done s.1 s.2 is refl
 completes_compile source target old new _ (compile.refused fault s e) free = λ bytes is.
@@ -114,7 +114,7 @@ completes_unopened name Such old new _ memory (without_memory at e) free =
     record { image = λ h k. memory h at; other = λ k. tt }
 
 -- A game of which a text is shown.
-pub completes_told : {told : GameLists → List ℕ} {at : MemoryAt} (name : Name) (old new : Standing) (o : Outcome) →
+pub completes_told : {told : GameLists → Text} {at : MemoryAt} (name : Name) (old new : Standing) (o : Outcome) →
     decompile.ShowsTextOf told at name old new o → IsUnhindered o → CompletesImage name (λ g. Comes outcome.Done) old o
 completes_told name old new _ (decompile.done g s e) free = completes_game name (λ g. Comes outcome.Done) old g outcome.Done s refl
 completes_told name old new _ (decompile.unopened o u) free =

@@ -1,7 +1,7 @@
 -- A session whose calls don't fail.
-use Rattle.std.proofs.Common.{◌≡◌, ◌≢◌, ◌⊎◌, ℕ, ◌<◌, List, [], ◌∷◌, length, take, Some, refl, sym, ap, ◌∙◌, subst}
+use Rattle.std.proofs.Common.{◌≡◌, ◌≢◌, ◌⊎◌, ℕ, ◌<◌, [], ◌∷◌, length, take, Some, refl, sym, ap, ◌∙◌, subst}
 use Rattle.std.proofs.Common.{arith, inl, inr}
-use Rattle.paw_base.specs.Bytes.{Bytes, Name, RoutineAnswers, Seed, zeros}
+use Rattle.paw_base.specs.Bytes.{Bytes, Name, RoutineAnswers, Seed, zeros, Text}
 use Rattle.paw_game.specs.Game.{GameLists}
 use Rattle.paw_effects.specs.Story.{Story, story_of}
 use Rattle.paw_state.specs.State.{State}
@@ -109,13 +109,13 @@ completes_play answers name store seed old new o p free =
 -- ---- a session that is taken up again ----
 
 -- Bytes show one session: its digests, its state and its piece.
-same_digests : (d c : Digests) (s t p q : List ℕ) (r : Recovered) → r ≡ Shown d s p → r ≡ Shown c t q → d ≡ c
+same_digests : (d c : Digests) (s t p q : Bytes) (r : Recovered) → r ≡ Shown d s p → r ≡ Shown c t q → d ≡ c
 same_digests d c s t p q r h k = let e : Shown d s p ≡ Shown c t q = sym h ∙ k in cc
 
-same_state : (d c : Digests) (s t p q : List ℕ) → Shown d s p ≡ Shown c t q → s ≡ t
+same_state : (d c : Digests) (s t p q : Bytes) → Shown d s p ≡ Shown c t q → s ≡ t
 same_state d c s t p q e = cc
 
-same_piece : (d c : Digests) (s t p q : List ℕ) (r : Recovered) → r ≡ Shown d s p → r ≡ Shown c t q → p ≡ q
+same_piece : (d c : Digests) (s t p q : Bytes) (r : Recovered) → r ≡ Shown d s p → r ≡ Shown c t q → p ≡ q
 same_piece d c s t p q r h k = let e : Shown d s p ≡ Shown c t q = sym h ∙ k in cc
 
 -- Equal digests name the same game.
@@ -126,7 +126,7 @@ routines_of : (d c : Digests) → d ≡ c → d.routines ≡ c.routines
 routines_of d c e = ap (λ (x : Digests). x.routines) e
 
 -- Routines that the session doesn't keep, or that are the story's, aren't others.
-no_others : (kept own : List ℕ) → (kept ≡ zeros 32) ⊎ (kept ≡ own) → kept ≢ zeros 32 → kept ≢ own → ⊥
+no_others : (kept own : Bytes) → (kept ≡ zeros 32) ⊎ (kept ≡ own) → kept ≢ zeros 32 → kept ≢ own → ⊥
 no_others kept own (inl h) none other = none h
 no_others kept own (inr h) none other = other h
 
@@ -184,14 +184,14 @@ again_memory g bytes at = record { shown = λ d st piece b h. no_memory at; refu
 
 -- A session of no state of the game shows none.
 is_unfit : (g : GameLists) (d c : Digests) (bytes state piece : Bytes) → recover bytes ≡ Shown d (take state_length state) piece → ¬ Fit g state →
-    (st : State) (p : List ℕ) → ShowsState g c bytes st p → ⊥
+    (st : State) (p : Text) → ShowsState g c bytes st p → ⊥
 unfolding kept_bytes
 is_unfit g d c bytes state piece is not st p h =
     let e : Shown d (take state_length state) piece ≡ Shown c (kept_bytes st) p = sym is ∙ h.shown in
     not (record { state = st; valid = h.valid; fits = h.fits; are = same_state _ _ _ _ _ _ e })
 
 -- A session that shows a state shows no other bytes.
-shows_other : (g : GameLists) (d c : Digests) (bytes state p q : List ℕ) (st : State) → recover bytes ≡ Shown c state q → ShowsState g d bytes st p →
+shows_other : (g : GameLists) (d c : Digests) (bytes state p q : Bytes) (st : State) → recover bytes ≡ Shown c state q → ShowsState g d bytes st p →
     ((s : State) → ¬ ShowsState g c bytes s q) → ⊥
 shows_other g d c bytes state p q st is h not =
     not st (subst (λ x. ShowsState g c bytes st x) (same_piece d c _ _ _ _ (recover bytes) h.shown is)

@@ -10,7 +10,7 @@ use Rattle.std.proofs.lemmas.Bool.{le-ltb, false≢true}
 use Rattle.std.proofs.lemmas.List.{append-nil}
 use Rattle.std.proofs.lemmas.List.Folds.{list_all-append}
 use Rattle.std.proofs.Math.ListN.{length-map}
-use Rattle.paw_base.specs.Bytes.{Tokens}
+use Rattle.paw_base.specs.Bytes.{Tokens, Token}
 use Rattle.paw_base.specs.declared.limits.TheConstants.{LOCATION_LIMIT, SYSTEM_LIMIT, MESSAGE_LIMIT, OBJECT_LIMIT}
 use Rattle.paw_base.specs.declared.limits.TheConstants.{TABLE_LIMIT, FLAG_COUNT, CONDACT_LIMIT}
 use Rattle.paw_base.specs.declared.places.TheConstants.{NOT_CREATED_PLACE, HERE_PLACE}
@@ -126,7 +126,7 @@ pub record Small (p : ℕ) (g : GameLists) : Type 0 where
   pub counted : p ≡ length g.tables
 
 -- A token doesn't begin with `@`.
-abbrev has_no_at : List ℕ → Bool
+abbrev has_no_at : Token → Bool
 has_no_at t = not (begins_with_at t)
 
 -- The tokens of a parameter are read as this parameter.

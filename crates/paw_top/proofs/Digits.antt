@@ -1,5 +1,5 @@
 -- A number that is printed is read as that number.
-use Rattle.std.proofs.Common.{◌≡◌, ℕ, ◌<◌, ◌≤◌, ◌^◌, Bool, true, false, eqb, leb, List, [], ◌∷◌, length}
+use Rattle.std.proofs.Common.{◌≡◌, ℕ, ◌<◌, ◌≤◌, ◌^◌, Bool, true, false, eqb, leb, [], ◌∷◌, length}
 use Rattle.std.proofs.Common.{Some, Ok, refl, sym, ap, ◌∙◌, arith}
 use Rattle.std.specs.Fmt.{decimal}
 use Rattle.std.specs.Char.{is_ascii_digit}
@@ -7,7 +7,7 @@ use Rattle.std.specs.List.{list_all}
 use Rattle.std.proofs.lemmas.Bool.{and_from, and_parts, le-leb, leb-true, lt-ltb, ne_eqb, not_from_false}
 use Rattle.std.proofs.lemmas.Fmt.{decimal_nonempty, digits_decimal, digits_value-decimal}
 use Rattle.std.proofs.lemmas.List.{append-nil}
-use Rattle.paw_base.specs.Bytes.{Tokens}
+use Rattle.paw_base.specs.Bytes.{Tokens, Bytes}
 use Rattle.paw_grammar.specs.Tokens.{begins_with_at}
 use Rattle.paw_grammar.specs.Numbers.{number, number_with}
 use Rattle.paw_grammar.specs.Spells.{begins_with_slash, after_line}
@@ -25,10 +25,10 @@ digit_clean d h =
     let semicolon : eqb d 59 ≡ false = ne_eqb d 59 (λ e. omega arith) in
     and_from _ _ (and_from _ _ (le-leb 33 d (omega arith)) (le-leb d 126 (omega arith))) (not_from_false _ semicolon)
 
-digits_clean : (ds : List ℕ) → list_all is_ascii_digit ds ≡ true → list_all is_clean ds ≡ true
+digits_clean : (ds : Bytes) → list_all is_ascii_digit ds ≡ true → list_all is_clean ds ≡ true
 digits_clean ds h = all_weaker is_ascii_digit is_clean digit_clean ds h
 
-some_plain : (ds : List ℕ) → 0 < length ds → list_all is_clean ds ≡ true → is_plain ds ≡ true
+some_plain : (ds : Bytes) → 0 < length ds → list_all is_clean ds ≡ true → is_plain ds ≡ true
 some_plain [] some h = absurd (omega (arith, some))
 some_plain (b ∷ bs) some h = h
 
@@ -64,7 +64,7 @@ pub number_with-decimal : (rule : ℕ → Bool) (n : ℕ) (ts : Tokens) → n �
 number_with-decimal rule n ts h keeps = rw (number-decimal n h, keeps) refl
 
 -- No digit is a stroke.
-slash_none : (ds : List ℕ) → list_all is_ascii_digit ds ≡ true → begins_with_slash ds ≡ false
+slash_none : (ds : Bytes) → list_all is_ascii_digit ds ≡ true → begins_with_slash ds ≡ false
 slash_none [] h = refl
 slash_none (b ∷ bs) h =
     let digit = and_parts (is_ascii_digit b) _ h in
@@ -75,7 +75,7 @@ pub decimal-slash : (n : ℕ) → n ≤ 65535 → begins_with_slash (decimal n) 
 decimal-slash n h = slash_none (decimal n) (digits_decimal decimal_digits n (omega arith))
 
 -- And none is `@`.
-at_none : (ds : List ℕ) → list_all is_ascii_digit ds ≡ true → begins_with_at ds ≡ false
+at_none : (ds : Bytes) → list_all is_ascii_digit ds ≡ true → begins_with_at ds ≡ false
 at_none [] h = refl
 at_none (b ∷ bs) h =
     let digit = and_parts (is_ascii_digit b) _ h in

@@ -1,5 +1,5 @@
 -- The printed letters of a word are read as these letters.
-use Rattle.std.proofs.Common.{◌≡◌, ℕ, suc, ◌≤◌, ◌-◌, true, false, ◌&&◌, eqb, leb, cond, List, [], ◌∷◌, ◌++◌, length}
+use Rattle.std.proofs.Common.{◌≡◌, ℕ, suc, ◌≤◌, ◌-◌, true, false, ◌&&◌, eqb, leb, cond, [], ◌∷◌, ◌++◌, length}
 use Rattle.std.proofs.Common.{take, replicate, refl, sym, ap, ◌∙◌, inl}
 use Rattle.std.proofs.Common.{inr, bytes_eq, arith}
 use Rattle.std.specs.Prelude.{codes}
@@ -9,7 +9,7 @@ use Rattle.std.proofs.lemmas.Bool.{and_parts, and_from, or_cases, or_left, or_ri
 use Rattle.std.proofs.lemmas.Bool.{lt-ltb, not_from_false}
 use Rattle.std.proofs.lemmas.List.{take_all}
 use Rattle.paw_lex.proofs.Slices.{before_first-cons}
-use Rattle.paw_base.specs.Bytes.{Letters}
+use Rattle.paw_base.specs.Bytes.{Letters, Bytes}
 use Rattle.paw_base.specs.declared.limits.TheConstants.{WORD_LENGTH}
 use Rattle.paw_base.specs.Condacts.{capitals}
 use Rattle.paw_game.specs.Valid.{is_letter, is_filled, are_letters}
@@ -52,11 +52,11 @@ letter c h =
 capital-is : (c : ℕ) → is_letter c ≡ true → to_ascii_uppercase c ≡ c
 capital-is c h = let l = letter c h in rw (lt-ltb c 97 (omega (arith, l.high))) refl
 
-capitals-are : (t : List ℕ) → list_all is_letter t ≡ true → capitals t ≡ t
+capitals-are : (t : Bytes) → list_all is_letter t ≡ true → capitals t ≡ t
 capitals-are [] h = refl
 capitals-are (c ∷ cs) h =
     let both = and_parts (is_letter c) (list_all is_letter cs) h in
-    rw (capital-is c both.0) (ap (λ (s : List ℕ). c ∷ s) (capitals-are cs both.1))
+    rw (capital-is c both.0) (ap (λ (s : Bytes). c ∷ s) (capitals-are cs both.1))
 
 -- A capital or a digit is a letter or a digit.
 alphanumeric : (c : ℕ) → is_letter c ≡ true → is_ascii_alphanumeric c ≡ true
@@ -66,13 +66,13 @@ alphanumeric c h =
       | inr digit ↦ or_left _ _ (or_left _ _ digit)
     ]
 
-letters_alphanumeric : (t : List ℕ) → list_all is_letter t ≡ true → list_all is_ascii_alphanumeric t ≡ true
+letters_alphanumeric : (t : Bytes) → list_all is_letter t ≡ true → list_all is_ascii_alphanumeric t ≡ true
 letters_alphanumeric [] h = refl
 letters_alphanumeric (c ∷ cs) h =
     let both = and_parts (is_letter c) (list_all is_letter cs) h in
     and_from _ _ (alphanumeric c both.0) (letters_alphanumeric cs both.1)
 
-letters_clean : (t : List ℕ) → list_all is_letter t ≡ true → list_all is_clean t ≡ true
+letters_clean : (t : Bytes) → list_all is_letter t ≡ true → list_all is_clean t ≡ true
 letters_clean [] h = refl
 letters_clean (c ∷ cs) h =
     let both = and_parts (is_letter c) (list_all is_letter cs) h in
@@ -81,33 +81,33 @@ letters_clean (c ∷ cs) h =
 -- ---- letters that are filled up ----
 
 -- t is s without the spaces that fill it up.
-record IsTrimmed (s t : List ℕ) : Type 0 where
+record IsTrimmed (s t : Bytes) : Type 0 where
   letters : list_all is_letter t ≡ true
   short : length t ≤ length s
   filled : t ++ replicate (length s - length t) 32 ≡ s
 
-all_spaces : (s : List ℕ) → list_all (λ d. eqb d 32) s ≡ true → replicate (length s) 32 ≡ s
+all_spaces : (s : Bytes) → list_all (λ d. eqb d 32) s ≡ true → replicate (length s) 32 ≡ s
 all_spaces [] h = refl
 all_spaces (c ∷ cs) h =
     let both = and_parts (eqb c 32) (list_all (λ d. eqb d 32) cs) h in
-    ap (λ (s : List ℕ). 32 ∷ s) (all_spaces cs both.1) ∙ ap (λ d. d ∷ cs) (sym (eqb-true c 32 both.0))
+    ap (λ (s : Bytes). 32 ∷ s) (all_spaces cs both.1) ∙ ap (λ d. d ∷ cs) (sym (eqb-true c 32 both.0))
 
-trimmed-letter : (c : ℕ) (cs t : List ℕ) → is_letter c ≡ true → IsTrimmed cs t → IsTrimmed (c ∷ cs) (c ∷ t)
+trimmed-letter : (c : ℕ) (cs t : Bytes) → is_letter c ≡ true → IsTrimmed cs t → IsTrimmed (c ∷ cs) (c ∷ t)
 trimmed-letter c cs t h rest =
     let left : suc (length cs) - suc (length t) ≡ length cs - length t = omega arith in
     record {
       letters = and_from _ _ h rest.letters;
       short = omega (arith, rest.short);
-      filled = ap (λ (s : List ℕ). c ∷ s) (ap (λ n. t ++ replicate n 32) left ∙ rest.filled);
+      filled = ap (λ (s : Bytes). c ∷ s) (ap (λ n. t ++ replicate n 32) left ∙ rest.filled);
     }
 
-trimmed-spaces : (c : ℕ) (cs : List ℕ) → list_all (λ d. eqb d 32) (c ∷ cs) ≡ true → IsTrimmed (c ∷ cs) (before_first (λ b. eqb b 32) (c ∷ cs))
+trimmed-spaces : (c : ℕ) (cs : Bytes) → list_all (λ d. eqb d 32) (c ∷ cs) ≡ true → IsTrimmed (c ∷ cs) (before_first (λ b. eqb b 32) (c ∷ cs))
 trimmed-spaces c cs h =
     let space = (and_parts (eqb c 32) (list_all (λ d. eqb d 32) cs) h).0 in
     let whole : length (c ∷ cs) - 0 ≡ length (c ∷ cs) = omega arith in
     rw space (record { letters = refl; short = omega arith; filled = ap (λ n. replicate n 32) whole ∙ all_spaces (c ∷ cs) h })
 
-trimmed : (s : List ℕ) → is_filled s ≡ true → IsTrimmed s (before_first (λ b. eqb b 32) s)
+trimmed : (s : Bytes) → is_filled s ≡ true → IsTrimmed s (before_first (λ b. eqb b 32) s)
 trimmed [] h = record { letters = refl; short = omega arith; filled = refl }
 trimmed (c ∷ cs) h =
     elim (is_letter c) as (λ v. is_letter c ≡ v → cond v (is_filled cs) (list_all (λ d. eqb d 32) (c ∷ cs)) ≡ true →
@@ -120,7 +120,7 @@ trimmed (c ∷ cs) h =
 -- ---- the token of a word ----
 
 -- A token that spells these letters, and is no sign and no header.
-pub record Spelling (t letters : List ℕ) : Type 0 where
+pub record Spelling (t letters : Bytes) : Type 0 where
   pub plain : is_plain t ≡ true
   pub slash : begins_with_slash t ≡ false
   pub at : begins_with_at t ≡ false
@@ -129,7 +129,7 @@ pub record Spelling (t letters : List ℕ) : Type 0 where
   pub word : is_word_token t ≡ true
   pub is : read_letters t ≡ letters
 
-spelling-letters : (c : ℕ) (cs letters : List ℕ) → length letters ≡ WORD_LENGTH → IsTrimmed letters (c ∷ cs) → Spelling (c ∷ cs) letters
+spelling-letters : (c : ℕ) (cs letters : Bytes) → length letters ≡ WORD_LENGTH → IsTrimmed letters (c ∷ cs) → Spelling (c ∷ cs) letters
 spelling-letters c cs letters long t =
     let first = letter c (and_parts (is_letter c) (list_all is_letter cs) t.letters).0 in
     let stroke : eqb c 47 ≡ false = ne_eqb c 47 (λ e. omega (arith, first.low)) in
@@ -144,8 +144,8 @@ spelling-letters c cs letters long t =
       none = rw under refl;
       word = and_from _ _ (lt-ltb 0 (length (c ∷ cs)) (omega arith)) (letters_alphanumeric (c ∷ cs) t.letters);
       is =
-          ap (λ (s : List ℕ). take WORD_LENGTH s ++ replicate (WORD_LENGTH - length (c ∷ cs)) 32) same
-          ∙ ap (λ (s : List ℕ). s ++ replicate (WORD_LENGTH - length (c ∷ cs)) 32) (take_all WORD_LENGTH (c ∷ cs) (omega (arith, t.short)))
+          ap (λ (s : Bytes). take WORD_LENGTH s ++ replicate (WORD_LENGTH - length (c ∷ cs)) 32) same
+          ∙ ap (λ (s : Bytes). s ++ replicate (WORD_LENGTH - length (c ∷ cs)) 32) (take_all WORD_LENGTH (c ∷ cs) (omega (arith, t.short)))
           ∙ ap (λ n. (c ∷ cs) ++ replicate (n - length (c ∷ cs)) 32) (sym long)
           ∙ t.filled;
     }

@@ -1,5 +1,5 @@
 -- A session that is opened: what is loaded before changes nothing.
-use Rattle.std.proofs.Common.{◌≡◌, List, ℕ, sym, ap, subst}
+use Rattle.std.proofs.Common.{◌≡◌, sym, ap, subst}
 use Rattle.paw_base.specs.Bytes.{Name, Seed}
 use Rattle.paw_game.specs.Game.{GameLists}
 use Rattle.paw_effects.specs.Story.{Story, story_of}
@@ -21,7 +21,7 @@ same_story old name game s mine holds = ap (λ (h : GameLists). story_of h s.ans
 pub plays_new : (s : PlayedSession) (old mid new : Standing) (o : PlayEnd) → mid ≡ old → NewSession s mid new o → NewSession s old new o
 plays_new s old mid new o still p = subst (λ q. NewSession s q new o) still p
 
-pub plays_again : (g : Story) (store : List ℕ) (old mid new : Standing) (o : PlayEnd) → mid ≡ old → PlaysAgain g store mid new o →
+pub plays_again : (g : Story) (store : Name) (old mid new : Standing) (o : PlayEnd) → mid ≡ old → PlaysAgain g store mid new o →
     PlaysAgain g store old new o
 plays_again g store old mid new o still p = subst (λ q. PlaysAgain g store q new o) still p
 
@@ -29,14 +29,14 @@ pub goes_on : (s : PlayedSession) (old mid new : Standing) (o : PlayEnd) → mid
 goes_on s old mid new o still p = subst (λ q. GoesOn s q new o) still p
 
 -- The session goes on from the same bytes, and is of the same story.
-pub goes_from : (g k : Story) (s : PlayedSession) (store : List ℕ) (old mid : Standing) → mid ≡ old → k ≡ g →
+pub goes_from : (g k : Story) (s : PlayedSession) (store : Name) (old mid : Standing) → mid ≡ old → k ≡ g →
     GoesOnFrom g store (store_bytes old store) s → GoesOnFrom k store (store_bytes mid store) s
 goes_from g k s store old mid still same h =
     subst (λ q. GoesOnFrom q store (store_bytes mid store) s) (sym same)
     (subst (λ q. GoesOnFrom g store (store_bytes q store) s) (sym still) h)
 
 -- The moments of a new session at a stage where nothing has changed since.
-pub new_parts : {S : Type 0} (gs : Ghosts S) (before after : S) (g k : Story) (seed : Seed) (store : List ℕ) (old mid : Standing) → mid ≡ old → k ≡ g →
+pub new_parts : {S : Type 0} (gs : Ghosts S) (before after : S) (g k : Story) (seed : Seed) (store : Name) (old mid : Standing) → mid ≡ old → k ≡ g →
     InTwoParts gs before after (NotYet store mid) (InNewSession (session_begun k seed store) mid) →
     InTwoParts gs before after (NotYet store old) (InNewSession (session_begun g seed store) old)
 new_parts gs before after g k seed store old mid still same p =
@@ -44,7 +44,7 @@ new_parts gs before after g k seed store old mid still same p =
     (subst (λ q. InTwoParts gs before after (NotYet store mid) (InNewSession (session_begun q seed store) mid)) same p)
 
 -- And those of one that is taken up again.
-pub again_parts : {S : Type 0} (gs : Ghosts S) (before after : S) (s : PlayedSession) (store : List ℕ) (old mid : Standing) → mid ≡ old →
+pub again_parts : {S : Type 0} (gs : Ghosts S) (before after : S) (s : PlayedSession) (store : Name) (old mid : Standing) → mid ≡ old →
     InTwoParts gs before after (NotYet store mid) (InPlay s mid) → InTwoParts gs before after (NotYet store old) (InPlay s old)
 again_parts gs before after s store old mid still p =
     subst (λ q. InTwoParts gs before after (NotYet store q) (InPlay s q)) still p

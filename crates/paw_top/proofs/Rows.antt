@@ -6,7 +6,7 @@ use Rattle.std.proofs.lemmas.Bool.{and_parts, and_from, and_right, not-true, not
 use Rattle.std.proofs.lemmas.Bool.{lt-ltb}
 use Rattle.std.proofs.lemmas.List.{append-nil}
 use Rattle.std.proofs.lemmas.List.Folds.{list_all-append}
-use Rattle.paw_base.specs.Bytes.{Bytes, Token, Tokens}
+use Rattle.paw_base.specs.Bytes.{Bytes, Token, Tokens, Line}
 use Rattle.paw_lex.specs.Bytes.{is_printed_byte, is_allowed, is_comment, has_forbidden_byte}
 use Rattle.paw_lex.specs.Tokens.{is_blank, tokens_of}
 use Rattle.paw_lex.specs.inner.Tokens.{ends_token}
@@ -25,7 +25,7 @@ abbrev pub is_clean : ℕ → Bool
 is_clean b = (leb 33 b && leb b 126) && not (eqb b 59)
 
 -- A token has such bytes alone, and one at least.
-abbrev pub is_plain : List ℕ → Bool
+abbrev pub is_plain : Token → Bool
 is_plain [] = false
 is_plain (b ∷ bs) = is_clean b && list_all is_clean bs
 
@@ -58,11 +58,11 @@ all_weaker p q gives (b ∷ bs) h =
     let both = and_parts (p b) (list_all p bs) h in
     and_from (q b) (list_all q bs) (gives b both.0) (all_weaker p q gives bs both.1)
 
-pub plain_printed : (t : List ℕ) → is_plain t ≡ true → list_all is_printed_byte t ≡ true
+pub plain_printed : (t : Token) → is_plain t ≡ true → list_all is_printed_byte t ≡ true
 plain_printed [] h = refl
 plain_printed (b ∷ bs) h = all_weaker is_clean is_printed_byte (λ c e. (clean c e).printed) (b ∷ bs) h
 
-plain_token : (t : List ℕ) → is_plain t ≡ true → is_token t ≡ true
+plain_token : (t : Token) → is_plain t ≡ true → is_token t ≡ true
 plain_token [] h = absurd cc
 plain_token (b ∷ bs) h =
     and_from (ltb 0 (length (b ∷ bs))) _ (lt-ltb 0 (length (b ∷ bs)) (omega arith))
@@ -78,7 +78,7 @@ plain_tokens (t ∷ ts) h =
 
 spaced-join : (t : Token) (ts : Tokens) → tokens_spaced (t ∷ ts) ≡ join_with_byte 32 (t ∷ ts)
 spaced-join t [] = append-nil t
-spaced-join t (u ∷ us) = ap (λ (s : List ℕ). t ++ (32 ∷ s)) (spaced-join u us)
+spaced-join t (u ∷ us) = ap (λ (s : Line). t ++ (32 ∷ s)) (spaced-join u us)
 
 tokens_of-spaced : (t : Token) (ts : Tokens) → list_all is_plain (t ∷ ts) ≡ true → tokens_of (tokens_spaced (t ∷ ts)) ≡ t ∷ ts
 tokens_of-spaced t ts h = ap tokens_of (spaced-join t ts) ∙ tokens_of-join (t ∷ ts) (plain_tokens (t ∷ ts) h)
@@ -97,13 +97,13 @@ printed-spaced t ts h = printed-behind (t ∷ ts) h
 
 -- ---- bytes ----
 
-none_forbidden : (text : Bool) (l : List ℕ) → list_all is_printed_byte l ≡ true → list_any (λ b. not (is_allowed text b)) l ≡ false
+none_forbidden : (text : Bool) (l : Line) → list_all is_printed_byte l ≡ true → list_any (λ b. not (is_allowed text b)) l ≡ false
 none_forbidden text [] h = refl
 none_forbidden text (b ∷ bs) h =
     let both = and_parts (is_printed_byte b) (list_all is_printed_byte bs) h in
     rw both.0 (none_forbidden text bs both.1)
 
-pub no_forbidden_byte : (text : Bool) (l : List ℕ) → list_all is_printed_byte l ≡ true → has_forbidden_byte text l ≡ false
+pub no_forbidden_byte : (text : Bool) (l : Line) → list_all is_printed_byte l ≡ true → has_forbidden_byte text l ≡ false
 no_forbidden_byte text l h = and_right (not (is_comment l)) _ (none_forbidden text l h)
 
 -- ---- one line ----
@@ -132,7 +132,7 @@ pub more_step : (p : ℕ) (d : Spelt) (t : Token) (ts : Tokens) → list_all is_
     → after_line p d (after_spaces (t ∷ ts)) ≡ row_in d.section p d true (t ∷ ts)
 unfolding after_line
 more_step p d t ts h out =
-    let l : List ℕ = after_spaces (t ∷ ts) in
+    let l : Line = after_spaces (t ∷ ts) in
     let text : is_text_line d l ≡ false = rw out refl in
     rw (no_forbidden_byte (is_text_line d l) l (printed-behind (t ∷ ts) h), text, tokens_of-behind t ts h) refl
 
@@ -141,12 +141,12 @@ pub slash_step : (p : ℕ) (d : Spelt) (bs : Bytes) (ts : Tokens) → list_all i
     → after_line p d (tokens_spaced ((47 ∷ bs) ∷ ts)) ≡ slash_line d (47 ∷ bs) (number bs) ts
 unfolding after_line
 slash_step p d bs ts h =
-    let l : List ℕ = tokens_spaced ((47 ∷ bs) ∷ ts) in
+    let l : Line = tokens_spaced ((47 ∷ bs) ∷ ts) in
     let text : is_text_line d l ≡ false = and_right (is_in_text d) false refl in
     rw (no_forbidden_byte (is_text_line d l) l (printed-spaced (47 ∷ bs) ts h), text, tokens_of-spaced (47 ∷ bs) ts h) refl
 
 -- A line of a text: printed bytes, of which the first is neither `/` nor `;`.
-pub text_step : (p : ℕ) (d : Spelt) (l : List ℕ) → list_all is_printed_byte l ≡ true → begins_with_slash l ≡ false → is_comment l ≡ false → is_in_text d ≡ true
+pub text_step : (p : ℕ) (d : Spelt) (l : Line) → list_all is_printed_byte l ≡ true → begins_with_slash l ≡ false → is_comment l ≡ false → is_in_text d ≡ true
     → after_line p d l ≡ text_added d l
 unfolding after_line
 text_step p d l h slash comment text =

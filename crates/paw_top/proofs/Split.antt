@@ -24,7 +24,7 @@ pub data HasLine (ls : List Line) : Type 0 where
 onto_some : (b : ℕ) (ls : List Line) → HasLine ls → HasLine (onto_first b ls)
 onto_some b ls (has_line l ms e) = has_line (b ∷ l) ms (ap (onto_first b) e)
 
-pub split_some : (s : List ℕ) → HasLine (split s)
+pub split_some : (s : Text) → HasLine (split s)
 split_some [] = has_line [] [] refl
 split_some (b ∷ bs) =
     elim (eqb b 10) as (λ v. HasLine (cond v ([] ∷ split bs) (onto_first b (split bs)))) [
@@ -38,23 +38,23 @@ rejoined-end ls (has_line l ms e) = rw e refl
 rejoined-onto : (b : ℕ) (ls : List Line) → HasLine ls → rejoined (onto_first b ls) ≡ b ∷ rejoined ls
 rejoined-onto b ls (has_line l ms e) = rw e refl
 
-pub rejoined-split : (s : List ℕ) → rejoined (split s) ≡ s
+pub rejoined-split : (s : Text) → rejoined (split s) ≡ s
 rejoined-split [] = refl
 rejoined-split (b ∷ bs) =
     elim (eqb b 10) as (λ v. eqb b 10 ≡ v → rejoined (cond v ([] ∷ split bs) (onto_first b (split bs))) ≡ b ∷ bs) [
-      | true ↦ λ e. rejoined-end (split bs) (split_some bs) ∙ ap (λ (t : List ℕ). 10 ∷ t) (rejoined-split bs) ∙ ap (λ c. c ∷ bs) (sym (eqb-true b 10 e))
-      | false ↦ λ e. rejoined-onto b (split bs) (split_some bs) ∙ ap (λ (t : List ℕ). b ∷ t) (rejoined-split bs)
+      | true ↦ λ e. rejoined-end (split bs) (split_some bs) ∙ ap (λ (t : Text). 10 ∷ t) (rejoined-split bs) ∙ ap (λ c. c ∷ bs) (sym (eqb-true b 10 e))
+      | false ↦ λ e. rejoined-onto b (split bs) (split_some bs) ∙ ap (λ (t : Text). b ∷ t) (rejoined-split bs)
     ] refl
 
 -- ---- the bytes of a line ----
 
 -- No `/` and no `;` begins a line.
-abbrev pub begins_well : List ℕ → Bool
+abbrev pub begins_well : Line → Bool
 begins_well [] = true
 begins_well (b ∷ bs) = not (begins_no_line b)
 
 -- A line of a text.
-abbrev pub is_line : List ℕ → Bool
+abbrev pub is_line : Line → Bool
 is_line l = list_all is_print l && begins_well l
 
 -- Lines of which the first may be the rest of a line.
@@ -87,7 +87,7 @@ lines_onto first b ls printed begins n = record {
   rest = n.rest;
 }
 
-split_lines : (first : Bool) (s : List ℕ) → is_printed first s ≡ true → Lines first (split s)
+split_lines : (first : Bool) (s : Text) → is_printed first s ≡ true → Lines first (split s)
 split_lines first [] h = record { head = []; others = []; are = refl; printed = refl; begins = λ e. refl; rest = refl }
 split_lines first (b ∷ bs) h =
     let both = and_parts (is_text_byte b && not (first && begins_no_line b)) (is_printed (eqb b 10) bs) h in
@@ -105,20 +105,20 @@ split_lines first (b ∷ bs) h =
     ] refl both.1
 
 -- The lines of a text are printed, and none begins with `/` or `;`.
-pub split_is_lines : (s : List ℕ) → is_printed true s ≡ true → list_all is_line (split s) ≡ true
+pub split_is_lines : (s : Text) → is_printed true s ≡ true → list_all is_line (split s) ≡ true
 split_is_lines s h = all_lines (split s) (split_lines true s h)
 
 -- What a line of a text is.
-pub record TextLine (l : List ℕ) : Type 0 where
+pub record TextLine (l : Line) : Type 0 where
   pub printed : list_all is_print l ≡ true
   pub slash : begins_with_slash l ≡ false
   pub comment : is_comment l ≡ false
 
-text_line_begins : (l : List ℕ) → begins_well l ≡ true → (begins_with_slash l ≡ false) × (is_comment l ≡ false)
+text_line_begins : (l : Line) → begins_well l ≡ true → (begins_with_slash l ≡ false) × (is_comment l ≡ false)
 text_line_begins [] h = (refl, refl)
 text_line_begins (b ∷ bs) h = or_parts (eqb b 47) (eqb b 59) (not-true _ h)
 
-pub text_line_is : (l : List ℕ) → is_line l ≡ true → TextLine l
+pub text_line_is : (l : Line) → is_line l ≡ true → TextLine l
 text_line_is l h =
     let both = and_parts (list_all is_print l) _ h in
     let begins = text_line_begins l both.1 in

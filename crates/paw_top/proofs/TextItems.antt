@@ -1,5 +1,5 @@
 -- The printed texts of a section are read as its texts.
-use Rattle.std.proofs.Common.{◌≡◌, ℕ, suc, ◌<◌, ◌≤◌, Bool, true, false, not, eqb, ltb, leb, List, [], ◌∷◌, ◌++◌, length}
+use Rattle.std.proofs.Common.{◌≡◌, ℕ, suc, ◌<◌, ◌≤◌, Bool, true, false, not, eqb, ltb, leb, [], ◌∷◌, ◌++◌, length}
 use Rattle.std.proofs.Common.{Result, Ok, refl, ap, ◌∙◌}
 use Rattle.std.proofs.Common.{arith, length-append}
 use Rattle.std.specs.List.{list_all, flat_map}
@@ -130,7 +130,7 @@ more_lines : (p : ℕ) (s : Section) (d : Spelt) (before : Texts) (t : Text) (ls
 more_lines p s d before t [] at text lines short = rw (append-nil t) (reads_none p (with_texts s true (before ++ t ∷ []) d))
 more_lines p s d before t (l ∷ ls) at text lines short =
     let both = and_parts (is_line l) (list_all is_line ls) lines in
-    let more : List ℕ = flat_map (λ m. 10 ∷ m) ls in
+    let more : Text = flat_map (λ m. 10 ∷ m) ls in
     let same : (t ++ 10 ∷ l) ++ more ≡ t ++ (10 ∷ l ++ more) = append_assoc t (10 ∷ l) more in
     let whole : length ((t ++ 10 ∷ l) ++ more) ≤ TEXT_LIMIT = rw same short in
     let first : length (t ++ 10 ∷ l) ≤ TEXT_LIMIT = omega (arith, length-append (t ++ 10 ∷ l) more, whole) in

@@ -1,5 +1,5 @@
 -- What the bytes of a session's state count.
-use Rattle.std.proofs.Common.{◌≡◌, ℕ, ◌<◌, List, ◌++◌, length, get_or, take, sym, ap, ◌∙◌, arith}
+use Rattle.std.proofs.Common.{◌≡◌, ℕ, ◌<◌, ◌++◌, length, get_or, take, sym, ap, ◌∙◌, arith}
 use Rattle.std.specs.Prelude.{slice_index, codes, decimal}
 use Rattle.std.proofs.lemmas.List.{get_or_append_left, get_or-take}
 use Rattle.paw_base.specs.Bytes.{Bytes, Text}
@@ -25,9 +25,9 @@ use Rattle.paw_trial.proofs.Lines.{plays_all, few_lines}
 -- The flags come first in a state's bytes.
 flags_first : (s : State) (i : ℕ) → i < length s.world.flags → slice_index (kept_bytes s) i ≡ slice_index s.world.flags i
 unfolding kept_bytes
-flags_first s i low = ap (λ (l : List ℕ). get_or l i 0) (state_same s) ∙ get_or_append_left s.world.flags _ 0 i low
+flags_first s i low = ap (λ (l : Bytes). get_or l i 0) (state_same s) ∙ get_or_append_left s.world.flags _ 0 i low
 
-same_state : (d e : Digests) (s p t q : List ℕ) → Shown d s p ≡ Shown e t q → s ≡ t
+same_state : (d e : Digests) (s p t q : Bytes) → Shown d s p ≡ Shown e t q → s ≡ t
 same_state d e s p t q h = cc
 
 module _ (g : GameLists) (n : ℕ) (buffer piece : Bytes) (r : Recovered) (digests : Digests) (is : r ≡ Shown digests (take state_length buffer) piece) where

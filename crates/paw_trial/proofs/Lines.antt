@@ -1,5 +1,5 @@
 -- The lines of a trial, and how they are taken.
-use Rattle.std.proofs.Common.{◌≡◌, ℕ, ◌/◌, ◌%◌, ◌≤◌, ◌<◌, Bool, true, false, List, [], ◌∷◌, ◌++◌, map, length, get_or}
+use Rattle.std.proofs.Common.{◌≡◌, ℕ, ◌/◌, ◌%◌, ◌≤◌, ◌<◌, Bool, true, false, [], ◌∷◌, ◌++◌, map, length, get_or}
 use Rattle.std.proofs.Common.{take, drop, refl, sym, ap, ◌∙◌, subst}
 use Rattle.std.proofs.Common.{arith, append_assoc}
 use Rattle.std.specs.Prelude.{All, ◌==◌, nat_lt, nat_le, codes, if◌then◌else◌}
@@ -35,7 +35,7 @@ is_line : (line : Line) → nat_le (length line) LINE_LIMIT ≡ true → list_al
     → IsLine line
 is_line line short bytes = record { short = grind (arith, nat_tests); bytes = each_byte line bytes }
 
-by_tests : (P : List ℕ → Type 0) (a b c d e : Bool) (u v w x y z : List ℕ) → P u → P v → P w → P x → P y → P z →
+by_tests : (P : Line → Type 0) (a b c d e : Bool) (u v w x y z : Line) → P u → P v → P w → P x → P y → P z →
     P (if a then u else if b then v else if c then w else if d then x else if e then y else z)
 by_tests P true b c d e u v w x y z pu pv pw px py pz = pu
 by_tests P false true c d e u v w x y z pu pv pw px py pz = pv

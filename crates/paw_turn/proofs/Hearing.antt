@@ -1,5 +1,5 @@
 -- A line at the main prompt.
-use Rattle.std.proofs.Common.{◌≡◌, ℕ, true, false, List, [], refl, sym, ap, subst}
+use Rattle.std.proofs.Common.{◌≡◌, ℕ, true, false, [], refl, sym, ap, subst}
 use Rattle.paw_base.specs.Bytes.{Line, Lines}
 use Rattle.paw_base.specs.declared.messages.TheConstants.{TIMEOUT_MESSAGE}
 use Rattle.paw_base.specs.declared.words.TheConstants.{NO_WORD}
@@ -52,7 +52,7 @@ timeout_heard g old new line w nx heard timeout world moves machine =
     is m past lines = rw (heard, timeout, world) refl
 
 -- A line that is pending now.
-abbrev taking_line : List ℕ → PlayState → PlayState
+abbrev taking_line : Line → PlayState → PlayState
 taking_line line h = with_world_and_line (with_timeout false h.surroundings.world)
     (record { bytes = line; earlier = NO_WORD }) h
 

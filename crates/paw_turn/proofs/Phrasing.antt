@@ -1,5 +1,6 @@
 -- The next phrase.
-use Rattle.std.proofs.Common.{◌≡◌, ℕ, suc, ◌<◌, List, [], length, sym, ap, ◌∙◌, subst}
+use Rattle.std.proofs.Common.{◌≡◌, ℕ, suc, ◌<◌, [], length, sym, ap, ◌∙◌, subst}
+use Rattle.paw_base.specs.Bytes.{Bytes}
 use Rattle.paw_base.specs.declared.messages.TheConstants.{UNKNOWN_MESSAGE}
 use Rattle.paw_base.specs.declared.flags.TheConstants.{PRONOUN_NOUN_FLAG, PRONOUN_ADJECTIVE_FLAG}
 use Rattle.paw_game.specs.Game.{GameLists}
@@ -33,7 +34,7 @@ sentence_moves g old new w speaks world machine piece past n lines =
     ap (phrased g n (run_now old past lines)) speaks.1 ∙ ap (turn g n AtResponse) cc
 
 -- At an unknown phrase message 6 is said, and the rest of the line is dropped.
-pub unknown_moves : (g : Story) (old new : PlayState) (nx : Next) (rest : List ℕ) (w : World) (p : PendingLine)
+pub unknown_moves : (g : Story) (old new : PlayState) (nx : Next) (rest : Bytes) (w : World) (p : PendingLine)
     → next_phrase g.game old.surroundings.world old.surroundings.pending ≡ IsUnknown rest → w ≡ old.surroundings.world
     → p ≡ record { bytes = []; earlier = old.surroundings.pending.earlier }
     → Moves g (λ n r. saying (say_text g.game w UNKNOWN_MESSAGE) (turn g n (at_phase phase.TimeFrame)) r)
@@ -65,10 +66,10 @@ none_moves g old new nx w p is world pending moves past n lines =
 -- A phrase that is taken makes what is pending shorter.
 pub sentence_shorter : (g : GameLists) (w : World) (p q : PendingLine) (w' : World) → Speaks g found.Sentence w w' p q → length q.bytes < length p.bytes
 sentence_shorter g w p q w' speaks =
-    subst (LeavesBytes (λ (rest : List ℕ). length rest < length p.bytes)) speaks.1
+    subst (LeavesBytes (λ (rest : Bytes). length rest < length p.bytes)) speaks.1
     (parsed-shorter g p.bytes p.earlier (flag w PRONOUN_NOUN_FLAG) (flag w PRONOUN_ADJECTIVE_FLAG))
 
 pub unknown_shorter : (g : GameLists) (w : World) (p q : PendingLine) (w' : World) → Speaks g found.Nothing w w' p q → length q.bytes < length p.bytes
 unknown_shorter g w p q w' speaks =
-    subst (LeavesBytes (λ (rest : List ℕ). length rest < length p.bytes)) speaks.0
+    subst (LeavesBytes (λ (rest : Bytes). length rest < length p.bytes)) speaks.0
     (parsed-shorter g p.bytes p.earlier (flag w PRONOUN_NOUN_FLAG) (flag w PRONOUN_ADJECTIVE_FLAG))

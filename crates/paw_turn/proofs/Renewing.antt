@@ -4,7 +4,7 @@ use Rattle.std.proofs.Common.{reverse, refl, ap, ◌∙◌, subst, arith}
 use Rattle.std.specs.Prelude.{if◌then◌else◌, nat_le}
 use Rattle.std.proofs.lemmas.List.{length-reverse, length-map}
 use Rattle.std.proofs.lemmas.Bool.Decides.{nat_tests}
-use Rattle.paw_base.specs.Bytes.{Line, Lines, Text}
+use Rattle.paw_base.specs.Bytes.{Line, Lines, Text, Bytes}
 use Rattle.paw_base.specs.declared.fault.SpentKind.TheVariants as spent
 use Rattle.paw_base.specs.declared.parts.ObjectFacts.{ObjectFacts}
 use Rattle.paw_base.specs.inner.Piece.{Puts}
@@ -40,7 +40,7 @@ final declines fit e s d =
     if declines then (if fit then halts halt.Over e else halts (halt.Spent spent.Text) s) else Stopped Restarts d
 
 -- The answer, once it is heard.
-abbrev answer_of : Story → List ℕ → Run → Out
+abbrev answer_of : Story → Line → Run → Out
 answer_of g line r =
     final (is_no (reply line)) (fits r (say_text g.game r.world GOODBYE_MESSAGE))
     (piece_closed (without_loop (line_dropped (text_printed (say_text g.game r.world GOODBYE_MESSAGE) r)))) r (anew r)
@@ -127,7 +127,7 @@ again_ends g old new line w some hears declines world fit piece stays bytes earl
     let piece' = subst (λ v. new.surroundings.piece ≡ old.surroundings.piece ++ say_text g.game v GOODBYE_MESSAGE)
     world piece in
     let world' = stays ∙ world in
-    let text : List ℕ = say_text g.game (with_timeout (is_timeout line) old.surroundings.world) GOODBYE_MESSAGE in
+    let text : Text = say_text g.game (with_timeout (is_timeout line) old.surroundings.world) GOODBYE_MESSAGE in
     let t : nat_le (length old.surroundings.piece + length text) PIECE_LIMIT ≡ true =
     grind (arith, nat_tests, fit') in (
       past.read,
@@ -144,7 +144,7 @@ again_ends g old new line w some hears declines world fit piece stays bytes earl
     )
   where
     held_is : (past : Past) (lines : Lines) (u : World) (text : Text)
-        (v : World) (b : List ℕ) (e : ℕ) (o : Option OpenLoop) (q : List ℕ)
+        (v : World) (b : Bytes) (e : ℕ) (o : Option OpenLoop) (q : Text)
         → v ≡ u → b ≡ [] → e ≡ old.surroundings.pending.earlier → o ≡ None → q ≡ text
         → piece_closed (run_from u [] old.surroundings.pending.earlier None text past lines) ≡ piece_closed (run_from v b e o q past lines)
     held_is past lines u text v b e o q world bytes earlier turning piece = rw (world, bytes, earlier, turning, piece) refl
@@ -159,7 +159,7 @@ again_spends : (g : Story) (old new : PlayState) (line : Line) (w : World) → 0
 again_spends g old new line w some hears declines world full none past has =
     let full' = subst (λ v. PIECE_LIMIT < length old.surroundings.piece + length (say_text g.game v GOODBYE_MESSAGE))
     world full in
-    let text : List ℕ = say_text g.game (with_timeout (is_timeout line) old.surroundings.world) GOODBYE_MESSAGE in
+    let text : Text = say_text g.game (with_timeout (is_timeout line) old.surroundings.world) GOODBYE_MESSAGE in
     let t : nat_le (length old.surroundings.piece + length text) PIECE_LIMIT ≡ false =
     grind (arith, nat_tests, full') in (
       past.read,

@@ -1,5 +1,5 @@
-use Rattle.std.proofs.Common.{◌≡◌, List, ap, ◌∙◌, subst}
-use Rattle.std.specs.Prelude.{ℕ}
+use Rattle.std.proofs.Common.{◌≡◌, ap, ◌∙◌, subst}
+use Rattle.paw_base.specs.Bytes.{Bytes}
 use Rattle.paw_stage.specs.Stage.{Standing}
 use Rattle.paw_journal.specs.Session.{Digests, Recovered, Shown, recover, kept_digests, session_committed}
 use Rattle.paw_journal.specs.inner.Store.{InStore, CrashLeavesSuch, IsOldOrNew}
@@ -8,7 +8,7 @@ use Rattle.paw_play.specs.inner.OnTheWay.{seat_state, seat_base}
 use Rattle.paw_play.proofs.line.commit.Goals as goal
 
 -- What a player's session shows.
-same_shown : (digests : Digests) (state piece s p : List ℕ) → state ≡ s → piece ≡ p → Shown digests state piece ≡ Shown digests s p
+same_shown : (digests : Digests) (state piece s p : Bytes) → state ≡ s → piece ≡ p → Shown digests state piece ≡ Shown digests s p
 same_shown digests state piece s p e f = ap (λ x. Shown digests x piece) e ∙ ap (λ x. Shown digests s x) f
 
 pub returns-clause-call : goal.returns-clause-call

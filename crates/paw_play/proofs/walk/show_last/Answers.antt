@@ -1,5 +1,6 @@
-use Rattle.std.proofs.Common.{◌≡◌, ◌<◌, ◌++◌, ◌∙◌, List, ℕ, refl, ap, subst, length, arith, length-append}
+use Rattle.std.proofs.Common.{◌≡◌, ◌<◌, ◌++◌, ◌∙◌, refl, ap, subst, length, arith, length-append}
 use Rattle.std.specs.Prelude.{Result, Ok, Err, OnOk, OnErr}
+use Rattle.paw_base.specs.Bytes.{Text}
 use Rattle.paw_stage.specs.Stage.{Standing, InShow, failed_in, with_shown}
 use Rattle.paw_stage.specs.declared.StageCall.TheVariants as call
 use Rattle.paw_stage.proofs.Time.{Passes_map, Passes_on}
@@ -19,7 +20,7 @@ of_err (Err e) f h = f h
 
 pub returns-in-Err-clause-some : goal.returns-in-Err-clause-some
 returns-in-Err-clause-some g c = λ h.
-    let before : List ℕ = preface g.P.Preface.showing c.args.player.now.machine.steps in
+    let before : Text = preface g.P.Preface.showing c.args.player.now.machine.steps in
     let is : c.text.result.now ≡ before = c.text.ensures.text ∙ ap (preface g.P.Preface.showing) c.steps.ensures.value in
     let some : 0 < length before = subst (λ t. 0 < length t) is (c.in-Err.ensures.some refl) in
     omega (arith, some, length-append before c.args.player.now.piece)
@@ -32,7 +33,7 @@ returns-in-Err-clause-part g c = λ tells.
 
 pub returns-in-Err-clause-time : goal.returns-in-Err-clause-time
 returns-in-Err-clause-time g c = λ tells.
-    let before : List ℕ = preface g.P.Preface.showing c.args.player.now.machine.steps in
+    let before : Text = preface g.P.Preface.showing c.args.player.now.machine.steps in
     let is : c.text.result.now ≡ before = c.text.ensures.text ∙ ap (preface g.P.Preface.showing) c.steps.ensures.value in
     let old : Standing = g.S.Stage.standing c.args.stage.now in
     Passes_map _ _ _ _ _ (InShow old (before ++ c.args.player.now.piece)) (c.in-Err.ensures.time tells)
@@ -47,7 +48,7 @@ returns-in-Ok-clause-serves g c =
 
 pub returns-in-Ok-clause-some : goal.returns-in-Ok-clause-some
 returns-in-Ok-clause-some g c = λ h.
-    let piece : List ℕ = c.args.player.now.piece in
+    let piece : Text = c.args.player.now.piece in
     let some : 0 < length piece = subst (λ t. 0 < length t) c.piece.ensures.value (c.show-in-Ok.ensures.some h) in
     omega (arith, some, length-append (preface g.P.Preface.showing c.args.player.now.machine.steps) piece)
 
@@ -72,9 +73,9 @@ returns-in-Ok-clause-part g c = λ tells.
 
 pub returns-in-Ok-clause-time : goal.returns-in-Ok-clause-time
 returns-in-Ok-clause-time g c = λ tells.
-    let before : List ℕ = preface g.P.Preface.showing c.args.player.now.machine.steps in
+    let before : Text = preface g.P.Preface.showing c.args.player.now.machine.steps in
     let is : c.text.result.now ≡ before = c.text.ensures.text ∙ ap (preface g.P.Preface.showing) c.steps.ensures.value in
-    let piece : List ℕ = c.args.player.now.piece in
+    let piece : Text = c.args.player.now.piece in
     let old : Standing = g.S.Stage.standing c.args.stage.now in
     let mid : Standing = g.S.Stage.standing c.show.new.stage in
     let e = c.in-Ok.ensures.shown tells ∙ ap (λ t. with_shown t old) is in

@@ -1,4 +1,4 @@
-use Rattle.std.proofs.Common.{◌≡◌, ◌+◌, ◌≤◌, ◌<◌, ◌⊎◌, ◌∙◌, ℕ, List, [], ◌∷◌, Some, length, take, refl, sym, ap}
+use Rattle.std.proofs.Common.{◌≡◌, ◌+◌, ◌≤◌, ◌<◌, ◌⊎◌, ◌∙◌, ℕ, [], ◌∷◌, Some, length, take, refl, sym, ap}
 use Rattle.std.proofs.Common.{subst, arith, inl, inr}
 use Rattle.std.proofs.lemmas.List.{take_all}
 use Rattle.paw_base.specs.Bytes.{Bytes, Name}
@@ -47,7 +47,7 @@ shows_so width name text old new outcome.Done h s = done text h s
 shows_so width name text old new (outcome.Outside call.Show) h s = unshown text h s
 shows_so width name text old new _ h s = absurd s
 
-shows_text : (width : ℕ) (name text shown : List ℕ) (old mid new : Standing) (o : Outcome) → HoldsText old name text → mid ≡ old →
+shows_text : (width : ℕ) (name text shown : Bytes) (old mid new : Standing) (o : Outcome) → HoldsText old name text → mid ≡ old →
     shown ≡ (first_fit width text).bytes → Shows shown mid new o → Wraps width name old new o
 shows_text width name text shown old mid new o h still is s =
     shows_so width name text old new o h (subst (λ q. Shows (first_fit width text).bytes q new o) still (subst (λ t. Shows t mid new o) is s))

@@ -1,4 +1,5 @@
-use Rattle.std.proofs.Common.{◌≡◌, ℕ, List, refl, ap, ◌∙◌}
+use Rattle.std.proofs.Common.{◌≡◌, ℕ, refl, ap, ◌∙◌}
+use Rattle.paw_base.specs.Bytes.{Bytes}
 use Rattle.paw_phrase.specs.Pending.{PendingLine}
 use Rattle.paw_process.specs.inner.OpenTables.{OpenTables}
 use Rattle.paw_process.specs.inner.Kept.{machine_kept}
@@ -16,9 +17,9 @@ returns g c =
     let machine = c.in_ok-machine.ensures.value ∙ ap (λ (k : Frames). machine_restored k (waiting_at c.parts-prompt.result.prompt)) frames in
     let bytes = c.bytes.ensures.value ∙ ap (λ (p : PlayerView g.row.F.Denot). p.pending.bytes) c.player.view_is in
     let earlier = c.earlier.ensures.value ∙ ap (λ (p : PlayerView g.row.F.Denot). p.pending.earlier) c.player.view_is in
-    let Line : List ℕ → ℕ → PendingLine = λ b e. record { bytes = b; earlier = e } in
+    let Line : Bytes → ℕ → PendingLine = λ b e. record { bytes = b; earlier = e } in
     let pending : c.of-pending.result ≡ player.pending = c.of-pending.ensures.value ∙
-    (ap (λ (b : List ℕ). Line b c.earlier.result) bytes ∙ ap (Line player.pending.bytes) earlier) in
+    (ap (λ (b : Bytes). Line b c.earlier.result) bytes ∙ ap (Line player.pending.bytes) earlier) in
     record {
       fits = same_fits player player.game c.player.inside.state.surroundings.world c.in_ok-machine.machine c.of-pending.result c.parts-prompt.result.prompt
           c.requires.seated c.requires.standing
