@@ -240,14 +240,14 @@ pub none_at : (lv : ℕ) (o : Option OpenLoop) → AtMost lv o → at_level (suc
 none_at lv None low = refl
 none_at lv (Some l) low = other_level (suc lv) l (omega arith)
 
-kept_away : (lv : ℕ) (o q : Option OpenLoop) → at_level lv o ≡ None → IsOrNone o q → at_level lv q ≡ None
-kept_away lv o q none (inl e) = subst (λ z. at_level lv z ≡ None) (sym e) none
-kept_away lv o q none (inr e) = subst (λ z. at_level lv z ≡ None) (sym e) refl
+loop_away : (lv : ℕ) (o q : Option OpenLoop) → at_level lv o ≡ None → IsOrNone o q → at_level lv q ≡ None
+loop_away lv o q none (inl e) = subst (λ z. at_level lv z ≡ None) (sym e) none
+loop_away lv o q none (inr e) = subst (λ z. at_level lv z ≡ None) (sym e) refl
 
 -- With no loop open at its level before it, a table that is left is left.
 none_again : (lv : ℕ) (next : OpenLoop → Run → Out) (o : Option OpenLoop) (x : Out) → at_level lv o ≡ None → LeavesLoop o x → next_object_or lv next x ≡ x
 none_again lv next o (Left a r) none k =
-    ap (λ (z : Option OpenLoop). option_map_or (λ l. next l r) z (Left a r)) (kept_away lv o r.turning none k)
+    ap (λ (z : Option OpenLoop). option_map_or (λ l. next l r) z (Left a r)) (loop_away lv o r.turning none k)
 none_again lv next o (Waits p path r) none k = refl
 none_again lv next o (Stopped stop r) none k = refl
 
@@ -258,13 +258,13 @@ read_once g sub calls lv t r none =
     none_again lv (rest_of_loop g sub lv) r.turning (from_condact g sub lv t 0 0 false r) none (plain_leaves_loop g sub lv calls t 0 0 false r)
 
 -- And leaves no loop open that wasn't.
-kept_most : (lv : ℕ) (o q : Option OpenLoop) → AtMost lv o → IsOrNone o q → AtMost lv q
-kept_most lv o q low (inl e) = subst (AtMost lv) (sym e) low
-kept_most lv o q low (inr e) = subst (AtMost lv) (sym e) tt
+loop_most : (lv : ℕ) (o q : Option OpenLoop) → AtMost lv o → IsOrNone o q → AtMost lv q
+loop_most lv o q low (inl e) = subst (AtMost lv) (sym e) low
+loop_most lv o q low (inr e) = subst (AtMost lv) (sym e) tt
 
 settled_below : (Describes : Type 0) (lv high : ℕ) (o : Option OpenLoop) (x : Out) → AtMost lv o → LeavesLoop o x → Settled Describes high x →
     Settled Describes lv x
-settled_below Describes lv high o (Left a r) low k h = kept_most lv o r.turning low k
+settled_below Describes lv high o (Left a r) low k h = loop_most lv o r.turning low k
 settled_below Describes lv high o (Waits p path r) low k h = tt
 settled_below Describes lv high o (Stopped Redescribes r) low k h = h
 settled_below Describes lv high o (Stopped Restarts r) low k h = tt

@@ -15,7 +15,7 @@ use Rattle.paw_game.specs.declared.parts.Entry.{Entry}
 use Rattle.paw_game.specs.Game.{GameLists}
 use Rattle.paw_game.specs.Tables.{table_at}
 use Rattle.paw_game.specs.Valid.{Valid, is_within, is_table}
-use Rattle.paw_game.proofs.Kept.{first_of_and, second_of_and}
+use Rattle.paw_game.proofs.ValidGames.{first_of_and, second_of_and}
 use Rattle.paw_check.specs.declared.own.Own.TheVariants as own
 use Rattle.paw_check.specs.declared.spots.Wanted.{Wanted}
 use Rattle.paw_check.specs.declared.prints.Prints.{Prints}

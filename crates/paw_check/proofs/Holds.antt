@@ -103,11 +103,11 @@ within_limit limit n h = go (nat_lt limit n) refl h
     go true e k = cc
     go false e k = ltb-false limit n e
 
--- A verdict keeps its promise where it does with no cause in this place.
-first_keeps : (g : Story) (bound : Verdict) (why : Cause) (place : Option (ℕ × ℕ)) (others : List (Cause × Option (ℕ × ℕ))) →
-    (place ≡ None → Promises (first_cause bound others) g) → Promises (first_cause bound ((why, place) ∷ others)) g
-first_keeps g bound why None others h = h refl
-first_keeps g bound why (Some (t, e)) others h = tt
+-- A verdict keeps its promise where it does with no cause at this spot.
+first_promises : (g : Story) (bound : Verdict) (why : Cause) (spot : Option (ℕ × ℕ)) (others : List (Cause × Option (ℕ × ℕ))) →
+    (spot ≡ None → Promises (first_cause bound others) g) → Promises (first_cause bound ((why, spot) ∷ others)) g
+first_promises g bound why None others h = h refl
+first_promises g bound why (Some (t, e)) others h = tt
 
 pub bounds_hold : TablesWithin → BoundsHold
 unfolding bounds
@@ -116,10 +116,10 @@ bounds_hold tables g valid =
     let texts : List (Cause × Option (ℕ × ℕ)) = (cause.Text, above PIECE_LIMIT (most_piece g.game)) ∷ [] in
     let numbers : List (Cause × Option (ℕ × ℕ)) = (cause.Condacts, above READ_LIMIT (most_condacts g.game)) ∷ texts in
     let places : List (Cause × Option (ℕ × ℕ)) = (cause.Redescribe, circle_of_descriptions g.game) ∷ numbers in
-    first_keeps g bound cause.Calls (call_too_deep g.game) places
-    (λ calm. first_keeps g bound cause.Redescribe (circle_of_descriptions g.game) numbers
-    (λ quiet. first_keeps g bound cause.Condacts (above READ_LIMIT (most_condacts g.game)) texts
-    (λ few. first_keeps g bound cause.Text (above PIECE_LIMIT (most_piece g.game)) []
+    first_promises g bound cause.Calls (call_too_deep g.game) places
+    (λ calm. first_promises g bound cause.Redescribe (circle_of_descriptions g.game) numbers
+    (λ quiet. first_promises g bound cause.Condacts (above READ_LIMIT (most_condacts g.game)) texts
+    (λ few. first_promises g bound cause.Text (above PIECE_LIMIT (most_piece g.game)) []
     (λ short. stays g valid calm quiet few short))))
   where
     stays : (g : Story) → ValidStory g → call_too_deep g.game ≡ None → circle_of_descriptions g.game ≡ None →

@@ -14,7 +14,7 @@ use Rattle.paw_base.specs.Condacts.{plain_code}
 use Rattle.paw_game.specs.Game.{GameLists}
 use Rattle.paw_game.specs.Tables.{table_at}
 use Rattle.paw_game.specs.Valid.{Valid, is_table, is_within}
-use Rattle.paw_game.proofs.Kept.{first_of_and}
+use Rattle.paw_game.proofs.ValidGames.{first_of_and}
 use Rattle.paw_world.specs.World.{World}
 use Rattle.paw_effects.specs.Story.{Story}
 use Rattle.paw_effects.specs.declared.act.Effect.{Effect}

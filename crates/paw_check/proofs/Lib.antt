@@ -8,7 +8,7 @@ mod Spoken
 mod ActionFacts
 mod EachAction
 pub mod PrintsWithin
-pub mod VerbKept
+pub mod VerbLeft
 pub mod Capped
 pub mod Cells
 pub mod DecidingLaws

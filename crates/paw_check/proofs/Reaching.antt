@@ -18,9 +18,9 @@ use Rattle.paw_game.specs.declared.parts.Entry.{Entry}
 use Rattle.paw_game.specs.Game.{GameLists}
 use Rattle.paw_game.specs.Tables.{table_at}
 use Rattle.paw_game.specs.Valid.{Valid, is_condact, is_entry, is_wildcard, is_verb_value, has_word}
-use Rattle.paw_game.proofs.Kept.{first_of_and, second_of_and, table_kept}
+use Rattle.paw_game.proofs.ValidGames.{first_of_and, second_of_and, table_follows}
 use Rattle.paw_game.proofs.Right.{right_condact}
-use Rattle.paw_effects.proofs.Placed.{first_kept}
+use Rattle.paw_effects.proofs.Placed.{first_follows}
 use Rattle.paw_check.specs.Verbs.{is_among}
 use Rattle.paw_check.specs.Calls.{turn_tables, all_tables, calls_table, is_call_of, table_condacts, called_below}
 use Rattle.paw_check.specs.Calls.{reached_from, most_levels}
@@ -66,7 +66,7 @@ module _ (g : GameLists) (all : List Condact) (Q : Condact → Type 0) (holds : 
 pub each_of_table : (g : GameLists) (v : Valid g) (t : ℕ) (Q : Condact → Type 0) →
     ((c : Condact) → Member (table_condacts g t) c → IsTrue (is_condact g c) → Q c) → AllByRecursion (λ en. AllByRecursion Q en.condacts) (table_at g t)
 each_of_table g v t Q holds =
-    each_entry g (table_condacts g t) Q holds (table_at g t) (second_of_and (nat_le (length (table_at g t)) ENTRY_LIMIT) _ (table_kept g v t)) (λ p e. e)
+    each_entry g (table_condacts g t) Q holds (table_at g t) (second_of_and (nat_le (length (table_at g t)) ENTRY_LIMIT) _ (table_follows g v t)) (λ p e. e)
 
 -- ---- condacts of a table, one by one ----
 
@@ -115,7 +115,7 @@ same_table c is = grind (arith, nat_tests)
 module _ (g : GameLists) (v : Valid g) (ts : List ℕ) where
   -- The table that a PROCESS calls is one of the game.
   called_table : (c : Condact) → IsTrue (is_condact g c) → c.code ≡ PROCESS → c.a < length g.tables
-  called_table c kept is = ltb-true c.a (length g.tables) (first_kept g c PROCESS kind.Table process_takes is (right_condact g c v kept))
+  called_table c kept is = ltb-true c.a (length g.tables) (first_follows g c PROCESS kind.Table process_takes is (right_condact g c v kept))
 
   -- It stands one level below.
   pub calls_below : (n t : ℕ) → In t (called_below g ts n) → (c : Condact) → Member (table_condacts g t) c → IsTrue (is_condact g c) → c.code ≡ PROCESS →

@@ -55,7 +55,7 @@ use Rattle.paw_reading.proofs.EachCondact.{by_test}
 use Rattle.paw_reading.proofs.LeavesLoop.{LeavesLoop, CallsLeavingLoop, IsOrNone, either, open_or_not, plain_leaves_loop}
 use Rattle.paw_check.specs.Verbs.{may_write_verb}
 use Rattle.paw_check.proofs.PrintsWithin.{actions_print_within, questions_print_within}
-use Rattle.paw_check.proofs.VerbKept.{conditions_keep_verb, actions_keep_verb}
+use Rattle.paw_check.proofs.VerbLeft.{conditions_leave_verb, actions_leave_verb}
 use Rattle.paw_check.proofs.TurnWorlds.{timeout_of, phrase_of}
 use Rattle.paw_check.proofs.TableWorlds.{taken_of, anew_of, acted_of, tested_of, timeout_verb, taken_verb}
 use Rattle.paw_check.proofs.ActionFacts.{MayLead}
@@ -499,7 +499,7 @@ module _ (g : Story) (valid : ValidStory g) (kind : SpentKind) (limit pending : 
             behind (after_test g f next go c s (holds g.game r.world c).answer)
             (after_test_ends once more f next go goes_next goes_go c (m + takes c) s (holds g.game r.world c).answer
             (in_world lv r k w (tested_of g.game valid.game r.world k.world c)
-            (λ e. conditions_keep_verb g r.world c valid k.world (is c has) (quiet c has e)))
+            (λ e. conditions_leave_verb g r.world c valid k.world (is c has) (quiet c has e)))
             (omega (arith, fits))
             (λ b. omega (arith, u, noted_use kind g.game s f c b, own_takes c))
             (λ e. omega (
@@ -530,7 +530,7 @@ module _ (g : Story) (valid : ValidStory g) (kind : SpentKind) (limit pending : 
               lines = k.lines;
               closed = k.closed;
             })
-            (λ other e. elim (actions_keep_verb g r.world c valid k.world (is c has) (quiet c has e)) [
+            (λ other e. elim (actions_leave_verb g r.world c valid k.world (is c has) (quiet c has e)) [
               | inl same ↦ same ∙ k.speaks e
               | inr next_object_or ↦ absurd (other next_object_or)
             ])

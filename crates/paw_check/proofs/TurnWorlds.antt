@@ -12,7 +12,7 @@ use Rattle.paw_base.specs.declared.flags.TheConstants.{UNLIT_FRAME_FLAG, DARK_FR
 use Rattle.paw_game.specs.Game.{GameLists}
 use Rattle.paw_game.specs.Tables.{exit_at}
 use Rattle.paw_game.specs.Valid.{Valid}
-use Rattle.paw_game.proofs.Kept.{exit-leads}
+use Rattle.paw_game.proofs.ValidGames.{exit-leads}
 use Rattle.paw_world.specs.World.{World, flag, with_flag, starting_world, is_dark, is_unlit, flag_lowered, flag_lowered_if}
 use Rattle.paw_phrase.specs.declared.Sentence.{Sentence}
 use Rattle.paw_phrase.specs.Sentence.{IsSentence}

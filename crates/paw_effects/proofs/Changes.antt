@@ -26,7 +26,7 @@ use Rattle.paw_game.specs.Game.{GameLists, counts_of}
 use Rattle.paw_game.specs.Tables.{exit_at}
 use Rattle.paw_game.specs.Valid.{Valid, is_argument, is_parameter, is_within}
 use Rattle.paw_game.specs.inner.Valid.{is_right}
-use Rattle.paw_game.proofs.Kept.{exit-leads}
+use Rattle.paw_game.proofs.ValidGames.{exit-leads}
 use Rattle.paw_game.proofs.Right.{right-first, right-second}
 use Rattle.paw_world.specs.World.{World, Position, is_somewhere, flag, with_flag, place, object_moved}
 use Rattle.paw_world.specs.World.{at_position}

@@ -41,7 +41,7 @@ use Rattle.paw_effects.proofs.Asking.{loaded_leads}
 use Rattle.paw_effects.proofs.Asking.{leads_by, asks_by, leads_inner, leads_as, same_code, quit_itself, save_itself}
 use Rattle.paw_effects.proofs.Placed.{IsPlaced, PlacesBy, Goes, at_place, here_place, named_is_place, moved_placed}
 use Rattle.paw_effects.proofs.Placed.{returned_placed, dropped, if_place}
-use Rattle.paw_effects.proofs.Placed.{place_takes, puto_takes, first_kept, second_kept, not_created, swapped_placed}
+use Rattle.paw_effects.proofs.Placed.{place_takes, puto_takes, first_follows, second_follows, not_created, swapped_placed}
 use Rattle.paw_effects.proofs.Placed.{to_placed, autop_goes, putin_goes}
 use Rattle.paw_effects.proofs.Placed.{acted_placed, found_placed, referred_found, loaded_placed, taken_placed}
 use Rattle.paw_effects.proofs.Placed.{kept_stands, saved_placed}
@@ -270,11 +270,11 @@ each_row =
       stays = λ g v seed n X w c is bytes k kept a b. swapped_so g v seed n w k c.a c.b;
       keeps = λ ks s w c is o k. moved_kept ks (object_moved w c.a (place w c.b)) c.b (place w c.a) (moved_kept ks w c.a (place w c.b) k);
     }) &  -- SWAP
-    moving _ _ _ (λ g w c is v r k. named_is_place g w c.b k.1.0 (second_kept g c PLACE kind.Place place_takes is r))
+    moving _ _ _ (λ g w c is v r k. named_is_place g w c.b k.1.0 (second_follows g c PLACE kind.Place place_takes is r))
     (λ g v seed n w c is k kept. named g v seed n w k c.b (place_is g v seed n c is kept)) &  -- PLACE
     (record {
       leads = λ s w c is. tt;
-      places = λ s w c is v r k. to_placed s.game w _ (named_is_place s.game w c.a k.1.0 (first_kept s.game c PUTO kind.Place puto_takes is r)) k;
+      places = λ s w c is v r k. to_placed s.game w _ (named_is_place s.game w c.a k.1.0 (first_follows s.game c PUTO kind.Place puto_takes is r)) k;
       stays = λ g v seed n X w c is bytes k kept a b. next g v seed n _
           (world_of g v seed n _ _ w (moved_so g v seed n w k (flag w REFERRED_FLAG) _ (named g v seed n w k c.a (puto_is g v seed n c is kept))) k);
       keeps = λ ks s w c is o k. one_kept ks _ _ w (moved_kept ks w (flag w REFERRED_FLAG) (named_place w c.a) k) k;

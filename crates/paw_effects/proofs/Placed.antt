@@ -23,7 +23,7 @@ use Rattle.paw_game.specs.Game.{GameLists}
 use Rattle.paw_game.specs.declared.parts.ObjectRow.{ObjectRow}
 use Rattle.paw_game.specs.Valid.{Valid, is_argument, is_within, is_place, is_text, rows_are_valid}
 use Rattle.paw_game.specs.inner.Valid.{is_right}
-use Rattle.paw_game.proofs.Kept.{first_of_and, facts-start}
+use Rattle.paw_game.proofs.ValidGames.{first_of_and, facts-start}
 use Rattle.paw_game.proofs.Right.{right-first, right-second}
 use Rattle.paw_world.specs.World.{World, Position, flag, with_flag, place, with_place, here, let_go, taken_up, object_moved}
 use Rattle.paw_world.specs.World.{opening_places}
@@ -153,18 +153,18 @@ unfolding condact_lines line_of plain_line is_indirect
 doall_takes = refl
 
 -- A parameter follows the rule of the kind that its code says.
-pub first_kept : (g : GameLists) (c : Condact) (code : ℕ) (k : ParamKind) → first_kind code ≡ k → c.code ≡ code → IsTrue (is_right g c) →
+pub first_follows : (g : GameLists) (c : Condact) (code : ℕ) (k : ParamKind) → first_kind code ≡ k → c.code ≡ code → IsTrue (is_right g c) →
     IsTrue (is_argument g k c.a)
-first_kept g c code k takes is kept = subst (λ x. IsTrue (is_argument g x c.a)) (ap first_kind is ∙ takes) (right-first g c kept)
+first_follows g c code k takes is kept = subst (λ x. IsTrue (is_argument g x c.a)) (ap first_kind is ∙ takes) (right-first g c kept)
 
-pub second_kept : (g : GameLists) (c : Condact) (code : ℕ) (k : ParamKind) → second_kind code ≡ k → c.code ≡ code → IsTrue (is_right g c) →
+pub second_follows : (g : GameLists) (c : Condact) (code : ℕ) (k : ParamKind) → second_kind code ≡ k → c.code ≡ code → IsTrue (is_right g c) →
     IsTrue (is_argument g k c.b)
-second_kept g c code k takes is kept = subst (λ x. IsTrue (is_argument g x c.b)) (ap second_kind is ∙ takes) (right-second g c kept)
+second_follows g c code k takes is kept = subst (λ x. IsTrue (is_argument g x c.b)) (ap second_kind is ∙ takes) (right-second g c kept)
 
 -- A loop goes over the objects at a place.
 pub doall_place : (g : GameLists) (w : World) (c : Condact) → w.locations ≡ length g.locations → IsTrue (is_right g c) → c.code ≡ DOALL →
     IsTrue (is_place (length g.locations) (named_place w c.a))
-doall_place g w c of kept is = named_is_place g w c.a of (first_kept g c DOALL kind.Place doall_takes is kept)
+doall_place g w c of kept is = named_is_place g w c.a of (first_follows g c DOALL kind.Place doall_takes is kept)
 
 -- ---- actions that move objects ----
 
@@ -226,10 +226,10 @@ pub record Goes (g : GameLists) (a : Action) : Type 0 where
 
 -- The containers of AUTOP and PUTIN are places.
 pub autop_goes : (g : GameLists) (c : Condact) → c.code ≡ AUTOP → IsTrue (is_right g c) → Goes g (action.PutIn c.a)
-autop_goes g c is r = record { to = low_place (length g.locations) c.a (first_kept g c AUTOP kind.Location autop_takes is r) }
+autop_goes g c is r = record { to = low_place (length g.locations) c.a (first_follows g c AUTOP kind.Location autop_takes is r) }
 
 pub putin_goes : (g : GameLists) (c : Condact) → c.code ≡ PUTIN → IsTrue (is_right g c) → Goes g (action.PutIn c.b)
-putin_goes g c is r = record { to = low_place (length g.locations) c.b (second_kept g c PUTIN kind.Location putin_takes is r) }
+putin_goes g c is r = record { to = low_place (length g.locations) c.b (second_follows g c PUTIN kind.Location putin_takes is r) }
 
 tried_placed : (g : GameLists) (w : World) (o : ℕ) (a : Action) (said : Option ObjectReply) → Goes g a → IsPlaced g w →
     IsPlaced g (action_tried g w o a said).world

@@ -12,19 +12,19 @@ abbrev pub stands_in : Text → Bool
 stands_in text = list_any (λ b. b == 95) text
 
 -- Where none stands the text stays as it is.
-pub kept_without : (name text : Bytes) → stands_in text ≡ false → with_name name text ≡ text
-kept_without name [] none = refl
-kept_without name (b ∷ bs) none =
+pub same_without : (name text : Bytes) → stands_in text ≡ false → with_name name text ≡ text
+same_without name [] none = refl
+same_without name (b ∷ bs) none =
     let both = or_parts (b == 95) (stands_in bs) none in
-    rw both.0 (ap (λ t. b ∷ t) (kept_without name bs both.1))
+    rw both.0 (ap (λ t. b ∷ t) (same_without name bs both.1))
 
 -- Where no byte is an underscore the text stays as it is.
-pub kept_whole : (name text : Bytes) → Nowhere (Passes (is_byte 95) text) 0 (length text) → with_name name text ≡ text
-kept_whole name [] none = refl
-kept_whole name (b ∷ bs) none =
+pub same_whole : (name text : Bytes) → Nowhere (Passes (is_byte 95) text) 0 (length text) → with_name name text ≡ text
+same_whole name [] none = refl
+same_whole name (b ∷ bs) none =
     let later : Nowhere (Passes (is_byte 95) bs) 0 (length bs) = λ k _ lt. none (suc k) (omega arith) (omega (arith, lt)) in
     let differs : (b == 95) ≡ false = false_from_ne_true _ (none 0 (omega arith) (omega arith)) in
-    rw differs (ap (λ t. b ∷ t) (kept_whole name bs later))
+    rw differs (ap (λ t. b ∷ t) (same_whole name bs later))
 
 -- Where the first underscore stands at place n the text before it stays, and the name comes in its place.
 pub replaced_at : (name text : Bytes) (n : ℕ) → n < length text → Nowhere (Passes (is_byte 95) text) 0 n → Passes (is_byte 95) text n →

@@ -32,7 +32,7 @@ use Rattle.paw_game.specs.Game.{GameLists, counts_of}
 use Rattle.paw_game.specs.Tables.{facts_at}
 use Rattle.paw_game.specs.Valid.{Valid, is_argument, is_place, is_parameter, is_within, is_word, words_rise}
 use Rattle.paw_game.specs.Valid.{are_letters, has_word, is_word_or_none, is_object, is_text}
-use Rattle.paw_game.proofs.Kept.{first_of_and, second_of_and, facts_kept, facts-weight}
+use Rattle.paw_game.proofs.ValidGames.{first_of_and, second_of_and, facts_follow, facts-weight}
 use Rattle.paw_world.specs.World.{World, flag, with_flag, place, with_place, here, let_go, taken_up, object_moved}
 use Rattle.paw_world.specs.World.{first_carried, flags_with}
 use Rattle.paw_world.specs.World.{opening_places, starting_world, world_restarted, with_objects_returned}
@@ -156,7 +156,7 @@ pub record AreSmall (f : ObjectFacts) : Type 0 where
 
 pub facts_small : (g : GameLists) → Valid g → (o : ℕ) (f : ObjectFacts) → facts_at g o ≡ Some f → AreSmall f
 facts_small g v o f e =
-    let kept = facts_kept g v o f e in
+    let kept = facts_follow g v o f e in
     record {
       noun = word_or_none_small g v NOUN_CLASS f.noun (first_of_and (is_word_or_none g.words NOUN_CLASS f.noun) _ kept);
       adjective =

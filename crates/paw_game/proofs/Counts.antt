@@ -5,7 +5,7 @@ use Rattle.paw_base.specs.declared.limits.TheConstants.{WORD_LIMIT, SYSTEM_LIMIT
 use Rattle.paw_base.specs.declared.limits.TheConstants.{LOCATION_LEAST, LOCATION_LIMIT, TABLE_LEAST, TABLE_LIMIT}
 use Rattle.paw_game.specs.Game.{GameLists}
 use Rattle.paw_game.specs.Valid.{Valid, is_within}
-use Rattle.paw_game.proofs.Kept.{first_of_and, second_of_and}
+use Rattle.paw_game.proofs.ValidGames.{first_of_and, second_of_and}
 
 pub few_words : (g : GameLists) → Valid g → length g.words ≤ WORD_LIMIT
 few_words g v = leb-true (length g.words) WORD_LIMIT (first_of_and _ _ v.words)

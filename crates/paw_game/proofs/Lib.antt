@@ -1,6 +1,6 @@
 pub mod Counts
 pub mod Faults
-pub mod Kept
+pub mod ValidGames
 pub mod Matches
 pub mod Meanings
 pub mod Right

@@ -12,7 +12,7 @@ use Rattle.paw_game.specs.Game.{GameLists}
 use Rattle.paw_game.specs.Valid.{Valid}
 use Rattle.paw_game.specs.Tables.{entry_at, matches, table_at}
 use Rattle.paw_game.specs.inner.Tables.{first_match, match_at, matches_at}
-use Rattle.paw_game.proofs.Kept.{entry-small}
+use Rattle.paw_game.proofs.ValidGames.{entry-small}
 
 -- The entry that is found is one of these, and matches.
 pub record IsFound (verb noun from : ℕ) (es : List Entry) (e : ℕ) : Type 0 where

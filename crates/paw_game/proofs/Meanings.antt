@@ -12,7 +12,7 @@ use Rattle.paw_game.specs.declared.parts.Word.{Word}
 use Rattle.paw_game.specs.Game.{GameLists}
 use Rattle.paw_game.specs.Valid.{Valid, are_letters, is_within, is_word, words_rise}
 use Rattle.paw_game.specs.Tables.{word_at, word_of}
-use Rattle.paw_game.proofs.Kept.{first_of_and, second_of_and, option_map-Some}
+use Rattle.paw_game.proofs.ValidGames.{first_of_and, second_of_and, option_map-Some}
 
 word_step : (b : Bool) (here w : Word) (later : Option Word) → IsTrue (is_word here) → (later ≡ Some w → IsTrue (is_word w))
     → (if b then Some here else later) ≡ Some w → IsTrue (is_word w)
@@ -25,8 +25,8 @@ word_in letters (x ∷ xs) w h e =
     word_step (bytes_eq x.letters letters) x w (word_of letters xs) (first_of_and (is_word x) _ h)
     (word_in letters xs w (second_of_and (is_word x) _ h)) e
 
-pub word_kept : (g : GameLists) → Valid g → (letters : Letters) (w : Word) → word_of letters g.words ≡ Some w → IsTrue (is_word w)
-word_kept g v letters w e = word_in letters g.words w (first_of_and _ (words_rise g.words) (second_of_and (nat_le (length g.words) WORD_LIMIT) _ v.words)) e
+pub word_follows : (g : GameLists) → Valid g → (letters : Letters) (w : Word) → word_of letters g.words ≡ Some w → IsTrue (is_word w)
+word_follows g v letters w e = word_in letters g.words w (first_of_and _ (words_rise g.words) (second_of_and (nat_le (length g.words) WORD_LIMIT) _ v.words)) e
 
 -- What a word means: a value from 2 to 254, and a class up to 6.
 pub record IsMeaning (m : ℕ × ℕ) : Type 0 where
@@ -34,10 +34,10 @@ pub record IsMeaning (m : ℕ × ℕ) : Type 0 where
   pub high : m.0 ≤ GREATEST_WORD
   pub class : m.1 ≤ PRONOUN_CLASS
 
-pub meaning_kept : (g : GameLists) → Valid g → (letters : Letters) (m : ℕ × ℕ) → word_at g letters ≡ Some m → IsMeaning m
-meaning_kept g v letters m e =
+pub meaning_follows : (g : GameLists) → Valid g → (letters : Letters) (m : ℕ × ℕ) → word_at g letters ≡ Some m → IsMeaning m
+meaning_follows g v letters m e =
     let at = option_map-Some {B = ℕ × ℕ} (λ (w : Word). (w.value, w.class)) (word_of letters g.words) m e in
-    let kept = second_of_and (are_letters at.0.letters) _ (word_kept g v letters at.0 at.1) in
+    let kept = second_of_and (are_letters at.0.letters) _ (word_follows g v letters at.0 at.1) in
     let value = first_of_and (is_within LEAST_WORD GREATEST_WORD at.0.value) (nat_le at.0.class PRONOUN_CLASS) kept in
     record {
       low = rw (← at.2) (leb-true LEAST_WORD at.0.value (first_of_and (nat_le LEAST_WORD at.0.value) _ value));

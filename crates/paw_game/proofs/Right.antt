@@ -18,8 +18,8 @@ use Rattle.paw_game.specs.Tables.{condact_at}
 use Rattle.paw_game.specs.Valid.{Valid, are_letters, has_word, is_argument, is_condact, is_parameter, is_within}
 use Rattle.paw_game.specs.Valid.{is_word, is_word_or_none, words_are_valid}
 use Rattle.paw_game.specs.inner.Valid.{is_right}
-use Rattle.paw_game.proofs.Kept.{first_of_and, second_of_and, code_kept, first_kept, second_kept, keeps_other}
-use Rattle.paw_game.proofs.Kept.{condact_kept}
+use Rattle.paw_game.proofs.ValidGames.{first_of_and, second_of_and, code_follows, first_follows, second_follows, follows_other}
+use Rattle.paw_game.proofs.ValidGames.{condact_follows}
 
 small_value : (w : Word) (class value : ℕ) → IsTrue (is_word w) → IsTrue ((w.class == class) && (w.value == value)) → value < 256
 small_value w class value kept same =
@@ -54,18 +54,18 @@ right_argument g k x v h = h
 
 -- Each condact of a valid game can be carried out.
 pub right_condact : (g : GameLists) (c : Condact) → Valid g → IsTrue (is_condact g c) → IsTrue (is_right g c)
-right_condact g c v h = keeps_other (is_parameter (counts_of g) g.words) (is_argument g) c (λ k x of. right_argument g k x v of) h
+right_condact g c v h = follows_other (is_parameter (counts_of g) g.words) (is_argument g) c (λ k x of. right_argument g k x v of) h
 
 pub right_at : (g : GameLists) → Valid g → (t e k : ℕ) (c : Condact) → condact_at g t e k ≡ Some c → IsTrue (is_right g c)
-right_at g v t e k c h = right_condact g c v (condact_kept g v t e k c h)
+right_at g v t e k c h = right_condact g c v (condact_follows g v t e k c h)
 
 -- ---- the parts of a condact that can be carried out
 
 pub right-code : (g : GameLists) (c : Condact) → IsTrue (is_right g c) → IsCode c.code
-right-code g c h = code_kept (is_argument g) c h
+right-code g c h = code_follows (is_argument g) c h
 
 pub right-first : (g : GameLists) (c : Condact) → IsTrue (is_right g c) → IsTrue (is_argument g (first_kind c.code) c.a)
-right-first g c h = first_kept (is_argument g) c h
+right-first g c h = first_follows (is_argument g) c h
 
 pub right-second : (g : GameLists) (c : Condact) → IsTrue (is_right g c) → IsTrue (is_argument g (second_kind c.code) c.b)
-right-second g c h = second_kept (is_argument g) c h
+right-second g c h = second_follows (is_argument g) c h

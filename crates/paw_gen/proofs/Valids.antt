@@ -122,10 +122,10 @@ unfolding condact_lines plain_line line_of is_plain_code is_indirect
 doall_fine g p h = and_both (or_right (nat_lt p (length g.locations)) h) refl
 
 -- Enough tables and not too many, each by its rule.
-abbrev tables_keep : GameLists → Bool
-tables_keep g = is_within TABLE_LEAST TABLE_LIMIT (length g.tables) && list_all (is_table g) g.tables
+abbrev tables_follow : GameLists → Bool
+tables_follow g = is_within TABLE_LEAST TABLE_LIMIT (length g.tables) && list_all (is_table g) g.tables
 
-tables_fine : (n : ℕ) → tables_keep (trial_game n) ≡ true
+tables_fine : (n : ℕ) → tables_follow (trial_game n) ≡ true
 unfolding condact_lines plain_line line_of is_plain_code is_indirect trial_game
 tables_fine n =
     and_both (and_both (and_both (doall_fine (trial_game n) HERE_PLACE refl) refl)

@@ -41,8 +41,8 @@ meant {A} k meaning (t ∷ ts) x e =
       | Some y ↦ λ m f. let parts = pair_parts y x.0 ts x.1 f in record { first = t; all = ap (λ us. t ∷ us) parts.1; means = m ∙ ap Some parts.0 }
     ] refl e
 
-kept_by : (rule : ℕ → Bool) (n m : ℕ × Tokens) → in_range rule n ≡ Ok m → (n ≡ m) × (rule n.0 ≡ true)
-kept_by rule n m e =
+follows_by : (rule : ℕ → Bool) (n m : ℕ × Tokens) → in_range rule n ≡ Ok m → (n ≡ m) × (rule n.0 ≡ true)
+follows_by rule n m e =
     elim (rule n.0) as (λ b. rule n.0 ≡ b → ◌≡◌ {A = Reads ℕ} (cond b (Ok n) (Err fault.Range)) (Ok m) → (n ≡ m) × (rule n.0 ≡ true)) [
       | true ↦ λ h f. (cc, h)
       | false ↦ λ h f. absurd cc
@@ -56,5 +56,5 @@ pub record Ranged (rule : ℕ → Bool) (r : Reads ℕ) (x : ℕ × Tokens) : Ty
 pub ranged : (rule : ℕ → Bool) (r : Reads ℕ) (x : ℕ × Tokens) → (r >>= in_range rule) ≡ Ok x → Ranged rule r x
 ranged rule r x e =
     let b = bound r (in_range rule) x e in
-    let two = kept_by rule b.value x b.goes_on in
+    let two = follows_by rule b.value x b.goes_on in
     record { is = b.is ∙ ap Ok two.0; keeps = ap (λ (n : ℕ × Tokens). rule n.0) (sym two.0) ∙ two.1 }

@@ -10,7 +10,7 @@ use Rattle.paw_image.specs.Damage.{ImagePreface, Passing, each, checked_number, 
 use Rattle.paw_image.specs.Damage.{after_entry, after_table}
 use Rattle.paw_image.specs.Reading.{Reading, number_at}
 use Rattle.paw_image.specs.inner.Reading.{sized_text_at, object_at, exits_at}
-use Rattle.paw_image.proofs.FieldLaws.{IsBytes, Takes, at_ok, bind_then, kept_ok, number_takes}
+use Rattle.paw_image.proofs.FieldLaws.{IsBytes, Takes, at_ok, bind_then, follows_ok, number_takes}
 use Rattle.paw_image.proofs.ListLaws.{TakesRow}
 use Rattle.paw_image.proofs.RowLaws.{text_takes, object_takes, exits_take, entry_takes, table_takes}
 use Rattle.paw_image.proofs.SoundRows.{text_sound, object_sound, exits_sound, entry_sound, table_placed}
@@ -77,6 +77,6 @@ module _ (all bytes rest : Bytes) (fits : IsBytes all) (end : IsEnd all bytes) w
   within_end least most n e =
       let here = end_fits all bytes fits end in
       bind_then _ (number_at bytes) _ (n, rest) e (λ x x_ok e.
-      let both = kept_ok (is_within least most x.0) (Ok x) (length bytes) (n, rest) e in
+      let both = follows_ok (is_within least most x.0) (Ok x) (length bytes) (n, rest) e in
       let taken = (number_takes bytes x here x_ok).0 in
       at_ok (λ (y : ℕ × Bytes). IsEnd all y.1) x (n, rest) both.1 (end_of_end all bytes x.1 end (end_taken bytes (two_bytes x.0) x.1 taken)))

@@ -47,9 +47,9 @@ pub guard_ok : {A : Type 0} (b : Bool) (left : ℕ) (x : Result A ℕ) (y : A) �
 guard_ok true left x y e = absurd cc
 guard_ok false left x y e = (refl, e)
 
-pub kept_ok : {A : Type 0} (b : Bool) (x : Result A ℕ) (left : ℕ) (y : A) → cond b x (Err left) ≡ Ok y → (b ≡ true) × (x ≡ Ok y)
-kept_ok true x left y e = (refl, e)
-kept_ok false x left y e = absurd cc
+pub follows_ok : {A : Type 0} (b : Bool) (x : Result A ℕ) (left : ℕ) (y : A) → cond b x (Err left) ≡ Ok y → (b ≡ true) × (x ≡ Ok y)
+follows_ok true x left y e = (refl, e)
+follows_ok false x left y e = absurd cc
 
 -- ---- what was taken from the front ----
 

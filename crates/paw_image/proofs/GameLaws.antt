@@ -15,7 +15,7 @@ use Rattle.paw_image.specs.inner.Reading.{leading_rows, sized_text_at, object_at
 use Rattle.paw_image.specs.declared.version.Version.{Version}
 use Rattle.paw_image.specs.inner.Reading.{game_with, lists_at, all_of, version_byte}
 use Rattle.paw_image.specs.inner.Sizes.{FitsText, FitsObject, FitsExits, FitsTable, FitsGame}
-use Rattle.paw_image.proofs.FieldLaws.{IsBytes, bind_then, kept_ok, at_ok, read_ok}
+use Rattle.paw_image.proofs.FieldLaws.{IsBytes, bind_then, follows_ok, at_ok, read_ok}
 use Rattle.paw_image.proofs.HeadLaws.{front_with, front_image, front_takes, front_passes}
 use Rattle.paw_image.proofs.ListLaws.{rows_take, rows_again}
 use Rattle.paw_image.proofs.RowLaws.{text_takes, text_again, object_takes, object_again, exits_take, exits_again}
@@ -120,7 +120,7 @@ unfolding all_of
 all_takes bytes g fits e =
     bind_then _ (front bytes) _ g e (λ d d_ok e.
     bind_then _ (lists_at d.0 d.1) _ g e (λ lists lists_ok e.
-    let kept = kept_ok (eqb (length lists.1) 0 && eqb (version_byte d.0.version) (version_of lists.0)) _ _ g e in
+    let kept = follows_ok (eqb (length lists.1) 0 && eqb (version_byte d.0.version) (version_of lists.0)) _ _ g e in
     let tests = and_parts (eqb (length lists.1) 0) _ kept.0 in
     let version = eqb-true (version_byte d.0.version) (version_of lists.0) tests.1 in
     let fronted = front_takes bytes d fits d_ok in

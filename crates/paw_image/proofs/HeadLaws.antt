@@ -33,7 +33,7 @@ use Rattle.paw_image.proofs.FieldLaws.{bytes_again}
 use Rattle.paw_image.proofs.FieldLaws.{number_takes}
 use Rattle.paw_image.proofs.PassRows.{within_passes}
 use Rattle.paw_image.proofs.SoundRows.{declared_as}
-use Rattle.paw_image.proofs.Stands.{and_true, kept_then}
+use Rattle.paw_image.proofs.Stands.{and_true, follows_then}
 use Rattle.paw_image.proofs.ValidLaws.{letters_fit, ValidParts}
 
 -- ---- signature and version ----
@@ -51,15 +51,15 @@ version_takes : (bytes : Bytes) (x : Version × Bytes) → IsBytes bytes → che
     → Takes bytes (codes "PAWI" ++ version_byte x.0 ∷ []) x.1
 unfolding checked_version
 version_takes bytes x fits e =
-    kept_then _ (λ m. bytes_eq m (codes "PAWI")) (bytes_at 4) bytes _ x e (λ signature signature_ok signature_kept e.
-    kept_then _ (is_within 1 2) byte_at signature.1 _ x e (λ byte byte_ok byte_kept e.
+    follows_then _ (λ m. bytes_eq m (codes "PAWI")) (bytes_at 4) bytes _ x e (λ signature signature_ok signature_follows e.
+    follows_then _ (is_within 1 2) byte_at signature.1 _ x e (λ byte byte_ok byte_follows e.
     let signature_taken = (bytes_take 4 bytes signature fits signature_ok).0 in
     let byte_taken = (byte_takes signature.1 byte signature_taken.rest_fits byte_ok).0 in
-    let is_signature = (bytes_eq-Decides signature.0 (codes "PAWI")).0 signature_kept in
+    let is_signature = (bytes_eq-Decides signature.0 (codes "PAWI")).0 signature_follows in
     at_ok (λ (y : Version × Bytes). Takes bytes (codes "PAWI" ++ version_byte y.0 ∷ []) y.1) _ x e
     (Takes-then (codes "PAWI") (version_byte (version_of_byte byte.0) ∷ [])
     (subst (λ (m : Bytes). Takes bytes m signature.1) is_signature signature_taken)
-    (subst (λ (b : ℕ). Takes signature.1 (b ∷ []) byte.1) (told byte.0 byte_kept) byte_taken))))
+    (subst (λ (b : ℕ). Takes signature.1 (b ∷ []) byte.1) (told byte.0 byte_follows) byte_taken))))
 
 version_passes : (v : Version) (rest : Bytes) → checked_version (codes "PAWI" ++ (version_byte v ∷ rest)) ≡ Ok (v, rest)
 unfolding checked_version
@@ -88,8 +88,8 @@ within_then : {B : Type 0} (P : Type 0) (least most : ℕ) (bytes : Bytes) (f : 
     → IsBytes bytes → (checked_number least most bytes >>= f) ≡ Ok y
     → ((x : ℕ × Bytes) → Takes bytes (two_bytes x.0) x.1 → is_within least most x.0 ≡ true → f x ≡ Ok y → P) → P
 within_then P least most bytes f y fits e go =
-    kept_then P (is_within least most) number_at bytes f y e
-    (λ x x_ok x_kept e. go x (number_takes bytes x fits x_ok).0 x_kept e)
+    follows_then P (is_within least most) number_at bytes f y e
+    (λ x x_ok x_follows e. go x (number_takes bytes x fits x_ok).0 x_follows e)
 
 counts_take : (bytes : Bytes) (x : Counts × Bytes) → IsBytes bytes → checked_counts bytes ≡ Ok x
     → Takes bytes (counts_image x.0) x.1 × AreFew x.0
@@ -139,32 +139,32 @@ few_counts g v = record {
 
 record IsNext (before bytes : Bytes) (x : Word × Bytes) : Type 0 where
   taken : Takes bytes (word_image x.0) x.1
-  keeps : is_word x.0 ≡ true
+  follows : is_word x.0 ≡ true
   above : is_lt (slice_cmp nat_cmp before x.0.letters) ≡ true
 
 word_takes : (before bytes : Bytes) (x : Word × Bytes) → IsBytes bytes → checked_word before bytes ≡ Ok x
     → IsNext before bytes x
 unfolding checked_word
 word_takes before bytes x fits e =
-    kept_then _ (λ l. are_letters l && is_lt (slice_cmp nat_cmp before l)) (bytes_at WORD_LENGTH) bytes _ x e
-    (λ letters letters_ok letters_kept e.
-    kept_then _ (is_within LEAST_WORD GREATEST_WORD) byte_at letters.1 _ x e (λ value value_ok value_kept e.
-    kept_then _ (λ c. leb c PRONOUN_CLASS) byte_at value.1 _ x e (λ class class_ok class_kept e.
-    let both = and_parts (are_letters letters.0) _ letters_kept in
+    follows_then _ (λ l. are_letters l && is_lt (slice_cmp nat_cmp before l)) (bytes_at WORD_LENGTH) bytes _ x e
+    (λ letters letters_ok letters_follows e.
+    follows_then _ (is_within LEAST_WORD GREATEST_WORD) byte_at letters.1 _ x e (λ value value_ok value_follows e.
+    follows_then _ (λ c. leb c PRONOUN_CLASS) byte_at value.1 _ x e (λ class class_ok class_follows e.
+    let both = and_parts (are_letters letters.0) _ letters_follows in
     let letters_taken = (bytes_take WORD_LENGTH bytes letters fits letters_ok).0 in
     let value_taken = (byte_takes letters.1 value letters_taken.rest_fits value_ok).0 in
     let class_taken = (byte_takes value.1 class value_taken.rest_fits class_ok).0 in
     at_ok (λ (y : Word × Bytes). IsNext before bytes y) _ x e (record {
       taken = Takes-then letters.0 (value.0 ∷ class.0 ∷ []) letters_taken
           (Takes-then (value.0 ∷ []) (class.0 ∷ []) value_taken class_taken);
-      keeps = rw (both.0, value_kept, class_kept) refl;
+      follows = rw (both.0, value_follows, class_follows) refl;
       above = both.1;
     }))))
 
 record AreNext (before : Bytes) (n : ℕ) (bytes : Bytes) (x : List Word × Bytes) : Type 0 where
   taken : Takes bytes (flat_map word_image x.0) x.1
   many : length x.0 ≡ n
-  keep : list_all is_word x.0 ≡ true
+  follow : list_all is_word x.0 ≡ true
   rise : rise_after before x.0 ≡ true
 
 words_take : (before : Bytes) (n : ℕ) (bytes : Bytes) (x : List Word × Bytes) → IsBytes bytes
@@ -172,7 +172,7 @@ words_take : (before : Bytes) (n : ℕ) (bytes : Bytes) (x : List Word × Bytes)
 unfolding words_above rise_after
 words_take before zero bytes x fits e =
     at_ok (λ (y : List Word × Bytes). AreNext before 0 bytes y) ([], bytes) x e
-    (record { taken = record { parts = refl; rest_fits = fits }; many = refl; keep = refl; rise = refl })
+    (record { taken = record { parts = refl; rest_fits = fits }; many = refl; follow = refl; rise = refl })
 words_take before (suc n) bytes x fits e =
     bind_then _ (checked_word before bytes) _ x e (λ first first_ok e.
     bind_then _ (words_above first.0.letters n first.1) _ x e (λ others others_ok e.
@@ -181,7 +181,7 @@ words_take before (suc n) bytes x fits e =
     at_ok (λ (y : List Word × Bytes). AreNext before (suc n) bytes y) _ x e (record {
       taken = Takes-then (word_image first.0) (flat_map word_image others.0) w.taken ws.taken;
       many = ap suc ws.many;
-      keep = rw (w.keeps, ws.keep) refl;
+      follow = rw (w.follows, ws.follow) refl;
       rise = rw (w.above, ws.rise) refl;
     })))
 
@@ -225,7 +225,7 @@ pub record Fronted (bytes : Bytes) (x : ImagePreface × Bytes) : Type 0 where
   pub taken : Takes bytes (front_image x.0) x.1
   pub few : AreFew x.0.counts
   pub many : length x.0.words ≡ x.0.counts.words
-  pub keep : list_all is_word x.0.words ≡ true
+  pub follow : list_all is_word x.0.words ≡ true
   pub rise : rise_after [] x.0.words ≡ true
 
 pub front_takes : (bytes : Bytes) (x : ImagePreface × Bytes) → IsBytes bytes → front bytes ≡ Ok x → Fronted bytes x
@@ -242,7 +242,7 @@ front_takes bytes x fits e =
       taken = Takes-then (codes "PAWI" ++ version_byte version.0 ∷ []) _ first after_version;
       few = six.1;
       many = ws.many;
-      keep = ws.keep;
+      follow = ws.follow;
       rise = ws.rise;
     }))))
 
@@ -254,5 +254,5 @@ front_passes version g rest v =
     rw (
       version_passes version (counts_image (counts_of g) ++ after_counts),
       counts_pass g after_counts (few_counts g v),
-      words_pass [] g.words rest v.words_keep v.words_rise,
+      words_pass [] g.words rest v.words_follow v.words_rise,
     ) refl

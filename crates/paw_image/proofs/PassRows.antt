@@ -23,7 +23,7 @@ use Rattle.paw_image.specs.Damage.{after_object}
 use Rattle.paw_image.specs.Damage.{checked_exit, after_exits_of, after_exits, after_parameter}
 use Rattle.paw_image.specs.Damage.{after_condact, after_entry, after_table}
 use Rattle.paw_image.proofs.FieldLaws.{bytes_again, number_again}
-use Rattle.paw_image.proofs.SoundRows.{none_of, none_of-one_more, none_of-none, keeps_condact, keeps_entry, keeps_table}
+use Rattle.paw_image.proofs.SoundRows.{none_of, none_of-one_more, none_of-none, condact_follows, entry_follows, table_follows}
 use Rattle.paw_image.proofs.Stands.{and_true, PassesRow, each_passes}
 
 -- ---- numbers ----
@@ -100,7 +100,7 @@ parameter_passes : (d : ImagePreface) (k : ParamKind) → PassesRow (after_param
 parameter_passes d kind.Absent x rest h = refl
 parameter_passes d k x rest h = byte_passes (is_parameter d.counts d.words k) x rest h
 
-pub condact_passes : (d : ImagePreface) → PassesRow (after_condact d) condact_image (keeps_condact d)
+pub condact_passes : (d : ImagePreface) → PassesRow (after_condact d) condact_image (condact_follows d)
 unfolding after_condact
 condact_passes d c rest h =
     let code = and_parts (may_stand d.version c.code) _ h in
@@ -111,21 +111,21 @@ condact_passes d c rest h =
     ap (after_condact d) regrouped
     ∙ rw (code.0, parameter_passes d (first_kind c.code) c.a (second ++ rest) both.0, parameter_passes d (second_kind c.code) c.b rest both.1) refl
 
-pub entry_passes : (d : ImagePreface) → PassesRow (after_entry d) entry_image (keeps_entry d)
+pub entry_passes : (d : ImagePreface) → PassesRow (after_entry d) entry_image (entry_follows d)
 unfolding after_entry
 entry_passes d e rest h =
     let verb = and_parts (is_wildcard e.verb || is_verb_value d.words e.verb) _ h in
     let noun = and_parts (is_wildcard e.noun || has_word d.words NOUN_CLASS e.noun) _ verb.1 in
     let condacts = and_parts (leb (length e.condacts) CONDACT_LIMIT) _ noun.1 in
-    rw (verb.0, noun.0) (each_passes (after_condact d) condact_image (keeps_condact d) (condact_passes d) e.condacts rest condacts.1)
+    rw (verb.0, noun.0) (each_passes (after_condact d) condact_image (condact_follows d) (condact_passes d) e.condacts rest condacts.1)
 
-pub table_passes : (d : ImagePreface) → PassesRow (after_table d) table_image (keeps_table d)
+pub table_passes : (d : ImagePreface) → PassesRow (after_table d) table_image (table_follows d)
 unfolding after_table
 table_passes d es rest h =
-    let both = and_parts (leb (length es) ENTRY_LIMIT) (list_all (keeps_entry d) es) h in
+    let both = and_parts (leb (length es) ENTRY_LIMIT) (list_all (entry_follows d) es) h in
     let entries = flat_map entry_image es in
     rw (
       append_assoc (two_bytes (length es)) entries rest,
       within_passes 0 ENTRY_LIMIT (length es) (entries ++ rest) (lit< tt) (up_to ENTRY_LIMIT (length es) both.0),
     )
-    (each_passes (after_entry d) entry_image (keeps_entry d) (entry_passes d) es rest both.1)
+    (each_passes (after_entry d) entry_image (entry_follows d) (entry_passes d) es rest both.1)

@@ -25,7 +25,7 @@ use Rattle.paw_image.specs.inner.Reading.{exits_at, code_at, parameter_at, leadi
 use Rattle.paw_image.specs.inner.Reading.{leading_table}
 use Rattle.paw_image.specs.inner.Sizes.{FitsText, FitsObject, FitsExit, FitsExits, FitsParameter, FitsCondact}
 use Rattle.paw_image.specs.inner.Sizes.{FitsEntry, FitsTable}
-use Rattle.paw_image.proofs.FieldLaws.{IsBytes, Takes, Takes-then, bind_then, kept_ok, at_ok, byte_takes}
+use Rattle.paw_image.proofs.FieldLaws.{IsBytes, Takes, Takes-then, bind_then, follows_ok, at_ok, byte_takes}
 use Rattle.paw_image.proofs.FieldLaws.{bytes_take, bytes_again, number_takes, number_again}
 use Rattle.paw_image.proofs.ListLaws.{TakesRow, ReadsAgain, rows_take, rows_again, few_take, few_again}
 
@@ -165,7 +165,7 @@ parameter_again _ x rest fits = refl
 
 code_takes : (bytes : Bytes) (x : ℕ × Bytes) → IsBytes bytes → code_at bytes ≡ Ok x → Takes bytes (x.0 ∷ []) x.1
 code_takes [] x fits e = absurd cc
-code_takes (code ∷ bytes) x fits e = (byte_takes (code ∷ bytes) x fits (kept_ok (is_code code) (Ok (code, bytes)) (suc (length bytes)) x e).1).0
+code_takes (code ∷ bytes) x fits e = (byte_takes (code ∷ bytes) x fits (follows_ok (is_code code) (Ok (code, bytes)) (suc (length bytes)) x e).1).0
 
 code_again : (code : ℕ) (rest : Bytes) → IsCode code → code_at (code ∷ rest) ≡ Ok (code, rest)
 code_again code rest is = rw is refl

@@ -36,7 +36,7 @@ use Rattle.paw_image.specs.inner.Offsets.{offsets, entry_offsets, entries_begin,
 use Rattle.paw_image.proofs.FieldLaws.{IsBytes, at_ok, bind_then, byte_takes, number_takes}
 use Rattle.paw_image.proofs.ListLaws.{rows_take}
 use Rattle.paw_image.proofs.RowLaws.{text_takes, exit_takes, condact_takes, entry_takes, parameter_takes, table_takes}
-use Rattle.paw_image.proofs.Stands.{and_true, kept_then, bytes_length, Stands, SoundRow, rest_fits, each_sound}
+use Rattle.paw_image.proofs.Stands.{and_true, follows_then, bytes_length, Stands, SoundRow, rest_fits, each_sound}
 use Rattle.paw_image.proofs.Stands.{taken_length}
 
 -- What the lists of a game say at their front, in an image of a version.
@@ -48,15 +48,15 @@ declared_as v g = record { version = v; counts = counts_of g; words = g.words }
 pub text_sound : SoundRow after_text sized_text_at is_text
 unfolding after_text sized_text_at
 text_sound bytes rest fits e =
-    kept_then _ (is_within 0 TEXT_LIMIT) number_at bytes _ rest e (λ len len_ok len_kept e.
-    kept_then _ (is_printed true) (bytes_at len.0) len.1 _ rest e (λ text text_ok text_kept e.
+    follows_then _ (is_within 0 TEXT_LIMIT) number_at bytes _ rest e (λ len len_ok len_follows e.
+    follows_then _ (is_printed true) (bytes_at len.0) len.1 _ rest e (λ text text_ok text_follows e.
     let few : leb (length text.0) TEXT_LIMIT ≡ true =
     ap (λ (n : ℕ). leb n TEXT_LIMIT) (bytes_length len.0 len.1 text text_ok)
-    ∙ (and_parts (leb 0 len.0) (leb len.0 TEXT_LIMIT) len_kept).1 in
+    ∙ (and_parts (leb 0 len.0) (leb len.0 TEXT_LIMIT) len_follows).1 in
     record {
       value = text.0;
       reads = at_ok (λ (r : Bytes). sized_text_at bytes ≡ Ok (text.0, r)) text.1 rest e (rw (len_ok, text_ok) refl);
-      keeps = and_true (leb (length text.0) TEXT_LIMIT) _ few text_kept;
+      follows = and_true (leb (length text.0) TEXT_LIMIT) _ few text_follows;
     }))
 
 -- ---- objects ----
@@ -67,16 +67,16 @@ light w = le-leb (bit_and w 63) WEIGHT_LIMIT (rw (and_mask w 6) (omega arith))
 facts_sound : (d : ImagePreface) → SoundRow (after_facts d) leading_facts (facts_are_valid d.words d.counts.locations)
 unfolding after_facts leading_facts
 facts_sound d bytes rest fits e =
-    kept_then _ (is_word_or_none d.words NOUN_CLASS) byte_at bytes _ rest e (λ noun noun_ok noun_kept e.
-    kept_then _ (is_word_or_none d.words ADJECTIVE_CLASS) byte_at noun.1 _ rest e
-    (λ adjective adjective_ok adjective_kept e.
-    kept_then _ (is_place d.counts.locations) byte_at adjective.1 _ rest e (λ start start_ok start_kept e.
+    follows_then _ (is_word_or_none d.words NOUN_CLASS) byte_at bytes _ rest e (λ noun noun_ok noun_follows e.
+    follows_then _ (is_word_or_none d.words ADJECTIVE_CLASS) byte_at noun.1 _ rest e
+    (λ adjective adjective_ok adjective_follows e.
+    follows_then _ (is_place d.counts.locations) byte_at adjective.1 _ rest e (λ start start_ok start_follows e.
     bind_then _ (byte_at start.1) _ rest e (λ weight weight_ok e.
     let facts = facts_with noun.0 adjective.0 start.0 weight.0 in
     record {
       value = facts;
       reads = at_ok (λ (r : Bytes). leading_facts bytes ≡ Ok (facts, r)) weight.1 rest e (rw (noun_ok, adjective_ok, start_ok, weight_ok) refl);
-      keeps = rw (noun_kept, adjective_kept, start_kept, light weight.0) refl;
+      follows = rw (noun_follows, adjective_follows, start_follows, light weight.0) refl;
     }))))
 
 pub object_sound : (d : ImagePreface) → SoundRow (after_object d) object_at (is_object d.words d.counts.locations)
@@ -88,7 +88,7 @@ object_sound d bytes rest fits e =
     record {
       value = record { text = text.value; facts = facts.value };
       reads = rw (text.reads, facts.reads) refl;
-      keeps = and_true (is_text text.value) _ text.keeps facts.keeps;
+      follows = and_true (is_text text.value) _ text.follows facts.follows;
     })
 
 -- ---- exits ----
@@ -120,29 +120,29 @@ none_of-none [] = refl
 none_of-none (x ∷ xs) = none_of-none xs
 
 -- What rule the exits after those with these verbs follow.
-abbrev keeps_after : ImagePreface → List ℕ → List Exit → Bool
-keeps_after d verbs xs = none_of verbs xs && are_exits d.words d.counts.locations xs
+abbrev follow_after : ImagePreface → List ℕ → List Exit → Bool
+follow_after d verbs xs = none_of verbs xs && are_exits d.words d.counts.locations xs
 
 exits_sound_of : (d : ImagePreface) (verbs : List ℕ) (n : ℕ) (bytes rest : Bytes)
-    → after_exits_of d verbs n bytes ≡ Ok rest → Stands (leading_rows leading_exit n bytes) (keeps_after d verbs) rest
+    → after_exits_of d verbs n bytes ≡ Ok rest → Stands (leading_rows leading_exit n bytes) (follow_after d verbs) rest
 unfolding after_exits_of checked_exit leading_rows leading_exit pair_at
 exits_sound_of d verbs zero bytes rest e =
-    record { value = []; reads = at_ok (λ (r : Bytes). leading_rows leading_exit 0 bytes ≡ Ok ([], r)) bytes rest e refl; keeps = refl }
+    record { value = []; reads = at_ok (λ (r : Bytes). leading_rows leading_exit 0 bytes ≡ Ok ([], r)) bytes rest e refl; follows = refl }
 exits_sound_of d verbs (suc n) bytes rest e =
     bind_then _ (checked_exit d verbs bytes) _ rest e (λ x x_ok e.
-    kept_then _ (λ v. is_verb_value d.words v && not (list_any (λ earlier. eqb earlier v) verbs)) byte_at bytes _ x x_ok (λ verb verb_ok verb_kept x_ok.
-    kept_then _ (λ l. ltb l d.counts.locations) byte_at verb.1 _ x x_ok (λ to to_ok to_kept x_ok.
+    follows_then _ (λ v. is_verb_value d.words v && not (list_any (λ earlier. eqb earlier v) verbs)) byte_at bytes _ x x_ok (λ verb verb_ok verb_follows x_ok.
+    follows_then _ (λ l. ltb l d.counts.locations) byte_at verb.1 _ x x_ok (λ to to_ok to_follows x_ok.
     let e2 : after_exits_of d (verb.0 ∷ verbs) n to.1 ≡ Ok rest =
     at_ok (λ (y : ℕ × Bytes). after_exits_of d (y.0 ∷ verbs) n y.1 ≡ Ok rest) x (verb.0, to.1) (sym x_ok) e in
     let others = exits_sound_of d (verb.0 ∷ verbs) n to.1 rest e2 in
     let first : Exit = record { verb = verb.0; to = to.0 } in
-    let kept_verb = and_parts (is_verb_value d.words verb.0) _ verb_kept in
-    let kept_others = and_parts (none_of (verb.0 ∷ verbs) others.value) _ others.keeps in
-    let none = and_parts (not (list_any (λ y. eqb y.verb verb.0) others.value)) _ (sym (none_of-one_more verb.0 verbs others.value) ∙ kept_others.0) in
+    let right_verb = and_parts (is_verb_value d.words verb.0) _ verb_follows in
+    let right_others = and_parts (none_of (verb.0 ∷ verbs) others.value) _ others.follows in
+    let none = and_parts (not (list_any (λ y. eqb y.verb verb.0) others.value)) _ (sym (none_of-one_more verb.0 verbs others.value) ∙ right_others.0) in
     record {
       value = first ∷ others.value;
       reads = rw (verb_ok, to_ok, others.reads) refl;
-      keeps = rw (kept_verb.0, kept_verb.1, to_kept, none.0, none.1, kept_others.1) refl;
+      follows = rw (right_verb.0, right_verb.1, to_follows, none.0, none.1, right_others.1) refl;
     })))
 
 few : (n : ℕ) → n < 256 → leb n EXIT_LIMIT ≡ true
@@ -156,36 +156,36 @@ exits_sound d bytes rest fits e =
     let fits_after = (byte_takes bytes count fits count_ok).0.rest_fits in
     let rows = exits_sound_of d [] count.0 count.1 rest e in
     let len : length rows.value ≡ count.0 = (rows_take leading_exit exit_image exit_takes count.0 count.1 (rows.value, rest) fits_after rows.reads).1 in
-    let kept_rows = and_parts (none_of [] rows.value) _ rows.keeps in
+    let right_rows = and_parts (none_of [] rows.value) _ rows.follows in
     record {
       value = rows.value;
       reads = rw (count_ok, rows.reads) refl;
-      keeps = and_true (leb (length rows.value) EXIT_LIMIT) _ (few (length rows.value) (omega arith)) kept_rows.1;
+      follows = and_true (leb (length rows.value) EXIT_LIMIT) _ (few (length rows.value) (omega arith)) right_rows.1;
     })
 
 -- ---- tables ----
 
 -- The rules of condacts, entries and tables, by what the front declares.
-abbrev pub keeps_condact : ImagePreface → Condact → Bool
-keeps_condact d c =
+abbrev pub condact_follows : ImagePreface → Condact → Bool
+condact_follows d c =
     may_stand d.version c.code && (is_parameter d.counts d.words (first_kind c.code) c.a && is_parameter d.counts d.words (second_kind c.code) c.b)
 
-abbrev pub keeps_entry : ImagePreface → Entry → Bool
-keeps_entry d e =
+abbrev pub entry_follows : ImagePreface → Entry → Bool
+entry_follows d e =
     (is_wildcard e.verb || is_verb_value d.words e.verb) && ((is_wildcard e.noun || has_word d.words NOUN_CLASS e.noun)
-    && (leb (length e.condacts) CONDACT_LIMIT && list_all (keeps_condact d) e.condacts))
+    && (leb (length e.condacts) CONDACT_LIMIT && list_all (condact_follows d) e.condacts))
 
-abbrev pub keeps_table : ImagePreface → List Entry → Bool
-keeps_table d es = leb (length es) ENTRY_LIMIT && list_all (keeps_entry d) es
+abbrev pub table_follows : ImagePreface → List Entry → Bool
+table_follows d es = leb (length es) ENTRY_LIMIT && list_all (entry_follows d) es
 
 byte_sound : (rule : ℕ → Bool) (bytes rest : Bytes) → (checked_field rule byte_at bytes >>= λ x. Ok x.1) ≡ Ok rest → Stands (byte_at bytes) rule rest
 byte_sound rule bytes rest e =
-    kept_then _ rule byte_at bytes _ rest e (λ x x_ok x_kept e.
-    record { value = x.0; reads = at_ok (λ (r : Bytes). byte_at bytes ≡ Ok (x.0, r)) x.1 rest e x_ok; keeps = x_kept })
+    follows_then _ rule byte_at bytes _ rest e (λ x x_ok x_follows e.
+    record { value = x.0; reads = at_ok (λ (r : Bytes). byte_at bytes ≡ Ok (x.0, r)) x.1 rest e x_ok; follows = x_follows })
 
 parameter_sound : (d : ImagePreface) (k : ParamKind) → SoundRow (after_parameter d k) (parameter_at k) (is_parameter d.counts d.words k)
 parameter_sound d kind.Absent bytes rest fits e =
-    record { value = 0; reads = at_ok (λ (r : Bytes). parameter_at kind.Absent bytes ≡ Ok (0, r)) bytes rest e refl; keeps = refl }
+    record { value = 0; reads = at_ok (λ (r : Bytes). parameter_at kind.Absent bytes ≡ Ok (0, r)) bytes rest e refl; follows = refl }
 parameter_sound d k bytes rest fits e = byte_sound (is_parameter d.counts d.words k) bytes rest e
 
 code_is : (bytes : Bytes) → code_at bytes ≡ checked_field is_code byte_at bytes
@@ -197,10 +197,10 @@ stands_code : (v : Version) (code : ℕ) → may_stand v code ≡ true → is_co
 stands_code One code h = rw h refl
 stands_code Two code h = h
 
-pub condact_sound : (d : ImagePreface) → SoundRow (after_condact d) leading_condact (keeps_condact d)
+pub condact_sound : (d : ImagePreface) → SoundRow (after_condact d) leading_condact (condact_follows d)
 unfolding after_condact leading_condact
 condact_sound d bytes rest fits e =
-    kept_then _ (may_stand d.version) byte_at bytes _ rest e (λ code code_ok code_kept e.
+    follows_then _ (may_stand d.version) byte_at bytes _ rest e (λ code code_ok code_follows e.
     bind_then _ (after_parameter d (first_kind code.0) code.1) _ rest e (λ after after_ok e.
     let first = first_kind code.0 in
     let second = second_kind code.0 in
@@ -209,60 +209,60 @@ condact_sound d bytes rest fits e =
     let b = parameter_sound d second after rest
     (rest_fits (parameter_at first) (parameter_image first) (is_parameter d.counts d.words first) (parameter_takes first) code.1
     after code_fits a) e in
-    let code_read : code_at bytes ≡ Ok code = code_is bytes ∙ rw (code_ok, stands_code d.version code.0 code_kept) refl in
+    let code_read : code_at bytes ≡ Ok code = code_is bytes ∙ rw (code_ok, stands_code d.version code.0 code_follows) refl in
     record {
       value = record { code = code.0; a = a.value; b = b.value };
       reads = rw (code_read, a.reads, b.reads) refl;
-      keeps = rw (code_kept, a.keeps, b.keeps) refl;
+      follows = rw (code_follows, a.follows, b.follows) refl;
     }))
 
-pub entry_sound : (d : ImagePreface) → SoundRow (after_entry d) leading_entry (keeps_entry d)
+pub entry_sound : (d : ImagePreface) → SoundRow (after_entry d) leading_entry (entry_follows d)
 unfolding after_entry leading_entry pair_at few_at
 entry_sound d bytes rest fits e =
-    kept_then _ (λ v. is_wildcard v || is_verb_value d.words v) byte_at bytes _ rest e (λ verb verb_ok verb_kept e.
-    kept_then _ (λ n. is_wildcard n || has_word d.words NOUN_CLASS n) byte_at verb.1 _ rest e (λ noun noun_ok noun_kept e.
+    follows_then _ (λ v. is_wildcard v || is_verb_value d.words v) byte_at bytes _ rest e (λ verb verb_ok verb_follows e.
+    follows_then _ (λ n. is_wildcard n || has_word d.words NOUN_CLASS n) byte_at verb.1 _ rest e (λ noun noun_ok noun_follows e.
     bind_then _ (byte_at noun.1) _ rest e (λ count count_ok e.
     let verb_fits = (byte_takes bytes verb fits verb_ok).0.rest_fits in
     let noun_fits = (byte_takes verb.1 noun verb_fits noun_ok).0.rest_fits in
     let count_taken = byte_takes noun.1 count noun_fits count_ok in
-    let rows = each_sound (after_condact d) leading_condact condact_image (keeps_condact d) condact_takes
+    let rows = each_sound (after_condact d) leading_condact condact_image (condact_follows d) condact_takes
     (condact_sound d) count.0 count.1 rest count_taken.0.rest_fits e in
     let len = rows.many in
     record {
       value = record { verb = verb.0; noun = noun.0; condacts = rows.value };
       reads = rw (verb_ok, noun_ok, count_ok, rows.reads) refl;
-      keeps = rw (verb_kept, noun_kept, few (length rows.value) (omega (arith, count_taken.1)), rows.keeps) refl;
+      follows = rw (verb_follows, noun_follows, few (length rows.value) (omega (arith, count_taken.1)), rows.follows) refl;
     })))
 
 -- A table, with where its entries begin.
 pub record TablePlaced (d : ImagePreface) (bytes rest : Bytes) : Type 0 where
   pub value : List Entry
   pub reads : leading_table bytes ≡ Ok (value, rest)
-  pub keeps : keeps_table d value ≡ true
+  pub follows : table_follows d value ≡ true
   pub begin : (total start : ℕ) → start + length bytes ≡ total → entries_begin d total bytes ≡ offsets entry_image (start + 2) value
 
 pub table_placed : (d : ImagePreface) (bytes rest : Bytes) → IsBytes bytes → after_table d bytes ≡ Ok rest → TablePlaced d bytes rest
 unfolding after_table leading_table entries_begin
 table_placed d bytes rest fits e =
-    kept_then _ (is_within 0 ENTRY_LIMIT) number_at bytes _ rest e (λ count count_ok count_kept e.
+    follows_then _ (is_within 0 ENTRY_LIMIT) number_at bytes _ rest e (λ count count_ok count_follows e.
     let count_taken = number_takes bytes count fits count_ok in
-    let rows = each_sound (after_entry d) leading_entry entry_image (keeps_entry d) entry_takes (entry_sound d) count.0 count.1 rest count_taken.0.rest_fits e
+    let rows = each_sound (after_entry d) leading_entry entry_image (entry_follows d) entry_takes (entry_sound d) count.0 count.1 rest count_taken.0.rest_fits e
     in
     record {
       value = rows.value;
       reads = rw (count_ok, rows.reads) refl;
-      keeps = and_true (leb (length rows.value) ENTRY_LIMIT) _ (ap (λ (n : ℕ). leb n ENTRY_LIMIT) rows.many
-          ∙ (and_parts (leb 0 count.0) (leb count.0 ENTRY_LIMIT) count_kept).1) rows.keeps;
+      follows = and_true (leb (length rows.value) ENTRY_LIMIT) _ (ap (λ (n : ℕ). leb n ENTRY_LIMIT) rows.many
+          ∙ (and_parts (leb 0 count.0) (leb count.0 ENTRY_LIMIT) count_follows).1) rows.follows;
       begin = λ total start h.
           let after : start + 2 + length count.1 ≡ total = omega (arith, h, taken_length bytes (two_bytes count.0) count.1 count_taken.0) in
-          rw (count_ok, count_kept) (rows.begin total (start + 2) after);
+          rw (count_ok, count_follows) (rows.begin total (start + 2) after);
     })
 
 -- Tables, with where their entries begin.
 pub record TablesPlaced (d : ImagePreface) (n : ℕ) (bytes rest : Bytes) : Type 0 where
   pub value : List (List Entry)
   pub reads : leading_rows leading_table n bytes ≡ Ok (value, rest)
-  pub keeps : list_all (keeps_table d) value ≡ true
+  pub follows : list_all (table_follows d) value ≡ true
   pub begin : (total start : ℕ) → start + length bytes ≡ total → tables_begin d total n bytes ≡ entry_offsets start value
 
 pub tables_placed : (d : ImagePreface) (n : ℕ) (bytes rest : Bytes) → IsBytes bytes → each (after_table d) n bytes ≡ Ok rest → TablesPlaced d n bytes rest
@@ -271,7 +271,7 @@ tables_placed d zero bytes rest fits e =
     record {
       value = [];
       reads = at_ok (λ (r : Bytes). leading_rows leading_table 0 bytes ≡ Ok ([], r)) bytes rest e refl;
-      keeps = refl;
+      follows = refl;
       begin = λ total start h. refl;
     }
 tables_placed d (suc n) bytes rest fits e =
@@ -282,7 +282,7 @@ tables_placed d (suc n) bytes rest fits e =
     record {
       value = first.value ∷ others.value;
       reads = rw (first.reads, others.reads) refl;
-      keeps = and_true (keeps_table d first.value) _ first.keeps others.keeps;
+      follows = and_true (table_follows d first.value) _ first.follows others.follows;
       begin = λ total start h.
           let later = others.begin total (start + length (table_image first.value))
           (omega (arith, h, taken_length bytes (table_image first.value) after taken)) in

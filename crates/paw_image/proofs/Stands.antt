@@ -10,20 +10,20 @@ use Rattle.paw_image.specs.Reading.{Reading, bytes_at}
 use Rattle.paw_image.specs.inner.Reading.{leading_rows}
 use Rattle.paw_image.specs.Damage.{Passing, checked_field, each}
 use Rattle.paw_image.specs.inner.Offsets.{offsets, begins}
-use Rattle.paw_image.proofs.FieldLaws.{IsBytes, Takes, Takes-then, read_ok, at_ok, bind_then, guard_ok, kept_ok}
+use Rattle.paw_image.proofs.FieldLaws.{IsBytes, Takes, Takes-then, read_ok, at_ok, bind_then, guard_ok, follows_ok}
 use Rattle.paw_image.proofs.ListLaws.{TakesRow}
 
 pub and_true : (a b : Bool) → a ≡ true → b ≡ true → (a && b) ≡ true
 and_true a b p q = rw (p, q) refl
 
 -- What follows from a field that followed its rule.
-pub kept_then : {A B : Type 0} (P : Type 0) (rule : A → Bool) (field : Bytes → Reading A) (bytes : Bytes)
+pub follows_then : {A B : Type 0} (P : Type 0) (rule : A → Bool) (field : Bytes → Reading A) (bytes : Bytes)
     (f : A × Bytes → Result B ℕ) (y : B) → (checked_field rule field bytes >>= f) ≡ Ok y
     → ((x : A × Bytes) → field bytes ≡ Ok x → rule x.0 ≡ true → f x ≡ Ok y → P) → P
-kept_then {A} P rule field bytes f y e go =
+follows_then {A} P rule field bytes f y e go =
     bind_then P (checked_field rule field bytes) f y e (λ x x_ok e.
     bind_then P (field bytes) _ x x_ok (λ z z_ok e2.
-    let both = kept_ok (rule z.0) (Ok z) (length bytes) x e2 in
+    let both = follows_ok (rule z.0) (Ok z) (length bytes) x e2 in
     go z z_ok both.0 (at_ok (λ (w : A × Bytes). f w ≡ Ok y) x z (sym both.1) e)))
 
 pub bytes_length : (n : ℕ) (bytes : Bytes) (x : Bytes × Bytes) → bytes_at n bytes ≡ Ok x → length x.0 ≡ n
@@ -36,7 +36,7 @@ bytes_length n bytes x e =
 pub record Stands {A : Type 0} (reading : Reading A) (rule : A → Bool) (rest : Bytes) : Type 0 where
   pub value : A
   pub reads : reading ≡ Ok (value, rest)
-  pub keeps : rule value ≡ true
+  pub follows : rule value ≡ true
 
 -- Bytes that a row passes are read as a row that follows its rule.
 abbrev pub SoundRow : {A : Type 0} → (Bytes → Passing) → (Bytes → Reading A) → (A → Bool) → Type 0
@@ -63,7 +63,7 @@ pub record Placed {A : Type 0} (pass : Bytes → Passing) (image : A → Bytes) 
     (reading : Reading (List A)) (rule : A → Bool) (rest : Bytes) : Type 0 where
   pub value : List A
   pub reads : reading ≡ Ok (value, rest)
-  pub keeps : list_all rule value ≡ true
+  pub follows : list_all rule value ≡ true
   pub taken : Takes bytes (flat_map image value) rest
   pub many : length value ≡ n
   pub begin : (total start : ℕ) → start + length bytes ≡ total → begins pass total n bytes ≡ offsets image start value
@@ -77,7 +77,7 @@ each_sound {A} pass row image rule takes sound zero bytes rest fits e =
     record {
       value = [];
       reads = ap (λ (t : Bytes). read_ok ([], t)) same;
-      keeps = refl;
+      follows = refl;
       taken = record { parts = same; rest_fits = subst IsBytes same fits };
       many = refl;
       begin = λ total start h. refl;
@@ -90,7 +90,7 @@ each_sound {A} pass row image rule takes sound (suc n) bytes rest fits e =
     record {
       value = first.value ∷ others.value;
       reads = rw (first.reads, others.reads) refl;
-      keeps = and_true (rule first.value) _ first.keeps others.keeps;
+      follows = and_true (rule first.value) _ first.follows others.follows;
       taken = Takes-then (image first.value) (flat_map image others.value) first_taken others.taken;
       many = ap suc others.many;
       begin = λ total start h.

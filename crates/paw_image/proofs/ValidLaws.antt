@@ -83,52 +83,52 @@ table_fits g es e =
 
 pub record ValidParts (g : GameLists) : Type 0 where
   pub words_few : leb (length g.words) WORD_LIMIT ≡ true
-  pub words_keep : list_all is_word g.words ≡ true
+  pub words_follow : list_all is_word g.words ≡ true
   pub words_rise : rise_after [] g.words ≡ true
   pub system_few : leb (length g.system) SYSTEM_LIMIT ≡ true
-  pub system_keep : list_all is_text g.system ≡ true
+  pub system_follow : list_all is_text g.system ≡ true
   pub messages_few : leb (length g.messages) MESSAGE_LIMIT ≡ true
-  pub messages_keep : list_all is_text g.messages ≡ true
+  pub messages_follow : list_all is_text g.messages ≡ true
   pub objects_few : leb (length g.objects) OBJECT_LIMIT ≡ true
-  pub objects_keep : list_all (is_object g.words (length g.locations)) g.objects ≡ true
+  pub objects_follow : list_all (is_object g.words (length g.locations)) g.objects ≡ true
   pub locations_some : leb LOCATION_LEAST (length g.locations) ≡ true
   pub locations_few : leb (length g.locations) LOCATION_LIMIT ≡ true
-  pub locations_keep : list_all is_text g.locations ≡ true
+  pub locations_follow : list_all is_text g.locations ≡ true
   pub exits_many : length g.exits ≡ length g.locations
-  pub exits_keep : list_all (exits_are_valid g.words (length g.locations)) g.exits ≡ true
+  pub exits_follow : list_all (exits_are_valid g.words (length g.locations)) g.exits ≡ true
   pub tables_within : is_within TABLE_LEAST TABLE_LIMIT (length g.tables) ≡ true
-  pub tables_keep : list_all (is_table g) g.tables ≡ true
+  pub tables_follow : list_all (is_table g) g.tables ≡ true
 
 -- The two parts of a rule.
 few_of : (n most : ℕ) (b : Bool) → (leb n most && b) ≡ true → leb n most ≡ true
 few_of n most b h = (and_parts (leb n most) b h).0
 
-keep_of : (a b : Bool) → (a && b) ≡ true → b ≡ true
-keep_of a b h = (and_parts a b h).1
+follow_of : (a b : Bool) → (a && b) ≡ true → b ≡ true
+follow_of a b h = (and_parts a b h).1
 
 pub parts_of : (g : GameLists) → Valid g → ValidParts g
 parts_of g valid =
-    let words = keep_of (leb (length g.words) WORD_LIMIT) _ valid.words in
+    let words = follow_of (leb (length g.words) WORD_LIMIT) _ valid.words in
     let rise = and_parts (list_all is_word g.words) (rise_after [] g.words) (rise_after-none g.words ∙ words) in
     let some = and_parts (leb LOCATION_LEAST (length g.locations)) _ valid.locations in
     let exits = and_parts (eqb (length g.exits) (length g.locations)) _ valid.exits in
     record {
       words_few = few_of (length g.words) WORD_LIMIT _ valid.words;
-      words_keep = rise.0;
+      words_follow = rise.0;
       words_rise = rise.1;
       system_few = few_of (length g.system) SYSTEM_LIMIT _ valid.system;
-      system_keep = keep_of (leb (length g.system) SYSTEM_LIMIT) _ valid.system;
+      system_follow = follow_of (leb (length g.system) SYSTEM_LIMIT) _ valid.system;
       messages_few = few_of (length g.messages) MESSAGE_LIMIT _ valid.messages;
-      messages_keep = keep_of (leb (length g.messages) MESSAGE_LIMIT) _ valid.messages;
+      messages_follow = follow_of (leb (length g.messages) MESSAGE_LIMIT) _ valid.messages;
       objects_few = few_of (length g.objects) OBJECT_LIMIT _ valid.objects;
-      objects_keep = keep_of (leb (length g.objects) OBJECT_LIMIT) _ valid.objects;
+      objects_follow = follow_of (leb (length g.objects) OBJECT_LIMIT) _ valid.objects;
       locations_some = some.0;
       locations_few = few_of (length g.locations) LOCATION_LIMIT _ some.1;
-      locations_keep = keep_of (leb (length g.locations) LOCATION_LIMIT) _ some.1;
+      locations_follow = follow_of (leb (length g.locations) LOCATION_LIMIT) _ some.1;
       exits_many = eqb-true (length g.exits) (length g.locations) exits.0;
-      exits_keep = exits.1;
+      exits_follow = exits.1;
       tables_within = (and_parts (is_within TABLE_LEAST TABLE_LIMIT (length g.tables)) _ valid.tables).0;
-      tables_keep = keep_of (is_within TABLE_LEAST TABLE_LIMIT (length g.tables)) _ valid.tables;
+      tables_follow = follow_of (is_within TABLE_LEAST TABLE_LIMIT (length g.tables)) _ valid.tables;
     }
 
 pub tables_few : (g : GameLists) → ValidParts g → length g.tables ≤ TABLE_LIMIT
@@ -148,13 +148,13 @@ valid_fits g valid =
         exits = v.exits_many;
         tables = omega (arith, tables_few g v);
       };
-      words = all_give is_word FitsWord word_fits g.words v.words_keep;
-      system = all_give is_text FitsText text_fits g.system v.system_keep;
-      messages = all_give is_text FitsText text_fits g.messages v.messages_keep;
+      words = all_give is_word FitsWord word_fits g.words v.words_follow;
+      system = all_give is_text FitsText text_fits g.system v.system_follow;
+      messages = all_give is_text FitsText text_fits g.messages v.messages_follow;
       objects = all_give (is_object g.words (length g.locations)) FitsObject (object_fits g.words (length g.locations))
-          g.objects v.objects_keep;
-      locations = all_give is_text FitsText text_fits g.locations v.locations_keep;
+          g.objects v.objects_follow;
+      locations = all_give is_text FitsText text_fits g.locations v.locations_follow;
       exits = all_give (exits_are_valid g.words (length g.locations)) FitsExits (exits_fit g.words (length g.locations))
-          g.exits v.exits_keep;
-      tables = all_give (is_table g) FitsTable (table_fits g) g.tables v.tables_keep;
+          g.exits v.exits_follow;
+      tables = all_give (is_table g) FitsTable (table_fits g) g.tables v.tables_follow;
     }

@@ -29,7 +29,7 @@ use Rattle.paw_image.specs.Reading.{byte_at}
 use Rattle.paw_image.specs.inner.Reading.{IsFault, version_byte}
 use Rattle.paw_image.proofs.Faults.{fault_first}
 use Rattle.paw_image.proofs.PassRows.{within_passes, up_to, condact_passes, entry_passes, table_passes}
-use Rattle.paw_image.proofs.SoundRows.{declared_as, keeps_condact, keeps_entry, keeps_table}
+use Rattle.paw_image.proofs.SoundRows.{declared_as, condact_follows, entry_follows, table_follows}
 use Rattle.paw_image.proofs.Stands.{and_true, PassesRow}
 
 -- ---- the rules of version 1 ----
@@ -75,10 +75,10 @@ move_out true b c = refl
 move_out false b c = refl
 
 module _ (g : GameLists) where
-  split_condact : (c : Condact) → keeps_condact (declared_as One g) c ≡ (is_condact g c && not (is_indirect c.code))
+  split_condact : (c : Condact) → condact_follows (declared_as One g) c ≡ (is_condact g c && not (is_indirect c.code))
   split_condact c = split_code (is_plain_code c.code) (is_indirect c.code) _ (plain_not c.code)
 
-  split_entry : (e : Entry) → keeps_entry (declared_as One g) e ≡ (is_entry g e && not (any_indirect e.condacts))
+  split_entry : (e : Entry) → entry_follows (declared_as One g) e ≡ (is_entry g e && not (any_indirect e.condacts))
   split_entry e =
       let verb = is_wildcard e.verb || is_verb_value g.words e.verb in
       let noun = is_wildcard e.noun || has_word g.words NOUN_CLASS e.noun in
@@ -86,26 +86,26 @@ module _ (g : GameLists) where
       let all = list_all (is_condact g) e.condacts in
       let none = not (any_indirect e.condacts) in
       ap (λ (b : Bool). verb && (noun && (few && b)))
-      (split_all (keeps_condact (declared_as One g)) (is_condact g) (λ (c : Condact). is_indirect c.code) split_condact e.condacts)
+      (split_all (condact_follows (declared_as One g)) (is_condact g) (λ (c : Condact). is_indirect c.code) split_condact e.condacts)
       ∙ ap (λ (b : Bool). verb && (noun && b)) (move_out few all none)
       ∙ ap (λ (b : Bool). verb && b) (move_out noun (few && all) none) ∙ move_out verb (noun && (few && all)) none
 
   split_table : (es : List Entry)
-      → keeps_table (declared_as One g) es ≡ (is_table g es && not (list_any (λ e. any_indirect e.condacts) es))
+      → table_follows (declared_as One g) es ≡ (is_table g es && not (list_any (λ e. any_indirect e.condacts) es))
   split_table es =
       ap (λ (b : Bool). leb (length es) ENTRY_LIMIT && b)
-      (split_all (keeps_entry (declared_as One g)) (is_entry g) (λ (e : Entry). any_indirect e.condacts) split_entry es)
+      (split_all (entry_follows (declared_as One g)) (is_entry g) (λ (e : Entry). any_indirect e.condacts) split_entry es)
       ∙ move_out (leb (length es) ENTRY_LIMIT) (list_all (is_entry g) es) (not (list_any (λ (e : Entry). any_indirect e.condacts) es))
 
   -- Version 1 needs the rules of a game, and no indirect condact.
   pub split_tables : (ts : List (List Entry))
-      → list_all (keeps_table (declared_as One g)) ts ≡ (list_all (is_table g) ts && not (has_indirect ts))
+      → list_all (table_follows (declared_as One g)) ts ≡ (list_all (is_table g) ts && not (has_indirect ts))
   unfolding has_indirect
   split_tables ts =
-      split_all (keeps_table (declared_as One g)) (is_table g) (λ (es : List Entry). list_any (λ (e : Entry). any_indirect e.condacts) es) split_table ts
+      split_all (table_follows (declared_as One g)) (is_table g) (λ (es : List Entry). list_any (λ (e : Entry). any_indirect e.condacts) es) split_table ts
 
   -- Tables that follow the rules of a version follow those of a game.
-  pub tables_valid : (v : Version) (ts : List (List Entry)) → list_all (keeps_table (declared_as v g)) ts ≡ true
+  pub tables_valid : (v : Version) (ts : List (List Entry)) → list_all (table_follows (declared_as v g)) ts ≡ true
       → list_all (is_table g) ts ≡ true
   tables_valid One ts h = (and_parts (list_all (is_table g) ts) _ (sym (split_tables ts) ∙ h)).0
   tables_valid Two ts h = h
@@ -136,9 +136,9 @@ each_stops : {A : Type 0} (pass : Bytes → Passing) (image : A → Bytes) (one 
     → (xs : List A) (rest : Bytes) → list_all two xs ≡ true → list_any test xs ≡ true
     → IsFault (each pass (length xs) (flat_map image xs ++ rest))
 unfolding each
-each_stops pass image one two test splits passes stops [] rest keep found = absurd cc
-each_stops pass image one two test splits passes stops (x ∷ xs) rest keep found =
-    let both = and_parts (two x) (list_all two xs) keep in
+each_stops pass image one two test splits passes stops [] rest follow found = absurd cc
+each_stops pass image one two test splits passes stops (x ∷ xs) rest follow found =
+    let both = and_parts (two x) (list_all two xs) follow in
     let after = flat_map image xs ++ rest in
     rw (append_assoc (image x) (flat_map image xs) rest)
     (elim (either (test x)) [
@@ -156,37 +156,37 @@ field_stops rule x rest f h = rw h tt
 module _ (g : GameLists) where
   condact_stops : StopsRow (after_condact (declared_as One g)) condact_image (is_condact g) (λ (c : Condact). is_indirect c.code)
   unfolding after_condact
-  condact_stops c rest keeps indirect = field_stops (may_stand One) c.code _ _ (not_plain c.code indirect)
+  condact_stops c rest follows indirect = field_stops (may_stand One) c.code _ _ (not_plain c.code indirect)
 
   entry_stops : StopsRow (after_entry (declared_as One g)) entry_image (is_entry g) (λ (e : Entry). any_indirect e.condacts)
   unfolding after_entry
-  entry_stops e rest keeps indirect =
-      let verb = and_parts (is_wildcard e.verb || is_verb_value g.words e.verb) _ keeps in
+  entry_stops e rest follows indirect =
+      let verb = and_parts (is_wildcard e.verb || is_verb_value g.words e.verb) _ follows in
       let noun = and_parts (is_wildcard e.noun || has_word g.words NOUN_CLASS e.noun) _ verb.1 in
       let condacts = and_parts (leb (length e.condacts) CONDACT_LIMIT) _ noun.1 in
       rw (verb.0, noun.0)
-      (each_stops (after_condact (declared_as One g)) condact_image (keeps_condact (declared_as One g)) (is_condact g)
+      (each_stops (after_condact (declared_as One g)) condact_image (condact_follows (declared_as One g)) (is_condact g)
       (λ (c : Condact). is_indirect c.code) (split_condact g) (condact_passes (declared_as One g)) condact_stops e.condacts rest condacts.1 indirect)
 
   table_stops : StopsRow (after_table (declared_as One g)) table_image (is_table g) (λ (es : List Entry). list_any (λ (e : Entry). any_indirect e.condacts) es)
   unfolding after_table
-  table_stops es rest keeps indirect =
-      let both = and_parts (leb (length es) ENTRY_LIMIT) (list_all (is_entry g) es) keeps in
+  table_stops es rest follows indirect =
+      let both = and_parts (leb (length es) ENTRY_LIMIT) (list_all (is_entry g) es) follows in
       let entries = flat_map entry_image es in
       rw (
         append_assoc (two_bytes (length es)) entries rest,
         within_passes 0 ENTRY_LIMIT (length es) (entries ++ rest) (lit< tt) (up_to ENTRY_LIMIT (length es) both.0),
       )
-      (each_stops (after_entry (declared_as One g)) entry_image (keeps_entry (declared_as One g)) (is_entry g)
+      (each_stops (after_entry (declared_as One g)) entry_image (entry_follows (declared_as One g)) (is_entry g)
       (λ (e : Entry). any_indirect e.condacts) (split_entry g) (entry_passes (declared_as One g)) entry_stops es rest both.1 indirect)
 
   pub tables_stop : (ts : List (List Entry)) (rest : Bytes) → list_all (is_table g) ts ≡ true → has_indirect ts ≡ true
       → IsFault (each (after_table (declared_as One g)) (length ts) (flat_map table_image ts ++ rest))
   unfolding has_indirect
-  tables_stop ts rest keep indirect =
-      each_stops (after_table (declared_as One g)) table_image (keeps_table (declared_as One g)) (is_table g)
+  tables_stop ts rest follow indirect =
+      each_stops (after_table (declared_as One g)) table_image (table_follows (declared_as One g)) (is_table g)
       (λ (es : List Entry). list_any (λ (e : Entry). any_indirect e.condacts) es) (split_table g)
-      (table_passes (declared_as One g)) table_stops ts rest keep indirect
+      (table_passes (declared_as One g)) table_stops ts rest follow indirect
 
 -- ---- the version that a game needs ----
 
@@ -205,17 +205,17 @@ needed_byte g = elim (either (has_indirect g.tables)) [
 ]
 
 -- The tables of a game that has no indirect condact follow the rules of version 1.
-keep_in_1 : (g : GameLists) → list_all (is_table g) g.tables ≡ true → has_indirect g.tables ≡ false
-    → list_all (keeps_table (declared_as One g)) g.tables ≡ true
-keep_in_1 g h none =
+follow_in_1 : (g : GameLists) → list_all (is_table g) g.tables ≡ true → has_indirect g.tables ≡ false
+    → list_all (table_follows (declared_as One g)) g.tables ≡ true
+follow_in_1 g h none =
     split_tables g g.tables ∙ and_true (list_all (is_table g) g.tables) _ h (ap (λ (b : Bool). not b) none)
 
 -- A game's tables follow the rules of the version that it needs.
-pub needed_keeps : (g : GameLists) → list_all (is_table g) g.tables ≡ true
-    → list_all (keeps_table (declared_as (needed_by g) g)) g.tables ≡ true
-needed_keeps g h = elim (either (has_indirect g.tables)) [
+pub needed_follows : (g : GameLists) → list_all (is_table g) g.tables ≡ true
+    → list_all (table_follows (declared_as (needed_by g) g)) g.tables ≡ true
+needed_follows g h = elim (either (has_indirect g.tables)) [
   | inl is ↦ rw is h
-  | inr none ↦ rw none (keep_in_1 g h none)
+  | inr none ↦ rw none (follow_in_1 g h none)
 ]
 
 -- A fault isn't an end.
@@ -231,20 +231,20 @@ is_needed g p stops = elim (either (has_indirect g.tables)) [
 ]
 
 -- Where the tables follow the rules of a version that is needed, it is the game's.
-pub right_version : (v : Version) (g : GameLists) (p : Passing) → list_all (keeps_table (declared_as v g)) g.tables ≡ true
-    → needs_no_2 v p ≡ false → (list_all (keeps_table (declared_as One g)) g.tables ≡ true → p ≡ Ok [])
+pub right_version : (v : Version) (g : GameLists) (p : Passing) → list_all (table_follows (declared_as v g)) g.tables ≡ true
+    → needs_no_2 v p ≡ false → (list_all (table_follows (declared_as One g)) g.tables ≡ true → p ≡ Ok [])
     → version_byte v ≡ version_of g
 unfolding version_of
-right_version One g p keep wanted passes =
-    let parts = and_parts (list_all (is_table g) g.tables) (not (has_indirect g.tables)) (sym (split_tables g g.tables) ∙ keep) in
+right_version One g p follow wanted passes =
+    let parts = and_parts (list_all (is_table g) g.tables) (not (has_indirect g.tables)) (sym (split_tables g g.tables) ∙ follow) in
     elim (either (has_indirect g.tables)) [
       | inl is ↦ let wrong : false ≡ true = ap (λ (b : Bool). not b) (sym is) ∙ parts.1 in absurd cc
       | inr none ↦ rw none refl
     ]
-right_version Two g p keep wanted passes = elim (either (has_indirect g.tables)) [
+right_version Two g p follow wanted passes = elim (either (has_indirect g.tables)) [
   | inl is ↦ rw is refl
   | inr none ↦
-      let ends = passes (keep_in_1 g keep none) in
+      let ends = passes (follow_in_1 g follow none) in
       let wrong : true ≡ false = ap (λ (q : Passing). is_end q) (sym ends) ∙ wanted in
       absurd cc
 ]

@@ -35,8 +35,8 @@ use Rattle.paw_image.proofs.GameLaws.{from_messages, from_objects, from_location
 use Rattle.paw_image.proofs.GameLaws.{lists_image, lists_take, image_is, ended, all_takes}
 use Rattle.paw_image.proofs.HeadLaws.{AreFew, front_image, front_length, Fronted, front_takes, front_passes}
 use Rattle.paw_image.proofs.Stands.{and_true, each_sound, each_passes, taken_length, taken_ends}
-use Rattle.paw_image.proofs.SoundRows.{declared_as, text_sound, object_sound, exits_sound, tables_placed, keeps_table}
-use Rattle.paw_image.proofs.VersionLaws.{tables_valid, tables_stop, needed_by, needed_byte, needed_keeps, is_needed}
+use Rattle.paw_image.proofs.SoundRows.{declared_as, text_sound, object_sound, exits_sound, tables_placed, table_follows}
+use Rattle.paw_image.proofs.VersionLaws.{tables_valid, tables_stop, needed_by, needed_byte, needed_follows, is_needed}
 use Rattle.paw_image.proofs.VersionLaws.{right_version}
 use Rattle.paw_image.proofs.PassRows.{text_passes, object_passes, exits_pass, table_passes}
 use Rattle.paw_image.proofs.ValidLaws.{parts_of}
@@ -69,7 +69,7 @@ record AreRead (d : ImagePreface) (bytes rest : Bytes) : Type 0 where
   locations : list_all is_text game.locations ≡ true
   exits : list_all (exits_are_valid d.words d.counts.locations) game.exits ≡ true
   as_many : length game.exits ≡ d.counts.locations
-  tables : list_all (keeps_table d) game.tables ≡ true
+  tables : list_all (table_follows d) game.tables ≡ true
   begin : (total start : ℕ) (p : Offsets) → start + length bytes ≡ total → AreGoneOver d total bytes p
       → StandAt start game p
 
@@ -105,13 +105,13 @@ lists_sound d bytes rest fits e =
         tables = tables.value;
       };
       reads = rw (system.reads, messages.reads, objects.reads, locations.reads, exits.reads, tables.reads) refl;
-      system = system.keeps;
-      messages = messages.keeps;
-      objects = objects.keeps;
-      locations = locations.keeps;
-      exits = exits.keeps;
+      system = system.follows;
+      messages = messages.follows;
+      objects = objects.follows;
+      locations = locations.follows;
+      exits = exits.follows;
       as_many = exits.many;
-      tables = tables.keeps;
+      tables = tables.follows;
       begin = λ total start p h over.
           let messages_at = taken_ends bytes _ at_messages total start system.taken h in
           let objects_at = taken_ends at_messages _ at_objects total _ messages.taken messages_at in
@@ -135,31 +135,31 @@ valid_from : (bytes : Bytes) (x : ImagePreface × Bytes) (rest : Bytes) → Fron
 valid_from bytes x rest f r is =
     let g = r.game in
     let few = subst (λ (d : ImagePreface). AreFew d.counts) is f.few in
-    let keep = subst (λ (d : ImagePreface). list_all is_word d.words ≡ true) is f.keep in
+    let follow = subst (λ (d : ImagePreface). list_all is_word d.words ≡ true) is f.follow in
     let rise = subst (λ (d : ImagePreface). rise_after [] d.words ≡ true) is f.rise in
-    let kept_words : (list_all is_word g.words && words_rise g.words) ≡ true =
-    sym (rise_after-none g.words) ∙ rw (keep, rise) refl in
-    let kept_objects = subst (λ (d : ImagePreface). list_all (is_object d.words d.counts.locations) g.objects ≡ true) is r.objects in
-    let kept_exits = subst (λ (d : ImagePreface). list_all (exits_are_valid d.words d.counts.locations) g.exits ≡ true) is r.exits in
+    let right_words : (list_all is_word g.words && words_rise g.words) ≡ true =
+    sym (rise_after-none g.words) ∙ rw (follow, rise) refl in
+    let right_objects = subst (λ (d : ImagePreface). list_all (is_object d.words d.counts.locations) g.objects ≡ true) is r.objects in
+    let right_exits = subst (λ (d : ImagePreface). list_all (exits_are_valid d.words d.counts.locations) g.exits ≡ true) is r.exits in
     let as_many = subst (λ (d : ImagePreface). length g.exits ≡ d.counts.locations) is r.as_many in
-    let kept_tables = subst (λ (d : ImagePreface). list_all (keeps_table d) g.tables ≡ true) is r.tables in
+    let right_tables = subst (λ (d : ImagePreface). list_all (table_follows d) g.tables ≡ true) is r.tables in
     let locations = and_parts (leb LOCATION_LEAST (length g.locations))
     (leb (length g.locations) LOCATION_LIMIT) few.locations in
     record {
       words = and_true (leb (length g.words) WORD_LIMIT) _
-          (and_parts (leb 0 (length g.words)) _ few.words).1 kept_words;
+          (and_parts (leb 0 (length g.words)) _ few.words).1 right_words;
       system = and_true (leb (length g.system) SYSTEM_LIMIT) _
           (and_parts (leb 0 (length g.system)) _ few.system).1 r.system;
       messages = and_true (leb (length g.messages) MESSAGE_LIMIT) _
           (and_parts (leb 0 (length g.messages)) _ few.messages).1
           r.messages;
       objects = and_true (leb (length g.objects) OBJECT_LIMIT) _ (and_parts (leb 0 (length g.objects)) _ few.objects).1
-          kept_objects;
+          right_objects;
       locations = and_true (leb LOCATION_LEAST (length g.locations)) _ locations.0
           (and_true (leb (length g.locations) LOCATION_LIMIT) _ locations.1 r.locations);
       exits = and_true (eqb (length g.exits) (length g.locations)) _
-          (eq-eqb (length g.exits) (length g.locations) as_many) kept_exits;
-      tables = and_true (is_within TABLE_LEAST TABLE_LIMIT (length g.tables)) _ few.tables (tables_valid g x.0.version g.tables kept_tables);
+          (eq-eqb (length g.exits) (length g.locations) as_many) right_exits;
+      tables = and_true (is_within TABLE_LEAST TABLE_LIMIT (length g.tables)) _ few.tables (tables_valid g x.0.version g.tables right_tables);
     }
 
 -- The lists of a valid game pass up to its tables.
@@ -174,22 +174,22 @@ tables_reached version g rest valid =
     let objects = each_passes (after_object d) object_image (is_object g.words (length g.locations)) (object_passes d) in
     let all_exits = each_passes (after_exits d) exits_image (exits_are_valid g.words (length g.locations)) (exits_pass d) in
     let exits = subst (λ (n : ℕ). each (after_exits d) n (from_exits g rest) ≡ Ok (from_tables g rest)) v.exits_many
-    (all_exits g.exits (from_tables g rest) v.exits_keep) in
+    (all_exits g.exits (from_tables g rest) v.exits_follow) in
     rw (
-      texts g.system (from_messages g rest) v.system_keep,
-      texts g.messages (from_objects g rest) v.messages_keep,
-      objects g.objects (from_locations g rest) v.objects_keep,
-      texts g.locations (from_exits g rest) v.locations_keep,
+      texts g.system (from_messages g rest) v.system_follow,
+      texts g.messages (from_objects g rest) v.messages_follow,
+      objects g.objects (from_locations g rest) v.objects_follow,
+      texts g.locations (from_exits g rest) v.locations_follow,
       exits,
     ) refl
 
 lists_pass : (version : Version) (g : GameLists) (rest : Bytes) → Valid g
-    → list_all (keeps_table (declared_as version g)) g.tables ≡ true
+    → list_all (table_follows (declared_as version g)) g.tables ≡ true
     → after_lists (declared_as version g) (lists_image g rest) ≡ Ok rest
-lists_pass version g rest valid keep =
+lists_pass version g rest valid follow =
     let d = declared_as version g in
     tables_reached version g rest valid
-    ∙ each_passes (after_table d) table_image (keeps_table d) (table_passes d) g.tables rest keep
+    ∙ each_passes (after_table d) table_image (table_follows d) (table_passes d) g.tables rest follow
 
 -- ---- all of the bytes ----
 
@@ -212,12 +212,12 @@ all_sound bytes fits e needed =
     let taken = lists_take d.0 d.1 (lists.game, []) fronted.taken.rest_fits lists.reads in
     let is = taken.declared fronted.many in
     let g = lists.game in
-    let keep = subst (λ (f : ImagePreface). list_all (keeps_table f) g.tables ≡ true) is lists.tables in
+    let follow = subst (λ (f : ImagePreface). list_all (table_follows f) g.tables ≡ true) is lists.tables in
     let valid = valid_from bytes d [] fronted lists is in
-    let passes : list_all (keeps_table (declared_as One g)) g.tables ≡ true → after_lists (as_version_1 d.0) d.1 ≡ Ok [] =
+    let passes : list_all (table_follows (declared_as One g)) g.tables ≡ true → after_lists (as_version_1 d.0) d.1 ≡ Ok [] =
     λ plain. ap (λ (f : ImagePreface). after_lists (as_version_1 f) d.1) is ∙ ap (after_lists (declared_as One g)) taken.parts
     ∙ lists_pass One g [] valid plain in
-    let version = right_version d.0.version g (after_lists (as_version_1 d.0) d.1) keep
+    let version = right_version d.0.version g (after_lists (as_version_1 d.0) d.1) follow
     (subst (λ (r : Reading ImagePreface). is_needless_after r ≡ false) d_ok needed) passes in
     let start = 17 + length (flat_map word_image d.0.words) in
     let ends : start + length d.1 ≡ length bytes =
@@ -242,14 +242,14 @@ unfolding after_all
 all_passes g v =
     let needs = needed_by g in
     ap after_all (image_is needs g (needed_byte g))
-    ∙ rw (front_passes needs g (lists_image g []) (parts_of g v)) (lists_pass needs g [] v (needed_keeps g (parts_of g v).tables_keep))
+    ∙ rw (front_passes needs g (lists_image g []) (parts_of g v)) (lists_pass needs g [] v (needed_follows g (parts_of g v).tables_follow))
 
 pub all_needed : (g : GameLists) → Valid g → is_needless (image g) ≡ false
 unfolding is_needless
 all_needed g v =
     let needs = needed_by g in
     let stops : has_indirect g.tables ≡ true → IsFault (after_lists (declared_as One g) (lists_image g [])) =
-    λ indirect. rw (tables_reached One g [] v) (tables_stop g g.tables [] (parts_of g v).tables_keep indirect) in
+    λ indirect. rw (tables_reached One g [] v) (tables_stop g g.tables [] (parts_of g v).tables_follow indirect) in
     ap is_needless (image_is needs g (needed_byte g))
     ∙ rw (front_passes needs g (lists_image g []) (parts_of g v)) (is_needed g _ stops)
 

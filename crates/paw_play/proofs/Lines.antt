@@ -14,7 +14,7 @@ use Rattle.paw_base.specs.inner.Condacts.{IsCode}
 use Rattle.paw_base.specs.inner.Piece.{Puts}
 use Rattle.paw_base.proofs.Table.{plain_is}
 use Rattle.paw_base.specs.declared.limits.TheConstants.{PIECE_LIMIT}
-use Rattle.paw_game.proofs.Kept.{first_of_and, second_of_and}
+use Rattle.paw_game.proofs.ValidGames.{first_of_and, second_of_and}
 use Rattle.paw_reading.specs.Run.{StepRow}
 use Rattle.paw_play.specs.Traces.{step_address, answer_text, step_line, more_line}
 

@@ -4,7 +4,7 @@ use Rattle.paw_base.specs.Bytes.{Line, Lines}
 use Rattle.paw_base.specs.declared.limits.TheConstants.{ENTRY_LIMIT}
 use Rattle.paw_effects.specs.Story.{Story}
 use Rattle.paw_game.specs.Valid.{Valid}
-use Rattle.paw_game.proofs.Kept.{table-short}
+use Rattle.paw_game.proofs.ValidGames.{table-short}
 use Rattle.paw_effects.specs.declared.act.Prompt.{Prompt}
 use Rattle.paw_effects.specs.declared.act.Prompt.TheVariants as prompt
 use Rattle.paw_reading.specs.declared.frames.Frame.{Frame}

@@ -12,7 +12,7 @@ use Rattle.paw_base.specs.declared.codes.TheConstants.{QUIT, END, ANYKEY, PROCES
 use Rattle.paw_base.specs.declared.parts.Condact.{Condact}
 use Rattle.paw_game.specs.Game.{GameLists}
 use Rattle.paw_game.specs.Valid.{Valid}
-use Rattle.paw_game.proofs.Kept.{condact-early, condact-small}
+use Rattle.paw_game.proofs.ValidGames.{condact-early, condact-small}
 use Rattle.paw_effects.specs.declared.act.Prompt.{Prompt}
 use Rattle.paw_effects.specs.declared.act.Prompt.TheVariants as prompt
 use Rattle.paw_reading.specs.declared.frames.Frame.{Frame}

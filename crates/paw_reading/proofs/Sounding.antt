@@ -26,7 +26,7 @@ use Rattle.paw_game.specs.declared.parts.Entry.{Entry}
 use Rattle.paw_game.specs.Game.{GameLists}
 use Rattle.paw_game.specs.Tables.{table_at, entry_at, condacts_of, facts_at, exit_at}
 use Rattle.paw_game.specs.Valid.{Valid, is_condact, is_entry, is_wildcard, is_verb_value, has_word}
-use Rattle.paw_game.proofs.Kept.{first_of_and, second_of_and, table_kept, entry_kept, exit-leads}
+use Rattle.paw_game.proofs.ValidGames.{first_of_and, second_of_and, table_follows, entry_follows, exit-leads}
 use Rattle.paw_world.specs.World.{World, flag, with_flag, is_dark, is_unlit, flag_lowered, flag_lowered_if}
 use Rattle.paw_phrase.specs.declared.Sentence.{Sentence}
 use Rattle.paw_phrase.specs.Sentence.{Parsed, IsSentence, IsUnknown, IsNoPhrase}
@@ -104,10 +104,10 @@ one_short : (piece : Text) → length piece ≤ PIECE_LIMIT → All (λ q. lengt
 one_short piece short zero d low = short
 one_short piece short (suc k) d low = absurd (omega arith)
 
-kept_drop : {A : Type 0} (p : A → Bool) (n : ℕ) (xs : List A) → IsTrue (list_all p xs) → IsTrue (list_all p (drop n xs))
-kept_drop p zero xs all = all
-kept_drop p (suc n) [] all = all
-kept_drop p (suc n) (x ∷ xs) all = kept_drop p n xs (second_of_and (p x) _ all)
+true_drop : {A : Type 0} (p : A → Bool) (n : ℕ) (xs : List A) → IsTrue (list_all p xs) → IsTrue (list_all p (drop n xs))
+true_drop p zero xs all = all
+true_drop p (suc n) [] all = all
+true_drop p (suc n) (x ∷ xs) all = true_drop p n xs (second_of_and (p x) _ all)
 
 module _ (g : Story) (valid : ValidStory g) (seed : Seed) (base : ℕ) where
   abbrev v : Valid g.game
@@ -421,20 +421,20 @@ module _ (g : Story) (valid : ValidStory g) (seed : Seed) (base : ℕ) where
         (entries_sound t (suc e) es later_ones a r h)
 
     table_entries : (t : ℕ) → IsTrue (list_all (is_entry g.game) (table_at g.game t))
-    table_entries t = second_of_and (nat_le (length (table_at g.game t)) ENTRY_LIMIT) _ (table_kept g.game v t)
+    table_entries t = second_of_and (nat_le (length (table_at g.game t)) ENTRY_LIMIT) _ (table_follows g.game v t)
 
     all_condacts : (o : Option Entry) → ((en : Entry) → o ≡ Some en → IsTrue (is_entry g.game en)) → IsTrue (list_all (is_condact g.game) (condacts_of o))
     all_condacts None h = refl
     all_condacts (Some en) h = entry_condacts en (h en refl)
 
     plain_sounds : (t e k : ℕ) → GoesSound (from_condact g sub lv t e k)
-    plain_sounds t e zero a r h = entries_sound t e (drop e (table_at g.game t)) (kept_drop (is_entry g.game) e (table_at g.game t) (table_entries t)) a r h
+    plain_sounds t e zero a r h = entries_sound t e (drop e (table_at g.game t)) (true_drop (is_entry g.game) e (table_at g.game t) (table_entries t)) a r h
     plain_sounds t e (suc k) a r h =
         condacts_sound t e _ (entries_sound t (suc e) (drop (suc e) (table_at g.game t))
-        (kept_drop (is_entry g.game) (suc e) (table_at g.game t) (table_entries t))) (suc k)
+        (true_drop (is_entry g.game) (suc e) (table_at g.game t) (table_entries t))) (suc k)
         (drop (suc k) (condacts_of (entry_at g.game t e)))
-        (kept_drop (is_condact g.game) (suc k) (condacts_of (entry_at g.game t e))
-        (all_condacts (entry_at g.game t e) (λ en q. entry_kept g.game v t e en q))) a r h
+        (true_drop (is_condact g.game) (suc k) (condacts_of (entry_at g.game t e))
+        (all_condacts (entry_at g.game t e) (λ en q. entry_follows g.game v t e en q))) a r h
 
     looped_sounds : (l : OpenLoop) (r : Run) → Is r → Sounds (rest_of_loop g sub lv l r)
     looped_sounds l r h = turns_sound lv (record l { last = 0 }) _ (plain_sounds l.table l.entry (suc l.at) true) (length g.game.objects - suc l.last) r h

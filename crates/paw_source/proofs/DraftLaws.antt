@@ -172,25 +172,25 @@ texts_lawful p section.Con begun ts d e k new = k
 texts_lawful p section.Obj begun ts d e k new = k
 texts_lawful p section.Pro begun ts d e k new = k
 
-none_kept : (limit : ℕ) → LawfulTexts limit []
-none_kept limit = record { all = refl; few = omega arith }
+none_lawful : (limit : ℕ) → LawfulTexts limit []
+none_lawful limit = record { all = refl; few = omega arith }
 
-texts_kept_in : (p : ℕ) (s : Section) (d : Spelt) → IsLawful p d → LawfulTexts (text_limit s) (texts_of s d)
-texts_kept_in p section.Before d k = none_kept 0
-texts_kept_in p section.Voc d k = none_kept 0
-texts_kept_in p section.Stx d k = k.heads.system
-texts_kept_in p section.Mtx d k = k.heads.messages
-texts_kept_in p section.Otx d k = k.heads.names
-texts_kept_in p section.Ltx d k = k.heads.locations
-texts_kept_in p section.Con d k = none_kept 0
-texts_kept_in p section.Obj d k = none_kept 0
-texts_kept_in p section.Pro d k = none_kept 0
+texts_lawful_in : (p : ℕ) (s : Section) (d : Spelt) → IsLawful p d → LawfulTexts (text_limit s) (texts_of s d)
+texts_lawful_in p section.Before d k = none_lawful 0
+texts_lawful_in p section.Voc d k = none_lawful 0
+texts_lawful_in p section.Stx d k = k.heads.system
+texts_lawful_in p section.Mtx d k = k.heads.messages
+texts_lawful_in p section.Otx d k = k.heads.names
+texts_lawful_in p section.Ltx d k = k.heads.locations
+texts_lawful_in p section.Con d k = none_lawful 0
+texts_lawful_in p section.Obj d k = none_lawful 0
+texts_lawful_in p section.Pro d k = none_lawful 0
 
 text_lawful : (p : ℕ) (d e : Spelt) (l : Line) → IsLawful p d → is_comment l ≡ false → begins_with_slash l ≡ false
     → has_forbidden_byte true l ≡ false → text_added d l ≡ Ok e → IsLawful p e
 text_lawful p d e l k comment slash bytes h =
     let b = bound (text_line d.begun l (texts_of d.section d)) (λ ts. Ok (with_texts d.section true ts d)) e h in
-    let old = texts_kept_in p d.section d k in
+    let old = texts_lawful_in p d.section d k in
     let new = text_line_ok d.begun l (texts_of d.section d) b.0 old.all comment slash bytes b.1 in
     let few = old.few in
     let same = new.1 in
@@ -202,7 +202,7 @@ text_lawful p d e l k comment slash bytes h =
 new_text_lawful : (p : ℕ) (s : Section) (n : ℕ) (d e : Spelt) → d.section ≡ s → IsLawful p d → new_text s d n ≡ Ok e → IsLawful p e
 new_text_lawful p s n d e here k h =
     let b = bound (text_item (text_limit s) n (texts_of s d)) (λ ts. Ok (with_texts s false ts d)) e h in
-    let old = texts_kept_in p s d k in
+    let old = texts_lawful_in p s d k in
     let new = text_item_ok (text_limit s) n (texts_of s d) b.0 old.all b.1 in
     subst (IsLawful p) (ok_is (with_texts s false b.0 d) e b.2) (texts_lawful p s false b.0 d here k (record { all = new.0; few = new.1 }))
 

@@ -70,9 +70,9 @@ upper_letters (b ∷ bs) h =
     let p = and_parts (is_ascii_alphanumeric b) (list_all is_ascii_alphanumeric bs) h in
     rw (upper_letter b p.0) (upper_letters bs p.1)
 
-letters_kept : (t : Token) → is_word_token t ≡ true → are_letters (letters_of t) ≡ true
-letters_kept [] h = absurd cc
-letters_kept (b ∷ bs) h =
+letters_follow : (t : Token) → is_word_token t ≡ true → are_letters (letters_of t) ≡ true
+letters_follow [] h = absurd cc
+letters_follow (b ∷ bs) h =
     let some = (and_parts (nat_lt 0 (length (b ∷ bs))) (list_all is_ascii_alphanumeric (b ∷ bs)) h).1 in
     let p = and_parts (is_ascii_alphanumeric b) (list_all is_ascii_alphanumeric bs) some in
     let first = upper_letter b p.0 in
@@ -87,7 +87,7 @@ pub word_ok : (ts : Tokens) (x : Letters × Tokens) → word ts ≡ Ok x → are
 word_ok ts x h =
     let r = read_ok kind.Word letters_in ts x h in
     elim (is_word_token r.0) as (λ b. is_word_token r.0 ≡ b → cond b (Some (letters_of r.0)) None ≡ Some x.0 → are_letters x.0 ≡ true) [
-      | true ↦ λ e f. rw (← some_is (letters_of r.0) x.0 f) (letters_kept r.0 e)
+      | true ↦ λ e f. rw (← some_is (letters_of r.0) x.0 f) (letters_follow r.0 e)
       | false ↦ λ e f. absurd cc
     ] refl r.1
 

@@ -12,7 +12,7 @@ use Rattle.paw_game.specs.Game.{GameLists}
 use Rattle.paw_game.specs.Valid.{Valid}
 use Rattle.paw_game.specs.Tables.{condact_at}
 use Rattle.paw_game.proofs.Counts.{few_objects}
-use Rattle.paw_game.proofs.Kept.{condact-small}
+use Rattle.paw_game.proofs.ValidGames.{condact-small}
 use Rattle.paw_world.specs.World.{Position}
 use Rattle.paw_reading.specs.declared.frames.Frame.{Frame}
 use Rattle.paw_reading.specs.declared.frames.OpenLoop.{OpenLoop}

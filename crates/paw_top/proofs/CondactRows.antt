@@ -143,8 +143,8 @@ word_parameter : (p : ℕ) (g : GameLists) (class x : ℕ) → Small p g → is_
     ReadsBack (value_token g.words class x) (word_or_none g.words class) x
 word_parameter p g class x s h = word_or_none_back g.words class x s.words h
 
-place_kept : (x locations : ℕ) → locations ≤ LOCATION_LIMIT → (ltb x locations || is_within NOT_CREATED_PLACE HERE_PLACE x) ≡ true → x ≤ 65535
-place_kept x locations few h =
+place_follows : (x locations : ℕ) → locations ≤ LOCATION_LIMIT → (ltb x locations || is_within NOT_CREATED_PLACE HERE_PLACE x) ≡ true → x ≤ 65535
+place_follows x locations few h =
     elim (or_cases (ltb x locations) (is_within NOT_CREATED_PLACE HERE_PLACE x) h) [
       | inl is ↦ omega (arith, ltb-true x locations is)
       | inr is ↦ omega (arith, leb-true x HERE_PLACE (and_parts (leb NOT_CREATED_PLACE x) (leb x HERE_PLACE) is).1)
@@ -156,7 +156,7 @@ parameter_back p g kind.Location x s h =
     let small = below_small x (length g.locations) (omega (arith, s.locations)) h in
     record { plain = rw (plain-decimal x small) refl; no_at = rw (decimal-at x small) refl; count = refl; read = λ ts. rw (number-decimal x small, h) refl }
 parameter_back p g kind.Place x s h =
-    let small = place_kept x (length g.locations) s.locations h in
+    let small = place_follows x (length g.locations) s.locations h in
     record { plain = rw (plain-decimal x small) refl; no_at = rw (decimal-at x small) refl; count = refl; read = λ ts. rw (number-decimal x small, h) refl }
 parameter_back p g kind.Object x s h =
     let small = below_small x (length g.objects) (omega (arith, s.objects)) h in

@@ -39,13 +39,13 @@ find_passes p (v ∷ vs) w h =
       | false ↦ λ is g. find_passes p vs w g
     ] refl h
 
-find_keeps : (p rule : Word → Bool) (ws : List Word) (w : Word) → list_all rule ws ≡ true → find p ws ≡ Some w → rule w ≡ true
-find_keeps p rule [] w all h = absurd cc
-find_keeps p rule (v ∷ vs) w all h =
+find_follows : (p rule : Word → Bool) (ws : List Word) (w : Word) → list_all rule ws ≡ true → find p ws ≡ Some w → rule w ≡ true
+find_follows p rule [] w all h = absurd cc
+find_follows p rule (v ∷ vs) w all h =
     let both = and_parts (rule v) (list_all rule vs) all in
     elim (p v) as (λ b. cond b (Some v) (find p vs) ≡ Some w → rule w ≡ true) [
       | true ↦ λ g. subst (λ (u : Word). rule u ≡ true) (some_is v w g) both.0
-      | false ↦ λ g. find_keeps p rule vs w both.1 g
+      | false ↦ λ g. find_follows p rule vs w both.1 g
     ] h
 
 find_some : (p : Word → Bool) (ws : List Word) → list_any p ws ≡ true → (w : Word) × (find p ws ≡ Some w)
@@ -110,7 +110,7 @@ record First (ws : List Word) (class value : ℕ) (w : Word) : Type 0 where
 first_is : (ws : List Word) (class value : ℕ) (w : Word) → Words ws → first_word ws class value ≡ Some w → First ws class value w
 first_is ws class value w words h =
     let passes = and_parts (eqb w.class class) _ (find_passes (means class value) ws w h) in
-    let kept = and_parts (are_letters w.letters) _ (find_keeps (means class value) is_word ws w words.all h) in
+    let kept = and_parts (are_letters w.letters) _ (find_follows (means class value) is_word ws w words.all h) in
     let range = and_parts (leb LEAST_WORD w.value) (leb w.value GREATEST_WORD) (and_parts (is_within LEAST_WORD GREATEST_WORD w.value) _ kept.1).0 in
     let value_is : w.value ≡ value = eqb-true w.value value passes.1 in
     let low : LEAST_WORD ≤ w.value = leb-true LEAST_WORD w.value range.0 in

@@ -1,13 +1,13 @@
 use Rattle.std.proofs.Common.{◌+◌, ◌-◌, ◌∙◌, length, drop, sym, add-one, take_all, length-drop, le_of_eq}
-use Rattle.paw_effects.proofs.Underscores.{kept_whole, kept_without, replaced_at}
+use Rattle.paw_effects.proofs.Underscores.{same_whole, same_without, replaced_at}
 use Rattle.paw_effects.proofs.text.split_at_underscore.Goals as goal
 
 pub returns-then-not-contains-clause-none : goal.returns-then-not-contains-clause-none
 returns-then-not-contains-clause-none c = λ name.
-    kept_without name c.args.text.now (sym c.contains.ensures.value ∙ c.if-not-contains.true)
+    same_without name c.args.text.now (sym c.contains.ensures.value ∙ c.if-not-contains.true)
 
 pub returns-in_err-at-clause-none : goal.returns-in_err-at-clause-none
-returns-in_err-at-clause-none c = rw c.from_residual.ensures (λ name. kept_whole name c.args.text.now c.in_err-at.ensures)
+returns-in_err-at-clause-none c = rw c.from_residual.ensures (λ name. same_whole name c.args.text.now c.in_err-at.ensures)
 
 pub returns-clause-some : goal.returns-clause-some
 returns-clause-some c name =

@@ -1,5 +1,5 @@
 use Rattle.std.proofs.Common.{◌<◌, length}
-use Rattle.paw_game.proofs.Kept.{IfSome-from, exit-leads}
+use Rattle.paw_game.proofs.ValidGames.{IfSome-from, exit-leads}
 use Rattle.paw_game.proofs.game.GameTables.exit.Goals as goal
 
 pub returns-clause-leads : goal.returns-clause-leads

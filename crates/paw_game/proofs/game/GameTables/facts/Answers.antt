@@ -1,7 +1,7 @@
 use Rattle.std.proofs.Common.{◌≤◌, IsTrue, length}
 use Rattle.paw_base.specs.declared.limits.TheConstants.{WEIGHT_LIMIT}
 use Rattle.paw_game.specs.Valid.{is_place}
-use Rattle.paw_game.proofs.Kept.{IfSome-from, facts-start, facts-weight}
+use Rattle.paw_game.proofs.ValidGames.{IfSome-from, facts-start, facts-weight}
 use Rattle.paw_game.proofs.game.GameTables.facts.Goals as goal
 
 pub returns-clause-weight : goal.returns-clause-weight

@@ -1,6 +1,6 @@
 use Rattle.std.proofs.Common.{◌<◌}
 use Rattle.paw_base.specs.declared.limits.TheConstants.{ENTRY_LIMIT}
-use Rattle.paw_game.proofs.Kept.{IfSome-from, head-small}
+use Rattle.paw_game.proofs.ValidGames.{IfSome-from, head-small}
 use Rattle.paw_game.proofs.game.GameTables.head.Goals as goal
 
 pub returns-clause-small : goal.returns-clause-small

@@ -1,5 +1,5 @@
 use Rattle.std.proofs.Common.{sym, arith}
-use Rattle.paw_game.proofs.Kept.{condact-early, condact-small, condact_kept}
+use Rattle.paw_game.proofs.ValidGames.{condact-early, condact-small, condact_follows}
 use Rattle.paw_game.proofs.game.GameTables.next_condact.Goals as goal
 
 pub overflow_add-cursor : goal.overflow_add-cursor
@@ -24,4 +24,4 @@ pub returns-clause-kept : goal.returns-clause-kept
 returns-clause-kept c =
     let is = rw c.self.view_is at c.in_ok-condact.ensures.value in
     let cursor = c.args.cursor.now in
-    condact_kept c.args.self.now (rw c.self.view_is at c.self.invariant) cursor.table cursor.entry cursor.at c.in_ok-condact.condact (sym is)
+    condact_follows c.args.self.now (rw c.self.view_is at c.self.invariant) cursor.table cursor.entry cursor.at c.in_ok-condact.condact (sym is)

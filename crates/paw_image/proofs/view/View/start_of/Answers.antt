@@ -3,7 +3,7 @@ use Rattle.std.specs.Prelude.{slice_get}
 use Rattle.std.specs.Option.{option_map, unwrap_or}
 use Rattle.std.proofs.lemmas.Option.{none-some}
 use Rattle.paw_game.specs.declared.parts.Entry.{Entry}
-use Rattle.paw_game.proofs.Kept.{head-small}
+use Rattle.paw_game.proofs.ValidGames.{head-small}
 use Rattle.paw_image.specs.inner.Offsets.{entries_of, TableOffsets}
 use Rattle.paw_image.specs.inner.Views.{game_read}
 use Rattle.paw_image.proofs.CursorLaws.{left_whole}

@@ -1,6 +1,6 @@
 use Rattle.std.proofs.Common.{List, ℕ, sym, ap, ◌∙◌}
 use Rattle.std.specs.Prelude.{slice_get}
-use Rattle.paw_game.proofs.Kept.{IfSome-from, exit-leads}
+use Rattle.paw_game.proofs.ValidGames.{IfSome-from, exit-leads}
 use Rattle.paw_image.specs.inner.Views.{game_read}
 use Rattle.paw_image.proofs.RowStartLaws.{exit_there, no_exit}
 use Rattle.paw_image.proofs.ViewLaws.{lists_of}

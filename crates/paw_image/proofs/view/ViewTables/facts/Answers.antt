@@ -2,7 +2,7 @@ use Rattle.std.proofs.Common.{◌≤◌, IsTrue, length, sym, ◌∙◌}
 use Rattle.paw_base.specs.declared.limits.TheConstants.{WEIGHT_LIMIT}
 use Rattle.paw_base.specs.declared.parts.ObjectFacts.{ObjectFacts}
 use Rattle.paw_game.specs.Valid.{is_place}
-use Rattle.paw_game.proofs.Kept.{IfSome-from, facts-start, facts-weight}
+use Rattle.paw_game.proofs.ValidGames.{IfSome-from, facts-start, facts-weight}
 use Rattle.paw_image.specs.inner.Views.{game_read}
 use Rattle.paw_image.proofs.RowStartLaws.{facts_there, no_facts}
 use Rattle.paw_image.proofs.ViewLaws.{fits_of, lists_of}

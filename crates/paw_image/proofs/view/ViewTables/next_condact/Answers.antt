@@ -1,5 +1,5 @@
 use Rattle.std.proofs.Common.{◌<◌, sym, arith}
-use Rattle.paw_game.proofs.Kept.{condact-early, condact-small, condact_kept}
+use Rattle.paw_game.proofs.ValidGames.{condact-early, condact-small, condact_follows}
 use Rattle.paw_image.specs.inner.Views.{game_read}
 use Rattle.paw_image.proofs.CursorLaws.{left_there, left_next, stands_none, stands_read, stands_next}
 use Rattle.paw_image.proofs.view.ViewTables.next_condact.Goals as goal
@@ -66,4 +66,4 @@ returns-clause-kept c =
     let is = stands_read c.args.self.now cursor.table cursor.entry cursor.at cursor.left cursor.offset c.condact_at-next.result.1 condact
     c.requires.stands.condacts (omega (arith, c.if-cursor-eq0.false)) (rw c.self.view_is at c.condact_at-next.ensures.value) in
     let image = rw c.self.view_is at c.self.invariant.image in
-    condact_kept (game_read c.args.self.now) image.valid cursor.table cursor.entry cursor.at condact is
+    condact_follows (game_read c.args.self.now) image.valid cursor.table cursor.entry cursor.at condact is

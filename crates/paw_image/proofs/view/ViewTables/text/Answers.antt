@@ -1,6 +1,6 @@
 use Rattle.std.proofs.Common.{sym, ap, ◌∙◌}
 use Rattle.std.specs.Option.{option_copied}
-use Rattle.paw_game.proofs.Kept.{text-short, text_kept}
+use Rattle.paw_game.proofs.ValidGames.{text-short, text_follows}
 use Rattle.paw_image.specs.inner.Views.{game_read}
 use Rattle.paw_image.proofs.RowStartLaws.{no_text_of_part}
 use Rattle.paw_image.proofs.ViewLaws.{text_begins, text_read}
@@ -26,5 +26,5 @@ returns c =
     let is = sym read ∙ text_read bytes image c.args.part c.args.number c.in_ok-offset.offset (sym c.in_ok-offset.ensures.value) in
     record {
       value = is;
-      short = text-short c.text_in.result.now (text_kept (game_read bytes) image.valid c.args.part c.args.number c.text_in.result.now (sym is));
+      short = text-short c.text_in.result.now (text_follows (game_read bytes) image.valid c.args.part c.args.number c.text_in.result.now (sym is));
     }

@@ -2,7 +2,7 @@ use Rattle.std.proofs.Common.{length, nat_le}
 use Rattle.std.specs.List.{list_all}
 use Rattle.paw_base.specs.declared.limits.TheConstants.{WORD_LIMIT}
 use Rattle.paw_game.specs.Valid.{is_word}
-use Rattle.paw_game.proofs.Kept.{second_of_and}
+use Rattle.paw_game.proofs.ValidGames.{second_of_and}
 use Rattle.paw_image.proofs.GroupLaws.{groups_rise}
 use Rattle.paw_image.proofs.word_index.WordIndex.new.Goals as goal
 

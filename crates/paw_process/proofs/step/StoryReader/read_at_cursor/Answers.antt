@@ -1,5 +1,5 @@
 use Rattle.std.proofs.Common.{refl, sym, arith, None}
-use Rattle.paw_game.proofs.Kept.{condact-early}
+use Rattle.paw_game.proofs.ValidGames.{condact-early}
 use Rattle.paw_game.proofs.Right.{right_at}
 use Rattle.paw_effects.specs.Story.{story_of}
 use Rattle.paw_process.proofs.Readings.{reads_nothing}

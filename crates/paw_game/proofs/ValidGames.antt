@@ -72,18 +72,18 @@ row_at (x ∷ xs) (suc i) h = row_at xs i (omega arith)
 
 -- ---- objects
 
-pub object_kept : (g : GameLists) → Valid g → (o : ℕ) (row : ObjectRow) → slice_get g.objects o ≡ Some row → IsTrue (is_object g.words (length g.locations) row)
-object_kept g v o row e =
+pub object_follows : (g : GameLists) → Valid g → (o : ℕ) (row : ObjectRow) → slice_get g.objects o ≡ Some row → IsTrue (is_object g.words (length g.locations) row)
+object_follows g v o row e =
     list_all-at (is_object g.words (length g.locations)) g.objects o row (second_of_and (nat_le (length g.objects) OBJECT_LIMIT) _ v.objects) e
 
-pub facts_kept : (g : GameLists) → Valid g → (o : ℕ) (f : ObjectFacts) → facts_at g o ≡ Some f → IsTrue (facts_are_valid g.words (length g.locations) f)
-facts_kept g v o f e =
+pub facts_follow : (g : GameLists) → Valid g → (o : ℕ) (f : ObjectFacts) → facts_at g o ≡ Some f → IsTrue (facts_are_valid g.words (length g.locations) f)
+facts_follow g v o f e =
     let at = option_map-Some (λ (row : ObjectRow). row.facts) (slice_get g.objects o) f e in
-    rw (← at.2) (second_of_and (is_text at.0.text) _ (object_kept g v o at.0 at.1))
+    rw (← at.2) (second_of_and (is_text at.0.text) _ (object_follows g v o at.0 at.1))
 
 pub facts-start : (g : GameLists) → Valid g → (o : ℕ) (f : ObjectFacts) → facts_at g o ≡ Some f → IsTrue (is_place (length g.locations) f.start)
 facts-start g v o f e =
-    let kept = facts_kept g v o f e in
+    let kept = facts_follow g v o f e in
     first_of_and (is_place (length g.locations) f.start) _
     (second_of_and (is_word_or_none g.words ADJECTIVE_CLASS f.adjective) _
     (second_of_and (is_word_or_none g.words NOUN_CLASS f.noun) _ kept))
@@ -91,26 +91,26 @@ facts-start g v o f e =
 pub facts-weight : (g : GameLists) → Valid g → (o : ℕ) (f : ObjectFacts) → facts_at g o ≡ Some f
     → f.weight ≤ WEIGHT_LIMIT
 facts-weight g v o f e =
-    let kept = facts_kept g v o f e in
+    let kept = facts_follow g v o f e in
     leb-true f.weight WEIGHT_LIMIT (second_of_and (is_place (length g.locations) f.start) _
     (second_of_and (is_word_or_none g.words ADJECTIVE_CLASS f.adjective) _
     (second_of_and (is_word_or_none g.words NOUN_CLASS f.noun) _ kept)))
 
 -- ---- texts
 
-pub text_kept : (g : GameLists) → Valid g → (p : GamePart) (n : ℕ) (t : Text) → text_at g p n ≡ Some t → IsTrue (is_text t)
-text_kept g v part.Words n t e = absurd (none-some t e)
-text_kept g v part.System n t e = list_all-at is_text g.system n t (second_of_and (nat_le (length g.system) SYSTEM_LIMIT) _ v.system) e
-text_kept g v part.Messages n t e = list_all-at is_text g.messages n t (second_of_and (nat_le (length g.messages) MESSAGE_LIMIT) _ v.messages) e
-text_kept g v part.Objects n t e =
+pub text_follows : (g : GameLists) → Valid g → (p : GamePart) (n : ℕ) (t : Text) → text_at g p n ≡ Some t → IsTrue (is_text t)
+text_follows g v part.Words n t e = absurd (none-some t e)
+text_follows g v part.System n t e = list_all-at is_text g.system n t (second_of_and (nat_le (length g.system) SYSTEM_LIMIT) _ v.system) e
+text_follows g v part.Messages n t e = list_all-at is_text g.messages n t (second_of_and (nat_le (length g.messages) MESSAGE_LIMIT) _ v.messages) e
+text_follows g v part.Objects n t e =
     let at = option_map-Some (λ (row : ObjectRow). row.text) (slice_get g.objects n) t e in
-    rw (← at.2) (first_of_and (is_text at.0.text) _ (object_kept g v n at.0 at.1))
-text_kept g v part.Locations n t e =
+    rw (← at.2) (first_of_and (is_text at.0.text) _ (object_follows g v n at.0 at.1))
+text_follows g v part.Locations n t e =
     list_all-at is_text g.locations n t
     (second_of_and (nat_le (length g.locations) LOCATION_LIMIT) _
     (second_of_and (nat_le LOCATION_LEAST (length g.locations)) _ v.locations)) e
-text_kept g v part.Exits n t e = absurd (none-some t e)
-text_kept g v part.Tables n t e = absurd (none-some t e)
+text_follows g v part.Exits n t e = absurd (none-some t e)
+text_follows g v part.Tables n t e = absurd (none-some t e)
 
 pub text-short : (t : Text) → IsTrue (is_text t) → length t ≤ TEXT_LIMIT
 text-short t h = leb-true (length t) TEXT_LIMIT (first_of_and _ _ h)
@@ -145,9 +145,9 @@ exit_of-leads ws locations (x ∷ xs) verb to h e =
     (first_of_and (nat_lt x.to locations) _ (second_of_and (is_verb_value ws x.verb) _ (first_of_and _ (are_exits ws locations xs) h))))
     (exit_of-leads ws locations xs verb to (second_of_and _ (are_exits ws locations xs) h)) e
 
-pub exits_kept_at : (g : GameLists) → Valid g → (l : ℕ) (xs : List Exit) → slice_get g.exits l ≡ Some xs →
+pub exits_follow_at : (g : GameLists) → Valid g → (l : ℕ) (xs : List Exit) → slice_get g.exits l ≡ Some xs →
     IsTrue (exits_are_valid g.words (length g.locations) xs)
-exits_kept_at g v l xs e =
+exits_follow_at g v l xs e =
     list_all-at (exits_are_valid g.words (length g.locations)) g.exits l xs (second_of_and (length g.exits == length g.locations) _ v.exits) e
 
 exit_in-leads : (ws : List Word) (locations : ℕ) (o : Option (List Exit)) (verb to : ℕ)
@@ -157,7 +157,7 @@ exit_in-leads ws locations (Some xs) verb to h e =
     exit_of-leads ws locations xs verb to (second_of_and (nat_le (length xs) EXIT_LIMIT) _ (h xs refl)) e
 
 pub exit-leads : (g : GameLists) → Valid g → (l verb to : ℕ) → exit_at g l verb ≡ Some to → to < length g.locations
-exit-leads g v l verb to e = exit_in-leads g.words (length g.locations) (slice_get g.exits l) verb to (exits_kept_at g v l) e
+exit-leads g v l verb to e = exit_in-leads g.words (length g.locations) (slice_get g.exits l) verb to (exits_follow_at g v l) e
 
 -- ---- tables
 
@@ -165,30 +165,30 @@ table_in : (g : GameLists) (o : Option (List Entry)) → ((es : List Entry) → 
 table_in g None h = refl
 table_in g (Some es) h = h es refl
 
-pub table_kept : (g : GameLists) → Valid g → (t : ℕ) → IsTrue (is_table g (table_at g t))
-table_kept g v t =
+pub table_follows : (g : GameLists) → Valid g → (t : ℕ) → IsTrue (is_table g (table_at g t))
+table_follows g v t =
     table_in g (slice_get g.tables t)
     (λ es e. list_all-at (is_table g) g.tables t es
     (second_of_and (is_within TABLE_LEAST TABLE_LIMIT (length g.tables)) _ v.tables) e)
 
 pub table-short : (g : GameLists) → Valid g → (t : ℕ) → length (table_at g t) ≤ ENTRY_LIMIT
-table-short g v t = leb-true (length (table_at g t)) ENTRY_LIMIT (first_of_and _ _ (table_kept g v t))
+table-short g v t = leb-true (length (table_at g t)) ENTRY_LIMIT (first_of_and _ _ (table_follows g v t))
 
-pub entry_kept : (g : GameLists) → Valid g → (t e : ℕ) (en : Entry) → entry_at g t e ≡ Some en → IsTrue (is_entry g en)
-entry_kept g v t e en h =
-    list_all-at (is_entry g) (table_at g t) e en (second_of_and (nat_le (length (table_at g t)) ENTRY_LIMIT) _ (table_kept g v t)) h
+pub entry_follows : (g : GameLists) → Valid g → (t e : ℕ) (en : Entry) → entry_at g t e ≡ Some en → IsTrue (is_entry g en)
+entry_follows g v t e en h =
+    list_all-at (is_entry g) (table_at g t) e en (second_of_and (nat_le (length (table_at g t)) ENTRY_LIMIT) _ (table_follows g v t)) h
 
 pub entry-small : (g : GameLists) → Valid g → (t e : ℕ) (en : Entry) → entry_at g t e ≡ Some en → e < ENTRY_LIMIT
 entry-small g v t e en h = omega (arith, slice_get_within (table_at g t) e en h, table-short g v t)
 
 -- An entry's condacts follow their rules, and are few.
-condacts_kept : (g : GameLists) (en : Entry) → IsTrue (is_entry g en)
+condacts_follow : (g : GameLists) (en : Entry) → IsTrue (is_entry g en)
     → IsTrue (nat_le (length en.condacts) CONDACT_LIMIT && list_all (is_condact g) en.condacts)
-condacts_kept g en h =
+condacts_follow g en h =
     second_of_and (is_wildcard en.noun || has_word g.words NOUN_CLASS en.noun) _ (second_of_and (is_wildcard en.verb || is_verb_value g.words en.verb) _ h)
 
 pub condacts-short : (g : GameLists) (en : Entry) → IsTrue (is_entry g en) → length en.condacts ≤ CONDACT_LIMIT
-condacts-short g en h = leb-true (length en.condacts) CONDACT_LIMIT (first_of_and _ (list_all (is_condact g) en.condacts) (condacts_kept g en h))
+condacts-short g en h = leb-true (length en.condacts) CONDACT_LIMIT (first_of_and _ (list_all (is_condact g) en.condacts) (condacts_follow g en h))
 
 condacts_of-Some : (o : Option Entry) (k : ℕ) (c : Condact) → slice_get (condacts_of o) k ≡ Some c
     → (en : Entry) × (o ≡ Some en) × (slice_get en.condacts k ≡ Some c)
@@ -205,14 +205,14 @@ pub condact-early : (g : GameLists) → Valid g → (t e k : ℕ) (c : Condact) 
     → k < CONDACT_LIMIT
 condact-early g v t e k c h =
     let at = condacts_of-Some (entry_at g t e) k c h in
-    omega (arith, slice_get_within at.0.condacts k c at.2, condacts-short g at.0 (entry_kept g v t e at.0 at.1))
+    omega (arith, slice_get_within at.0.condacts k c at.2, condacts-short g at.0 (entry_follows g v t e at.0 at.1))
 
-pub condact_kept : (g : GameLists) → Valid g → (t e k : ℕ) (c : Condact) → condact_at g t e k ≡ Some c → IsTrue (is_condact g c)
-condact_kept g v t e k c h =
+pub condact_follows : (g : GameLists) → Valid g → (t e k : ℕ) (c : Condact) → condact_at g t e k ≡ Some c → IsTrue (is_condact g c)
+condact_follows g v t e k c h =
     let at = condacts_of-Some (entry_at g t e) k c h in
     list_all-at (is_condact g) at.0.condacts k c
     (second_of_and (nat_le (length at.0.condacts) CONDACT_LIMIT) _
-    (condacts_kept g at.0 (entry_kept g v t e at.0 at.1))) at.2
+    (condacts_follow g at.0 (entry_follows g v t e at.0 at.1))) at.2
 
 -- An entry with a head stands there.
 head_stands : (o : Option Entry) (h : ℕ × ℕ) → option_map {U = ℕ × ℕ} (λ (en : Entry). (en.verb, en.noun)) o ≡ Some h → (en : Entry) × (o ≡ Some en)
@@ -255,24 +255,24 @@ condact-none g t e k h =
 
 -- ---- the parts of a condact
 
-pub code_kept : (rule : ParamKind → ℕ → Bool) (c : Condact) → IsTrue (fits_kinds rule c) → IsCode c.code
-code_kept rule c h = first_of_and (is_code c.code) _ h
+pub code_follows : (rule : ParamKind → ℕ → Bool) (c : Condact) → IsTrue (fits_kinds rule c) → IsCode c.code
+code_follows rule c h = first_of_and (is_code c.code) _ h
 
-pub first_kept : (rule : ParamKind → ℕ → Bool) (c : Condact) → IsTrue (fits_kinds rule c) → IsTrue (rule (first_kind c.code) c.a)
-first_kept rule c h = first_of_and (rule (first_kind c.code) c.a) _ (second_of_and (is_code c.code) _ h)
+pub first_follows : (rule : ParamKind → ℕ → Bool) (c : Condact) → IsTrue (fits_kinds rule c) → IsTrue (rule (first_kind c.code) c.a)
+first_follows rule c h = first_of_and (rule (first_kind c.code) c.a) _ (second_of_and (is_code c.code) _ h)
 
-pub second_kept : (rule : ParamKind → ℕ → Bool) (c : Condact) → IsTrue (fits_kinds rule c) → IsTrue (rule (second_kind c.code) c.b)
-second_kept rule c h = second_of_and (rule (first_kind c.code) c.a) _ (second_of_and (is_code c.code) _ h)
+pub second_follows : (rule : ParamKind → ℕ → Bool) (c : Condact) → IsTrue (fits_kinds rule c) → IsTrue (rule (second_kind c.code) c.b)
+second_follows rule c h = second_of_and (rule (first_kind c.code) c.a) _ (second_of_and (is_code c.code) _ h)
 
 -- A condact that follows a rule follows another that the first one gives.
-pub keeps_other : (rule other : ParamKind → ℕ → Bool) (c : Condact) → ((k : ParamKind) (x : ℕ) → IsTrue (rule k x) → IsTrue (other k x))
+pub follows_other : (rule other : ParamKind → ℕ → Bool) (c : Condact) → ((k : ParamKind) (x : ℕ) → IsTrue (rule k x) → IsTrue (other k x))
     → IsTrue (fits_kinds rule c) → IsTrue (fits_kinds other c)
-keeps_other rule other c gives h =
+follows_other rule other c gives h =
     and_from (is_code c.code) _ (first_of_and (is_code c.code) _ h)
-    (and_from (other (first_kind c.code) c.a) _ (gives (first_kind c.code) c.a (first_kept rule c h)) (gives (second_kind c.code) c.b (second_kept rule c h)))
+    (and_from (other (first_kind c.code) c.a) _ (gives (first_kind c.code) c.a (first_follows rule c h)) (gives (second_kind c.code) c.b (second_follows rule c h)))
 
 pub condact-first : (g : GameLists) (c : Condact) → IsTrue (is_condact g c) → IsTrue (is_parameter (counts_of g) g.words (first_kind c.code) c.a)
-condact-first g c h = first_kept (is_parameter (counts_of g) g.words) c h
+condact-first g c h = first_follows (is_parameter (counts_of g) g.words) c h
 
 pub condact-second : (g : GameLists) (c : Condact) → IsTrue (is_condact g c) → IsTrue (is_parameter (counts_of g) g.words (second_kind c.code) c.b)
-condact-second g c h = second_kept (is_parameter (counts_of g) g.words) c h
+condact-second g c h = second_follows (is_parameter (counts_of g) g.words) c h
