@@ -31,7 +31,8 @@ use Rattle.paw_reading.specs.declared.frames.Frame.{Frame}
 use Rattle.paw_reading.specs.declared.frames.OpenLoop.{OpenLoop}
 use Rattle.paw_reading.specs.declared.halt.Halt.{Halt}
 use Rattle.paw_reading.specs.declared.halt.Halt.TheVariants as halt
-use Rattle.paw_reading.specs.Run.{Run, StepRow, piece_closed, fits, text_printed, with_world, without_loop, line_dropped}
+use Rattle.paw_reading.specs.Run.{Run, StepRow, piece_closed, fits, text_printed, with_world, without_loop}
+use Rattle.paw_reading.specs.Run.{line_dropped}
 use Rattle.paw_reading.specs.Run.{anew, is_ignored, with_line_heard, reply, is_yes, is_no, taken_phrase}
 
 -- What stops a table, and all that called it: the location is described again; the game starts anew; or play ends for

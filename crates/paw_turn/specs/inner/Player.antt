@@ -89,7 +89,8 @@ PlayHalts whole halt new pieces traces =
 -- prompt with one more piece; or is over with one more piece, as the player stands; or is spent, or a call is too deep,
 -- with no further piece and none to show. Of the piece that was closed the player keeps as many steps as it keeps of
 -- each.
-abbrev pub PlaysTo : {F : Type 0} → Story → (Lines → Ending) → Step → PlayerView F → Texts → List (List StepRow) → Type 0
+abbrev pub PlaysTo : {F : Type 0} → Story → (Lines → Ending) → Step → PlayerView F → Texts → List (List StepRow)
+    → Type 0
 PlaysTo g whole (step.Waits p) new pieces traces =
     (read : List StepRow) × ((new.machine.steps ≡ kept_steps new.machine.steps.most read) × ((lines : Lines) →
     whole lines
