@@ -89,7 +89,7 @@ impl Steps {
     }
 
     // Notes one step more, and keeps it. It stands by itself and takes the fields of the row one by one because most
-    // players only count their steps: so the code of a play has no row to put together.
+    // players only count their steps: so the compiler puts no row together where a step is only counted.
     #[cold]
     #[inline(never)]
     fn keep(&mut self, table: u8, entry: u16, at: u8, code: u8, yes: bool)

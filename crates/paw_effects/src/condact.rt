@@ -87,7 +87,8 @@ fn after_printing(fits: bool) -> Act
     after(fits, Effect::Go)
 }
 
-// The answer of an action that is done, and goes on.
+// The answer of an action that is done, and goes on. It takes what changing the world gives, which is nothing, so that
+// the action's arm below is one expression.
 fn going_on(_change: ()) -> Act
     ensures value { result ≡ plainly effect.Go }
 {

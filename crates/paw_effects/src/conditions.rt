@@ -52,7 +52,7 @@ fn moves<T: Tables>(tables: &T, world: &mut World, f: u8) -> bool
 }
 
 /// Whether a condact tests; otherwise it acts. An indirect one is what the plain one is. The codes of conditions come
-/// before the first action.
+/// before that of INVEN, the first action, so one comparison says it, and no row is looked up.
 pub fn is_condition(c: Condact) -> bool
     requires code { IsCode c.code }
     ensures value { result ≡ is_condition c }

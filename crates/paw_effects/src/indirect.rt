@@ -59,6 +59,7 @@ pub(crate) fn as_plain<T: Tables>(tables: &T, world: &World, c: Condact) -> Opti
 {
     let code = plain_code(c.code);
     if c.code < INDIRECT {
+        // The same code, which is known to be a plain one.
         return Some(Condact { code, ..c });
     }
     let value = world.flag(c.a);

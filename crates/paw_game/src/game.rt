@@ -101,6 +101,7 @@ impl Tables for Game {
     }
 
     fn cursor(&self, table: u8, entry: u16, at: u8) -> CondactCursor {
+        // A game in lists finds a condact by its numbers, so it has no use for what is left and for an offset.
         CondactCursor {
             table,
             entry,

@@ -57,7 +57,8 @@ impl Lengths {
     }
 }
 
-/// How many rows each list has, and which values the words have, by class. Contracts see counts and words.
+/// How many rows each list has, and which values the words have, by class: a table of 256 for each class, so that no
+/// value is searched among the words. Contracts see counts and words.
 #[derive(Drop)]
 pub struct Rules<'a> {
     lengths: Lengths,

@@ -54,7 +54,8 @@ pub fn facts_in(bytes: &[u8], offset: u32) -> Option<ObjectFacts>
     }
 }
 
-// The exit at the front, and the bytes after it.
+// The exit at the front, and the bytes after it; None where none stands there. The row's own reader would need an
+// allocator.
 fn exit_here(bytes: &[u8]) -> Option<(Exit, &[u8])>
     ensures value { option_map (λ x. (x.0, x.1.now)) result ≡ exit_here bytes.now }
 {
@@ -97,7 +98,8 @@ pub fn exit_at(bytes: &[u8], offset: u32, verb: u8) -> Option<u8>
     }
 }
 
-/// The verb and the noun of the entry that begins at an offset, and how many condacts it has.
+/// The verb and the noun of the entry that begins at an offset, and how many condacts it has. An entry stands there, so
+/// nothing asks where the bytes end.
 pub fn head_in(bytes: &[u8], offset: u32) -> ((u8, u8), u8)
     requires there { ¬ (head_here (drop offset bytes.now) ≡ None) }
     ensures value { head_here (drop offset bytes.now) ≡ Some result }
@@ -181,6 +183,7 @@ pub fn condacts_in(
     match from_offset(bytes, offset as usize) {
         [_, _, count, condacts @ ..] => {
             let (left, rest) = from_condact(milestones, entry, at, *count, condacts);
+            // What is left is a part of all bytes: saturating says so without a proof.
             (left, bytes.len().saturating_sub(rest.len()))
         }
         _ => (0, 0),
@@ -208,7 +211,8 @@ fn parameter_in(kind: ParamKind, bytes: &[u8], offset: usize) -> (u8, usize)
     }
 }
 
-/// The condact that begins at an offset, where one does, and where the next one begins.
+/// The condact that begins at an offset, and where the next one begins. A condact stands there, so nothing asks where
+/// the bytes end, as the reader of images has to.
 pub fn condact_at(bytes: &[u8], offset: usize) -> (Condact, usize)
     requires there { ¬ (value_of (leading_condact (drop offset bytes.now)) ≡ None) }
     ensures value { leading_condact (drop offset bytes.now) ≡ Ok (result.0, drop result.1 bytes.now) }

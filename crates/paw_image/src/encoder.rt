@@ -11,7 +11,7 @@ use paw_base::limits::IMAGE_LIMIT;
 use paw_game::game::Game;
 use std::alloc::Global;
 
-/// How many bytes the image of a game has. Nothing is written for it.
+/// How many bytes the image of a game has. They are counted and not written, so this needs no memory.
 pub fn image_length(game: &Game) -> u64
     ensures value { result ≡ length (image game.now) }
 {

@@ -55,6 +55,7 @@ pub fn pass_rows<'a, R: InPlace>(
     let mut offsets = Vec::new(alloc);
     let mut rest = bytes;
     for _ in 0..count {
+        // What is left is a part of all bytes: saturating says so without a proof.
         offsets.push(total.saturating_sub(rest.len()) as u32)?;
         rest = R::pass(rules, rest)?;
     }

@@ -54,10 +54,12 @@ fn pass_condacts<'a>(
     ensures keeps { OnOk result (BeginsWithList milestones.old.items milestones.new.items) }
     ensures few { OnOk result (length milestones.new.items ≤ length milestones.old.items + 31) }
 {
+    // An entry with no condact has no eight that another follows.
     let eights = count.saturating_sub(1) / 8;
     let mut rest = bytes;
     for _ in 0..eights {
         rest = pass_each::<Condact>(rules, 8, rest)?;
+        // What is left is a part of all bytes: saturating says so without a proof.
         milestones.push(bytes.len().saturating_sub(rest.len()) as u16)?;
     }
     pass_each::<Condact>(rules, (count - eights * 8) as usize, rest)
@@ -110,6 +112,7 @@ pub fn pass_entries<'a>(
     let mut milestones = Vec::new(alloc);
     let mut rest = bytes;
     for _ in 0..count {
+        // As above.
         offsets.push(all.len().saturating_sub(rest.len()) as u32)?;
         firsts.push(milestones.len() as u32)?;
         rest = pass_entry(rules, rest, &mut milestones)?;

@@ -25,14 +25,16 @@ pub struct Order {
     pub next_any: Vec<u16>,
 }
 
-// The word that stands in the index for an entry's word: the same for both words that match any.
+// The word that stands in the index for an entry's word: the same for both words that match any, so that one search
+// finds either.
 fn indexed_word(word: u8) -> u8
     ensures value { result ≡ indexed_word word }
 {
     if is_wildcard(word) { NO_WORD } else { word }
 }
 
-// The rank of an entry in the order of verb, noun and number.
+// The rank of an entry in the order of verb, noun and number: one number, so that two entries are held against each
+// other by one comparison.
 fn rank_of(verb: u8, noun: u8, entry: u16) -> u32
     ensures value { result ≡ entry_rank verb noun entry }
 {
@@ -85,7 +87,7 @@ fn start_from(ranks: &[u32], before: usize, verb: u16) -> usize
     ensures start { IsStart ranks.now verb result }
     ensures within { result ≤ length ranks.now }
 {
-    // The least rank of the verb, if it is one.
+    // The least rank of the verb; for 256 it is past all ranks, and needs more than four bytes.
     let least = verb as u64 * 16777216;
     let mut at = before;
     while at < ranks.len() && (ranks[at] as u64) < least {
@@ -134,6 +136,7 @@ fn next_any_of(alloc: Global, ranks: &[u32]) -> Result<Vec<u16>, AllocError>
     };
     let mut next = Vec::with_capacity(alloc, room)?;
     for rank in ranks {
+        // No noun is greater than NO_WORD, so these match any noun. Each comes next from the one before it on.
         if *rank >= least {
             let entry = (*rank % 65536) as u16;
             next.resize(entry as usize + 1, entry)?;

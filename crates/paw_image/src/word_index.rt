@@ -18,8 +18,8 @@ use std::marker::Model;
 const LAST_GROUP: u8 = b'Z' + 1;
 
 /// The words of a game, at most 2,000, in order of their letters, and where those of each first letter begin. Words
-/// whose first byte is the same are a group; the last group has all words that begin with a byte past Z. Contracts see
-/// the words.
+/// whose first byte is the same are a group; the last group has all words that begin with a byte past Z. A word is
+/// searched in its group alone, which takes fewer comparisons than among all. Contracts see the words.
 #[derive(Drop)]
 pub struct WordIndex {
     words: Vec<Word>,

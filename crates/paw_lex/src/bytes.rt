@@ -33,6 +33,7 @@ fn is_allowed(text: bool, byte: u8) -> bool
 fn any_is_forbidden(text: bool, line: &[u8]) -> bool
     ensures value { result ≡ list_any (λ b. not (is_allowed text b)) line.now }
 {
+    // There is no way out at a bad byte: without one, the compiler has many bytes tested at once.
     let mut any = false;
     for byte in line {
         any = any | !is_allowed(text, *byte);

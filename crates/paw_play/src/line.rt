@@ -110,6 +110,7 @@ pub(crate) fn play_line<S: Stage, T: Tables, F: Fn(u8, u8) -> u8>(
         EachPlaying g player.old session.events old (λ s most n first.
         EachMoment S.Stage stage.old stage.new (InPlay s first)))) }
 {
+    // A line that is written to a store takes far longer than filling this room does.
     let mut line = [0u8; LINE_LIMIT];
     let step = match stage.ask(&mut line) {
         Asked::Line(n) => player.take(&line[..n as usize]),

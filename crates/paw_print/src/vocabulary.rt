@@ -17,7 +17,8 @@ use paw_base::words::{
 use paw_game::parts::Word;
 use std::marker::Model;
 
-/// The words of a game, and for each class and value the first of them. Contracts see the words.
+/// The words of a game, and for each class and value the first of them, so that no value is searched among the words.
+/// Contracts see the words.
 #[derive(Drop)]
 pub(crate) struct WordsByValue<'a> {
     words: &'a [Word],

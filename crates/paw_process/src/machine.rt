@@ -304,7 +304,7 @@ impl Machine {
         self.waiting = waiting;
     }
 
-    /// Whether the open piece may read one more condact.
+    /// Whether the open piece may read one more condact. The count of its steps says so, and there is no other counter.
     pub(crate) fn may_read(&self) -> bool
         ensures value { result ≡ nat_lt 0 self.now.left }
     {

@@ -275,7 +275,8 @@ impl<T: Tables, F: Fn(u8, u8) -> u8> StoryReader<'_, T, F> {
     }
 
     // Goes on after an action of a frame that is read in place of the innermost one, as an effect other than Go says.
-    // The machine takes the frame back only where it is read again: after a call, and after an answer.
+    // The machine takes the frame back only where it is read again: after a call, and after an answer. So most condacts
+    // write no frame.
     fn go_elsewhere(
         &self,
         machine: &mut Machine,
@@ -429,6 +430,7 @@ impl<T: Tables, F: Fn(u8, u8) -> u8> StoryReader<'_, T, F> {
             c,
         );
         match done.effect {
+            // A piece that is spent is for no one, so its line and its loop may stay as they are.
             Effect::Spent => AfterCondact::Moved(machine.stop(Turned::Halted(Halt::Spent(
                 SpentKind::Text,
             )))),
@@ -553,6 +555,8 @@ impl<T: Tables, F: Fn(u8, u8) -> u8> StoryReader<'_, T, F> {
     {
         // The clause of this call says that the game is valid, which the proof needs. The compiler leaves the call out.
         let _counts = self.tables.counts();
+        // Both loops stand in one function, so that no answer is made and tested after each entry. The cursor and
+        // `acted` are all that changes from condact to condact.
         'entries: loop {
             let Some(start) = self.enter(&surroundings.world, *f) else {
                 let turned = self.leave_level(machine, &mut surroundings.world, f.acted);

@@ -76,6 +76,7 @@ fn read_some<R: Read>(reader: &mut R, into: &mut [u8; 4096]) -> Result<usize, Fa
     ensures bound { ReadsAtMost result into.new }
     ensures bytes { ReadConsumes (R.remaining reader.old) (R.remaining reader.new) result into.new }
 {
+    // A bound that no one reaches, so that this is seen to end.
     for _ in 0..u64::MAX {
         match reader.read(into) {
             Ok(n) => return Ok(n),

@@ -117,6 +117,7 @@ impl<R: Read + Drop> LineReader<R> {
             GathersFrom R.remaining first self.new result into.new }
         ensures rest { self.new.broken ≡ self.old.broken }
     {
+        // Two more than the longest line: its CR and one byte that is too many.
         while begun.len < LONGEST_LINE + 2 {
             self.ahead.fill(&mut self.reader)?;
             if self.ahead.bytes().is_empty() {

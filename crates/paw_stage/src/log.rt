@@ -47,7 +47,8 @@ pub struct Call {
 }
 
 /// The calls so far with the bytes handed to them, the text shown, the number of bytes written to stores, and spare
-/// room for more calls and bytes.
+/// room for more calls and bytes. Text and number follow from the calls, and are kept so that asking for them goes over
+/// no calls.
 #[derive(Drop)]
 pub struct Log {
     calls: Vec<Call>,

@@ -45,6 +45,7 @@ fn write_some<W: Write>(out: &mut W, text: &[u8]) -> Result<usize, Failed>
     ensures bound { IfOk result (λ n. (0 < n) × (n ≤ length text.now)) }
     ensures bytes { WriteAppends (W.contents out.old) (W.contents out.new) result text.now }
 {
+    // A bound that no one reaches, so that this is seen to end.
     for _ in 0..u64::MAX {
         match out.write(text) {
             Ok(0) => return Err(Failed),

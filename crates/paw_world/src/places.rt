@@ -9,7 +9,8 @@ use paw_base::limits::OBJECT_LIMIT;
 use paw_base::parts::ObjectFacts;
 use std::marker::Model;
 
-/// The place of each object, and for each place the set of the objects that stand there.
+/// The place of each object, and for each place the set of the objects that stand there, so that the first object at a
+/// place is found without a look at every object.
 #[derive(Drop)]
 pub struct Places {
     places: [u8; OBJECT_LIMIT],

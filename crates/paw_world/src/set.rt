@@ -5,7 +5,8 @@ ghost use Rattle.paw_world.specs.inner.ObjectSet.{Inserts, Removes, IsLeastFrom,
 
 use std::marker::Model;
 
-/// A set of numbers from 0 to 255: bit o % 64 of word o / 64 says whether o is in it.
+/// A set of numbers from 0 to 255: bit o % 64 of word o / 64 says whether o is in it. So 64 numbers are looked at in
+/// one instruction when the least is searched.
 #[derive(Clone, Copy, Drop)]
 pub struct ObjectSet {
     words: [u64; 4],

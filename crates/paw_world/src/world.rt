@@ -39,7 +39,8 @@ pub const NO_OBJECT: ObjectFacts = ObjectFacts {
     wearable: false,
 };
 
-/// What a game changes while it is played, with the facts of its objects and the number of its locations.
+/// What a game changes while it is played, with the facts of its objects and the number of its locations: these are of
+/// the game, and stand here so that what weighs and moves objects asks no game.
 #[derive(Drop)]
 pub struct World {
     facts: [ObjectFacts; OBJECT_LIMIT],
@@ -73,8 +74,8 @@ impl Model for World {
 }
 
 impl World {
-    // What keeps or fills a whole set of places isn't inlined: a set takes 8,456 bytes of the stack, which the loop
-    // that reads condacts would reserve each time that it begins.
+    // What keeps or fills a whole position isn't inlined. The sets of its places, made anew, take 8,456 bytes of the
+    // stack, and a position itself some 500, which the loop that reads condacts would reserve each time that it begins.
 
     /// The world at the start of a game with these objects, this number of locations and this seed.
     pub fn new(facts: &[ObjectFacts], locations: u8, seed: u64) -> World
