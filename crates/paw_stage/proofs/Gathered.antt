@@ -10,7 +10,7 @@ use Rattle.std.proofs.Math.Seq.{take-append-add}
 use Rattle.paw_base.specs.Bytes.{Bytes}
 use Rattle.paw_base.specs.declared.limits.TheConstants.{LINE_LIMIT}
 use Rattle.paw_stage.specs.inner.Input.{GathersLine, HasLine, longest_line}
-use Rattle.paw_stage.specs.inner.LineParts.{Gathers, HasNoEnd, KeepsPart}
+use Rattle.paw_stage.specs.inner.LineParts.{Gathers, HasNoEnd, CopiesPart}
 use Rattle.paw_stage.proofs.Consumed.{Consumes_on, consumes_none, consumes_read}
 use Rattle.paw_stage.proofs.FirstLine.{HasNoEnd-append, ends_with_byte-part, drop_through-end, drop_through-whole}
 use Rattle.paw_stage.proofs.FirstLine.{first_line-end, first_line-whole, first_line-long}
@@ -35,9 +35,9 @@ at_most_or : (m n : ℕ) → (m ≤ n) ⊎ (n < m)
 at_most_or m n = grind arith
 
 -- As many of a part as are among the first 255 bytes.
-part_kept : (bytes : Bytes) (len n : ℕ) → n ≤ length bytes →
+part_buffered : (bytes : Bytes) (len n : ℕ) → n ≤ length bytes →
     take (LINE_LIMIT - len) (take n bytes) ≡ take (min (len + n) LINE_LIMIT - min len LINE_LIMIT) bytes
-part_kept bytes len n low = elim (at_most_or (LINE_LIMIT - len) n) [
+part_buffered bytes len n low = elim (at_most_or (LINE_LIMIT - len) n) [
   | inl cut ↦
       let is : LINE_LIMIT - len ≡ min (len + n) LINE_LIMIT - min len LINE_LIMIT = omega (arith, cut) in
       take-take (LINE_LIMIT - len) n bytes cut ∙ ap (λ k. take k bytes) is
@@ -49,24 +49,24 @@ part_kept bytes len n low = elim (at_most_or (LINE_LIMIT - len) n) [
 -- Nothing was taken yet.
 pub gathers_none : (first : Option Bytes) (into : Bytes) → Gathers first first into 0 false
 gathers_none first into =
-    record { taken = []; consumed = consumes_none first; count = refl; plain = tt; kept = refl; last = refl }
+    record { taken = []; consumed = consumes_none first; count = refl; plain = tt; buffered = refl; last = refl }
 
 -- A part more, without an LF.
 pub gathers_part : (first left now : Option Bytes) (into into' bytes : Bytes) (len n : ℕ) (returned : Bool) →
     Gathers first left into len returned → Consumes left now (take n bytes) → n ≤ length bytes → HasNoEnd (take n bytes) →
-    KeepsPart into into' len n bytes →
+    CopiesPart into into' len n bytes →
     Gathers first now into' (len + n) (if nat_lt 0 n then get_or bytes (n - 1) 0 == 13 else returned)
-gathers_part first left now into into' bytes len n returned h k low plain kept =
+gathers_part first left now into into' bytes len n returned h k low plain buffered =
     let of_taken : take (LINE_LIMIT - length h.taken) (take n bytes) ≡ take (min (len + n) LINE_LIMIT - min len LINE_LIMIT) bytes =
-    ap (λ t. take (LINE_LIMIT - t) (take n bytes)) h.count ∙ part_kept bytes len n low in
+    ap (λ t. take (LINE_LIMIT - t) (take n bytes)) h.count ∙ part_buffered bytes len n low in
     record {
       taken = h.taken ++ take n bytes;
       consumed = Consumes_on first left now h.taken (take n bytes) h.consumed k;
       count = omega (arith, h.count, low, length-append h.taken (take n bytes), length-take n bytes);
       plain = HasNoEnd-append h.taken (take n bytes) h.plain plain;
-      kept =
-          kept
-          ∙ (ap (λ l. l ++ take (min (len + n) LINE_LIMIT - min len LINE_LIMIT) bytes) h.kept
+      buffered =
+          buffered
+          ∙ (ap (λ l. l ++ take (min (len + n) LINE_LIMIT - min len LINE_LIMIT) bytes) h.buffered
           ∙ (ap (λ l. take LINE_LIMIT h.taken ++ l) (sym of_taken) ∙ sym (take_both h.taken (take n bytes))));
       last = ends_with_byte-part 13 h.taken bytes n returned h.last low;
     }
@@ -80,7 +80,7 @@ gathers_on first left now into len returned h k =
       consumed = subst (Consumes first now) (append-nil h.taken) (Consumes_on first left now h.taken [] h.consumed k);
       count = h.count;
       plain = h.plain;
-      kept = h.kept;
+      buffered = h.buffered;
       last = h.last;
     }
 
@@ -116,7 +116,7 @@ gathered_whole (Some xs) (Some ys) (Some zs) into len returned h k end some =
     let line : first_line xs ≡ h.taken = ap first_line whole ∙ first_line-whole h.taken h.plain in line_of xs (Some zs) len into (
       omega (arith, h.count, ap length whole),
       omega (arith, h.count, ap length line),
-      h.kept ∙ ap (take LINE_LIMIT) (sym line),
+      h.buffered ∙ ap (take LINE_LIMIT) (sym line),
       ap Some (end ∙ sym (ap (drop_through 10) whole ∙ drop_through-whole h.taken h.plain)),
     )
 
@@ -140,16 +140,16 @@ take_short m taken = elim (below_or m) [
 -- Without the last byte.
 cut_last : (into taken : Bytes) (len : ℕ) → length taken ≡ len → take (min len LINE_LIMIT) into ≡ take LINE_LIMIT taken →
     take (min (len - 1) LINE_LIMIT) into ≡ take LINE_LIMIT (take (len - 1) taken)
-cut_last into taken len count kept =
+cut_last into taken len count buffered =
     sym (take-take (min (len - 1) LINE_LIMIT) (min len LINE_LIMIT) into (omega arith))
-    ∙ (ap (take (min (len - 1) LINE_LIMIT)) kept ∙ (take-take (min (len - 1) LINE_LIMIT) LINE_LIMIT taken (omega arith) ∙ take_short (len - 1) taken))
+    ∙ (ap (take (min (len - 1) LINE_LIMIT)) buffered ∙ (take-take (min (len - 1) LINE_LIMIT) LINE_LIMIT taken (omega arith) ∙ take_short (len - 1) taken))
 
 without_return : (returned : Bool) (into taken : Bytes) (len : ℕ) → length taken ≡ len → take (min len LINE_LIMIT) into ≡ take LINE_LIMIT taken
     → ((if returned then len - 1 else len) ≡ length (if returned then take (length taken - 1) taken else taken))
     × (take (min (if returned then len - 1 else len) LINE_LIMIT) into ≡ take LINE_LIMIT (if returned then take (length taken - 1) taken else taken))
-without_return false into taken len count kept = (omega arith, kept)
-without_return true into taken len count kept =
-    (omega (arith, length-take (length taken - 1) taken), cut_last into taken len count kept ∙ ap (λ n. take LINE_LIMIT (take (n - 1) taken)) (sym count))
+without_return false into taken len count buffered = (omega arith, buffered)
+without_return true into taken len count buffered =
+    (omega (arith, length-take (length taken - 1) taken), cut_last into taken len count buffered ∙ ap (λ n. take LINE_LIMIT (take (n - 1) taken)) (sym count))
 
 -- The LF that ends the line.
 pub gathered_end : (first left now : Option Bytes) (into : Bytes) (len : ℕ) (returned : Bool) →
@@ -161,7 +161,7 @@ gathered_end (Some xs) (Some ys) None into len returned h k = absurd k
 gathered_end (Some xs) (Some ys) (Some zs) into len returned h k =
     let whole : xs ≡ h.taken ++ 10 ∷ zs = h.consumed ∙ ap (λ l. h.taken ++ l) k in
     let line : first_line xs ≡ strip_last 13 h.taken = ap first_line whole ∙ first_line-end h.taken zs h.plain in
-    let cut = without_return returned into h.taken len h.count h.kept in
+    let cut = without_return returned into h.taken len h.count h.buffered in
     let stripped : (if returned then take (length h.taken - 1) h.taken else h.taken) ≡ first_line xs =
     ap (λ b. if b then take (length h.taken - 1) h.taken else h.taken) h.last ∙ sym line in line_of xs (Some zs) (if returned then len - 1 else len) into (
       omega (arith, ap length whole, length-append h.taken (10 ∷ zs)),

@@ -1,4 +1,4 @@
--- The bytes that are kept of a part of a line.
+-- What goes into the buffer of a part of a line.
 use Rattle.std.proofs.Common.{◌≡◌, ◌≢◌, ℕ, zero, suc, ◌+◌, ◌-◌, ◌<◌, ◌≤◌, inl, inr, Bool, true, false, [], ◌∷◌, ◌++◌}
 use Rattle.std.proofs.Common.{length, take, drop, set, get_or, sym, ap, ◌∙◌, subst, arith, append_assoc}
 use Rattle.std.specs.Prelude.{◌==◌, nat_lt, not, if◌then◌else◌, slice_range, Option, Some, None}
@@ -11,7 +11,7 @@ use Rattle.std.proofs.lemmas.List.{length-take, length-drop, get_or-drop}
 use Rattle.std.proofs.lemmas.List.Sums.{fails_before_first, passes_at_first, prefix_len-le-length}
 use Rattle.std.proofs.Math.Seq.{take-add}
 use Rattle.paw_base.specs.Bytes.{Bytes}
-use Rattle.paw_stage.specs.inner.LineParts.{HasNoEnd, KeepsPart, Gathers, line_end}
+use Rattle.paw_stage.specs.inner.LineParts.{HasNoEnd, CopiesPart, Gathers, line_end}
 use Rattle.paw_stage.proofs.FirstLine.{HasNoEnd-append, HasNoEnd-push}
 use Rattle.paw_stage.proofs.Consumed.{consumes_part}
 use Rattle.paw_stage.proofs.Gathered.{gathers_part}
@@ -109,16 +109,16 @@ past_all n m le = let test : nat_lt n m ≡ false = grind (arith, le) in ap (λ 
 -- A part of the bytes read ahead is taken, and the LF after it where there is one.
 pub takes_part : (first remaining : Option Bytes) (ahead into into' : Bytes) (len n : ℕ) (returned ended : Bool) →
     ended ≡ nat_lt n (length ahead) → n ≤ length ahead → HasNoEnd (take n ahead) →
-    (n < length ahead → get_or ahead n 0 ≡ 10) → KeepsPart into into' len n ahead →
+    (n < length ahead → get_or ahead n 0 ≡ 10) → CopiesPart into into' len n ahead →
     Gathers first (prepend_known ahead remaining) into len returned →
     Gathers first (prepend_known (line_end ended) (prepend_known (drop (if ended then n + 1 else n) ahead) remaining))
     into' (len + n) (if nat_lt 0 n then get_or ahead (n - 1) 0 == 13 else returned)
-takes_part first remaining ahead into into' len n returned ended e low plain end kept h =
+takes_part first remaining ahead into into' len n returned ended e low plain end copied h =
     gathers_part first (prepend_known ahead remaining)
     (prepend_known (line_end ended) (prepend_known (drop (if ended then n + 1 else n) ahead) remaining))
     into into' ahead len n returned h
     (consumes_part remaining ahead (take n ahead) (line_end ended) (drop (if ended then n + 1 else n) ahead) (by_test ended e))
-    low plain kept
+    low plain copied
   where
     by_test : (t : Bool) → t ≡ nat_lt n (length ahead) → ahead ≡ take n ahead ++ (line_end t ++ drop (if t then n + 1 else n) ahead)
     by_test true is =

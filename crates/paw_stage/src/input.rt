@@ -7,7 +7,7 @@ ghost use Rattle.std.specs.Io.KnownBytes.{prepend_known};
 ghost use Rattle.paw_base.specs.Bytes.{Bytes};
 ghost use Rattle.paw_base.specs.declared.limits.TheConstants.{LINE_LIMIT};
 ghost use Rattle.paw_stage.specs.declared.Asked.TheVariants as asked;
-ghost use Rattle.paw_stage.specs.inner.LineParts.{Gathers, HasNoEnd, KeepsPart, line_end};
+ghost use Rattle.paw_stage.specs.inner.LineParts.{Gathers, HasNoEnd, CopiesPart, line_end};
 
 use crate::ahead::Ahead;
 use crate::{Asked, Failed};
@@ -147,7 +147,7 @@ impl<R: Read + Drop> LineReader<R> {
         ensures rest { self.new.broken ≡ self.old.broken }
     {
         let ahead = self.ahead.bytes();
-        let count = keep_line(ahead, into, begun.len);
+        let count = copy_to_line_end(ahead, into, begun.len);
         let ended = count < ahead.len();
         begun.ends_with_return = ends_with_return(ahead, count, begun.ends_with_return);
         begun.len += count as u32;
@@ -159,14 +159,14 @@ impl<R: Read + Drop> LineReader<R> {
 // Copies the bytes before the first LF, or all where there is none, to those that were taken of the line being read, as
 // far as they are among its first 255. Gives how many they are. It looks for the LF while it copies, so that most lines
 // are gone over once.
-fn keep_line(bytes: &[u8], into: &mut [u8; LINE_LIMIT], taken: u32) -> usize
+fn copy_to_line_end(bytes: &[u8], into: &mut [u8; LINE_LIMIT], taken: u32) -> usize
     ensures within { result ≤ length bytes.now }
     ensures plain { HasNoEnd (take result bytes.now) }
     ensures end { result < length bytes.now → slice_index bytes.now result ≡ 10 }
-    ensures kept { KeepsPart into.old into.new taken result bytes.now }
+    ensures copied { CopiesPart into.old into.new taken result bytes.now }
 {
-    let kept = copy_line(bytes, into, taken.min(LINE_LIMIT as u32) as usize);
-    kept + line_length(&bytes[kept..])
+    let copied = copy_line(bytes, into, taken.min(LINE_LIMIT as u32) as usize);
+    copied + line_length(&bytes[copied..])
 }
 
 // Copies bytes to an offset on, up to the first LF or as many as there is room for, and gives how many.

@@ -9,7 +9,7 @@ use Rattle.paw_stage.specs.Stage.{IsCut}
 use Rattle.paw_stage.specs.declared.Asked.{Asked}
 use Rattle.paw_stage.specs.declared.Asked.TheVariants as asked
 use Rattle.paw_stage.specs.declared.input.LineReader.{LineReader}
-use Rattle.paw_stage.specs.inner.LineParts.{bytes_kept}
+use Rattle.paw_stage.specs.inner.LineParts.{bytes_buffered}
 
 -- The bytes that are still to be taken, where they are known: those read ahead, and those that reads will give.
 abbrev pub bytes_unread : {R : Type 0} → (R → Option Bytes) → LineReader R → Option Bytes
@@ -36,7 +36,7 @@ TakesLine bytes left asked.Failed into = ⊤
 abbrev pub HasLine : Bytes → Option Bytes → ℕ → Bytes → Type 0
 HasLine bytes left len into =
     (0 < length bytes) × (len ≡ length (first_line bytes))
-    × (take (bytes_kept len) into ≡ take LINE_LIMIT (first_line bytes))
+    × (take (bytes_buffered len) into ≡ take LINE_LIMIT (first_line bytes))
     × (left ≡ Some (drop_through 10 bytes))
 
 -- What gathering a line from these bytes gives: its length. A length that is too great says only that the line is too

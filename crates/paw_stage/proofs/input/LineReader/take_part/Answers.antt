@@ -11,7 +11,7 @@ returns-clause-line g c = λ first h.
     let old = c.args.self.now in
     let begun = c.args.begun.now in
     let bytes = c.bytes-ahead.result.now in
-    let n = c.keep_line-count.result in
+    let n = c.copy_to_line_end-count.result in
     let ended : Bool = nat_lt n (length bytes) in
     let remaining = g.R.Read.remaining old.reader in
     let count : c.if-ended.take ≡ (if ended then n + 1 else n) = elim c.if-ended.branch [
@@ -22,6 +22,6 @@ returns-clause-line g c = λ first h.
     c.take.ensures.rest
     ∙ (ap (λ k. drop k old.ahead) count ∙ ap (drop (if ended then n + 1 else n)) (sym c.bytes-ahead.ensures.value)) in
     let known = subst (λ a. Gathers first (prepend_known a remaining) c.args.into.now begun.len begun.ends_with_return) (sym c.bytes-ahead.ensures.value) h in
-    let kept = c.keep_line-count.ensures in
-    rw (left, c.ends_with_return-begun.ensures.value) (takes_part first remaining bytes c.args.into.now c.keep_line-count.new.into begun.len n begun.ends_with_return ended refl kept.within
-    kept.plain kept.end kept.kept known)
+    let copying = c.copy_to_line_end-count.ensures in
+    rw (left, c.ends_with_return-begun.ensures.value) (takes_part first remaining bytes c.args.into.now c.copy_to_line_end-count.new.into begun.len n begun.ends_with_return ended refl copying.within
+    copying.plain copying.end copying.copied known)
