@@ -48,7 +48,8 @@ impl Piece {
         if bytes.len() > PIECE_LIMIT - self.text.len() {
             return false;
         }
-        // The memory was taken by `new`, so there is room for these bytes.
+        // The memory was taken by `new`, so there is room for these bytes. It is stated so that the compiler leaves out
+        // what would grow the memory.
         prove!(bytes.len() <= self.text.capacity() - self.text.len());
         self.text.extend_from_slice(bytes).unwrap();
         true

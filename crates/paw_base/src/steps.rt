@@ -34,7 +34,7 @@ const NO_STEP: StepRow = StepRow {
 pub struct Steps {
     rows: [StepRow; STEP_LIMIT],
     count: u32,
-    // How many rows are kept at most: STEP_LIMIT, or 0 where steps are only counted.
+    // How many rows are kept at most: STEP_LIMIT, or 0 where steps are only counted, because keeping them takes time.
     most: usize,
 }
 

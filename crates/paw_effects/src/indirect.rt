@@ -59,7 +59,8 @@ pub(crate) fn as_plain<T: Tables>(tables: &T, world: &World, c: Condact) -> Opti
 {
     let code = plain_code(c.code);
     if c.code < INDIRECT {
-        // The same code, which is known to be a plain one.
+        // The same code, put in again: so the compiler knows that it is a plain one, below 128, and a choice by it
+        // needs no bound of its own.
         return Some(Condact { code, ..c });
     }
     let value = world.flag(c.a);

@@ -56,7 +56,8 @@ pub trait Tables {
         ensures early { OnSome result (at < CONDACT_LIMIT) }
         ensures kept { IfSome result (λ c. IsTrue (is_condact (game self.now) c)) };
 
-    /// The cursor at a condact of an entry, whether or not there is such a condact.
+    /// The cursor at a condact of an entry, whether or not there is such a condact. Reading on from a cursor looks up
+    /// neither the table nor the entry again, as `condact` does each time.
     fn cursor(&self, table: u8, entry: u16, at: u8) -> CondactCursor
         ensures stands { stands self.now result }
         ensures table { result.table ≡ table }
@@ -81,7 +82,8 @@ pub trait Tables {
         ensures small { IfSome result (λ entry. entry < ENTRY_LIMIT) }
         ensures matching { IfSome result (λ entry. IsTrue (matches_at (game self.now) table entry verb noun)) };
 
-    /// The cursor at the first condact of the entry that `next_match` gives; None exactly where it gives none.
+    /// The cursor at the first condact of the entry that `next_match` gives; None exactly where it gives none. So the
+    /// entry that was found isn't looked up a second time.
     fn match_cursor(&self, table: u8, from: u16, verb: u8, noun: u8) -> Option<CondactCursor>
         ensures value { option_map (λ c. c.entry) result ≡ match_at (game self.now) table from verb noun }
         ensures table { IfSome result (λ c. c.table ≡ table) }

@@ -19,7 +19,7 @@ use paw_base::limits::ENTRY_LIMIT;
 use paw_game::parts::{Exits, ObjectRow, Text};
 use std::alloc::Global;
 
-/// Where the rows of each list begin.
+/// Where the rows of each list begin, so that a row is found without going over those before it.
 #[derive(Drop)]
 pub struct Offsets {
     pub system: Vec<u32>,

@@ -19,9 +19,10 @@ const VERB_COUNT: u16 = 256;
 #[derive(Drop)]
 pub struct Order {
     pub ranks: Vec<u32>,
-    /// Where the entries of each verb begin, and where those of the last one end.
+    /// Where the entries of each verb begin, and where those of the last one end: they are found without a search.
     pub starts: Vec<u16>,
-    /// For each entry up to the last that matches any verb and any noun: which of these comes next, from it on.
+    /// For each entry up to the last that matches any verb and any noun: which of these comes next, from it on. They
+    /// too are found without a search.
     pub next_any: Vec<u16>,
 }
 
@@ -209,8 +210,8 @@ fn lower(first: Option<u16>, second: Option<u16>) -> Option<u16>
     }
 }
 
-// The least entry not below `from` that has this verb in the index, and whose noun matches: the lower of those found for
-// any noun and for the noun itself.
+// The least entry not below `from` that has this verb in the index, and whose noun matches: the lower of those found
+// for any noun and for the noun itself.
 fn first_for(order: &Order, verb: u8, noun: u8, from: u16) -> Option<u16>
     requires sorted { IsSorted order.now }
     ensures least { IsLeast (IsMatch order.now.ranks.items (λ v n. (v == verb) && is_indexed_for n noun) from) result }

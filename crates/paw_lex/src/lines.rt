@@ -30,7 +30,8 @@ struct Cut {
     whole: usize,
 }
 
-// The offset of the first byte with this value, or the length where there is none.
+// The offset of the first byte with this value, or the length where there is none. It is found by `memchr`, which looks
+// at many bytes at once.
 fn offset_of_first(bytes: &[u8], byte: u8) -> usize
     ensures value { result ≡ position_or_len (λ b. b == byte) bytes.now }
     ensures within { result ≤ length bytes.now }
@@ -79,7 +80,7 @@ fn first_line(text: &[u8]) -> Option<Cut>
 #[derive(Drop)]
 pub struct Lines<'a> {
     source: &'a [u8],
-    // The offset before which the source ends.
+    // The offset before which the source ends. It is kept here so that the mark of the end is looked for once.
     end: usize,
     // The offset where the next line begins.
     at: usize,

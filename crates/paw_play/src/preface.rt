@@ -24,7 +24,8 @@ pub trait Preface: Drop {
     /// NoRoom where there is none.
     fn new(alloc: Global) -> Result<Self, NoRoom>;
 
-    /// A player at the start of a game, which keeps its steps where they are shown; elsewhere it need not keep any.
+    /// A player at the start of a game, which keeps its steps where they are shown; elsewhere it need not keep any,
+    /// because keeping them takes time.
     ///
     /// # Errors
     /// NoRoom where there is no memory for a piece.

@@ -67,7 +67,7 @@ fn not_found(refusal: JournalRefusal) -> PlayEnd
     }
 }
 
-// A player that stands where a state was kept, and only counts its steps.
+// A player that stands where a state was kept. It only counts its steps, which are shown nowhere.
 fn player_of<'a, T: Tables, F: Fn(u8, u8) -> u8>(
     alloc: Global,
     tables: &'a T,

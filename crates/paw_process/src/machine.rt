@@ -155,7 +155,8 @@ impl Machine {
             (having surroundings.new self.new) }
     {
         let reader = StoryReader { tables, routines };
-        // The innermost frame. The machine takes it back where it calls a table or waits.
+        // The innermost frame. The machine takes it back where it calls a table or waits, so that most condacts write
+        // no frame.
         let mut f = self.top();
         loop {
             match reader.read_on(self, surroundings, &mut f) {

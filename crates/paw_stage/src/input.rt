@@ -104,7 +104,8 @@ impl<R: Read + Drop> LineReader<R> {
     }
 
     // Goes on with the line that is being read, of which nothing may have been taken yet, by reading until its end
-    // comes. One read of a file gives many lines; at a terminal each comes through here, after a wait for the player.
+    // comes. It stands apart, and is cold, because one read of a file gives many lines; at a terminal each comes
+    // through here, after a wait for the player.
     #[cold]
     fn read_on(
         &mut self,

@@ -115,7 +115,7 @@ impl Places {
             None => 0,
             Some(o) => o as usize + 1,
         };
-        // No object stands in a word past that of the last one.
+        // No object stands in a word past that of the last one, so those words needn't be looked at.
         let word_count = self.count as usize / 64 + 1;
         self.sets[p as usize].least_from(from, word_count)
     }

@@ -39,7 +39,8 @@ impl ObjectSet {
         self.words[(o / 64) as usize] &= !(1 << (o % 64));
     }
 
-    /// The least member that isn't below `from`, among those in the first `word_count` words.
+    /// The least member that isn't below `from`, among those in the first `word_count` words. The other words aren't
+    /// looked at: in a game with few objects they have no member.
     pub fn least_from(&self, from: usize, word_count: usize) -> Option<u8>
         requires bound { from ≤ 256 }
         requires words { word_count ≤ 4 }

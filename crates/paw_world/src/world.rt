@@ -74,9 +74,9 @@ impl Model for World {
 }
 
 impl World {
-    // What the loop that reads condacts calls to keep or to fill a whole position isn't inlined. The sets of its places,
-    // made anew, take 8,456 bytes of the stack, and a position itself some 500, which that loop would reserve each time
-    // that it begins.
+    // What the loop that reads condacts calls to keep or to fill a whole position isn't inlined. The sets of its
+    // places, made anew, take 8,456 bytes of the stack, and a position itself some 500, which that loop would reserve
+    // each time that it begins.
 
     /// The world at the start of a game with these objects, this number of locations and this seed.
     pub fn new(facts: &[ObjectFacts], locations: u8, seed: u64) -> World
@@ -198,6 +198,7 @@ impl World {
     pub fn ramsave(&mut self)
         ensures change { self.new ≡ position_saved self.old }
     {
+        // It is filled where it stands, so that no position is made beside it and then moved.
         let saved = self.saved.get_or_insert_with(Position::empty);
         saved.put(&self.flags, self.places.all());
     }
