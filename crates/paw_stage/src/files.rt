@@ -35,8 +35,9 @@ pub fn read_file<R: Files>(
 /// comes late fails too. Where there is no room for them a file that was there stays whole. No other file is made.
 /// After any other failure the file may hold some of them.
 ///
-/// A file of more than `longest` bytes isn't written. Anything that isn't a plain file, such as a pipe or a device,
-/// takes the bytes as they come.
+/// A plain file isn't written where it would have more than `longest` bytes; one that was missing is then there, and
+/// empty. Anything that isn't a plain file, such as a pipe or a device, takes the bytes as they come. It is synced where
+/// it has such a call, and its folder isn't.
 pub fn write_file<R: Files + Alloc>(
     rt: &R,
     name: &str,
@@ -49,7 +50,7 @@ pub fn write_file<R: Files + Alloc>(
     let before = file.metadata().map_err(|_| Failed)?;
     if !before.is_file() {
         write_whole(&mut file, bytes)?;
-        return file.sync_all().map_err(|_| Failed);
+        return unless_no_such_call(file.sync_all()).map_err(|_| Failed);
     }
     if bytes.len() as u64 > longest {
         return Err(Failed);
@@ -102,13 +103,19 @@ pub fn sync_folder<R: Files + Alloc>(rt: &R, name: &str) -> io::Result<()> {
 
 // Opens a folder, and syncs it.
 fn sync_open<R: Files>(rt: &R, folder: Path<'_>) -> io::Result<()> {
-    match fs::open(rt, folder)?.sync_all() {
+    unless_no_such_call(fs::open(rt, folder)?.sync_all())
+}
+
+// The outcome of a call, where what was called on has such a call; otherwise nothing more can be done, and that passes.
+fn unless_no_such_call(outcome: io::Result<()>) -> io::Result<()> {
+    match outcome {
         Err(e) if has_no_such_call(&e) => Ok(()),
-        synced => synced,
+        outcome => outcome,
     }
 }
 
-/// Whether an error says that the file system doesn't have the call, rather than that the call failed.
+/// Whether an error says that there is no such call (of a file system, a pipe or a device), rather than that the call
+/// failed.
 pub fn has_no_such_call(error: &io::Error) -> bool {
     matches!(
         error.kind(),
