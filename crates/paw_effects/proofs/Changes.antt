@@ -30,7 +30,7 @@ use Rattle.paw_game.proofs.ValidGames.{exit-leads}
 use Rattle.paw_game.proofs.Right.{right-first, right-second}
 use Rattle.paw_world.specs.World.{World, Position, is_somewhere, flag, with_flag, place, object_moved}
 use Rattle.paw_world.specs.World.{at_position}
-use Rattle.paw_world.specs.World.{drawn_on, position_of, keeping, kept_position}
+use Rattle.paw_world.specs.World.{drawn_on, position_of, position_kept, kept_position}
 use Rattle.paw_world.specs.Draws.{random_word}
 use Rattle.paw_routines.specs.Answers.{value_in}
 use Rattle.paw_world.specs.Weight.{weight, carried_weight, objects_at}
@@ -136,8 +136,8 @@ module _ (g : GameLists) (v : Valid g) (seed : Seed) (n : ℕ) where
     | inr past ↦ subst (MayBePosition g) (sym (get_or_past w.kept m None past)) tt
   ]
 
-  pub keeping_so : (w : World) → Is w → (m : ℕ) → Is (keeping w m)
-  keeping_so w k m = record {
+  pub position_kept_so : (w : World) → Is w → (m : ℕ) → Is (position_kept w m)
+  position_kept_so w k m = record {
     of = record { facts = k.of.facts; locations = k.of.locations; flags = k.of.flags; places = k.of.places };
     places = k.places;
     flags = k.flags;

@@ -27,7 +27,7 @@ use Rattle.paw_game.proofs.ValidGames.{first_of_and, facts-start}
 use Rattle.paw_game.proofs.Right.{right-first, right-second}
 use Rattle.paw_world.specs.World.{World, Position, flag, with_flag, place, with_place, here, let_go, taken_up, object_moved}
 use Rattle.paw_world.specs.World.{opening_places}
-use Rattle.paw_world.specs.World.{starting_world, world_restarted, with_objects_returned, at_position, position_of, keeping}
+use Rattle.paw_world.specs.World.{starting_world, world_restarted, with_objects_returned, at_position, position_of, position_kept}
 use Rattle.paw_world.specs.World.{kept_position}
 use Rattle.paw_effects.specs.declared.object_actions.Action.{Action}
 use Rattle.paw_effects.specs.declared.object_actions.Action.TheVariants as action
@@ -271,7 +271,7 @@ kept_stands g w n k =
       | inr past ↦ subst (λ q. StandsIn g q) (sym (get_or_past w.kept n None past)) tt
     ]
 
-pub saved_placed : (g : GameLists) (w : World) → IsPlaced g w → IsPlaced g (keeping w (position_number w))
+pub saved_placed : (g : GameLists) (w : World) → IsPlaced g w → IsPlaced g (position_kept w (position_number w))
 saved_placed g w k =
     (k.0, (k.1.0, (k.1.1.0, (k.1.1.1.0, All-set (StandsIn g) w.kept (position_number w) (Some (position_of w)) k.1.1.0 k.1.1.1.1))))
 

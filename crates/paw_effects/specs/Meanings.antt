@@ -16,7 +16,7 @@ use Rattle.paw_game.specs.Game.{GameLists}
 use Rattle.paw_routines.specs.Answers.{value_at}
 use Rattle.paw_world.specs.World.{World, flag, with_flag, place, object_moved, here, is_present, drawn_on}
 use Rattle.paw_world.specs.World.{position_saved, saved_position_loaded}
-use Rattle.paw_world.specs.World.{keeping, kept_position}
+use Rattle.paw_world.specs.World.{position_kept, kept_position}
 use Rattle.paw_world.specs.Weight.{weight, carried_weight}
 use Rattle.paw_effects.specs.declared.act.Truth.TheVariants as truth
 use Rattle.paw_effects.specs.declared.act.Prompt.TheVariants as prompt
@@ -104,7 +104,7 @@ meanings =
     doing (λ g w c. leads w (effect.Exit false)) ∷  -- NOTDONE
     doing (λ g w c. prints_then w (say_text g w OK_MESSAGE) (effect.Exit true)) ∷  -- OK
     doing (λ g w c. prints_then w (put_text g w KEY_MESSAGE) (effect.Ask prompt.Key)) ∷  -- ANYKEY
-    doing (λ g w c. leads (keeping w (position_number w)) effect.Redescribe) ∷  -- SAVE
+    doing (λ g w c. leads (position_kept w (position_number w)) effect.Redescribe) ∷  -- SAVE
     doing (λ g w c. position_loaded g w (kept_position w (position_number w))) ∷  -- LOAD
     changing (λ w c. position_saved w) ∷  -- RAMSAVE
     changing (λ w c. saved_position_loaded w c.a) ∷  -- RAMLOAD

@@ -6,7 +6,7 @@ ghost use Rattle.paw_game.specs.Game.{GameLists};
 ghost use Rattle.paw_effects.specs.Worlds.{IsOf};
 ghost use Rattle.paw_effects.specs.inner.Done.{Does};
 ghost use Rattle.paw_effects.specs.Positions.{position_loaded, position_number};
-ghost use Rattle.paw_world.specs.World.{keeping, kept_position};
+ghost use Rattle.paw_world.specs.World.{position_kept, kept_position};
 
 use crate::act::{Act, Effect, after, plain_act};
 use crate::text::{print_nothing, say};
@@ -51,7 +51,7 @@ fn load_position<T: Tables>(tables: &T, world: &mut World, piece: &mut Piece, n:
 
 /// Keeps flags and places as the position that is meant.
 pub(crate) fn save(world: &mut World)
-    ensures value { world.new ≡ keeping world.old (position_number world.old) }
+    ensures value { world.new ≡ position_kept world.old (position_number world.old) }
     ensures game { (g : GameLists) → IsOf g world.old → IsOf g world.new }
     ensures draws { world.new.draws ≡ world.old.draws }
 {

@@ -17,7 +17,7 @@ use Rattle.paw_world.specs.World.{World, Position, flag, with_flag, place, with_
 use Rattle.paw_world.specs.World.{opening_places}
 use Rattle.paw_world.specs.World.{with_objects_returned, starting_world, world_restarted, let_go, taken_up, object_moved, position_saved}
 use Rattle.paw_world.specs.World.{saved_position_loaded, at_position}
-use Rattle.paw_world.specs.World.{drawn_on, position_of, kept_position, keeping, IsPosition, IsSavedFor, AreSavedFor}
+use Rattle.paw_world.specs.World.{drawn_on, position_of, kept_position, position_kept, IsPosition, IsSavedFor, AreSavedFor}
 use Rattle.paw_world.specs.World.{IsWorld}
 use Rattle.paw_world.specs.inner.World.{taken_back, kept_position_loaded, with_kept}
 use Rattle.paw_world.proofs.Kept.{kept_with, kept_alike, none_kept}
@@ -98,8 +98,8 @@ IsWorld-with_kept w n q alike sound = record {
   kept = kept_with (length w.places) w.kept n q alike sound.kept;
 }
 
-pub IsWorld-keeping : (w : World) (n : ℕ) → IsWorld w → IsWorld (keeping w n)
-IsWorld-keeping w n sound = IsWorld-with_kept w n (position_of w) (record { flags = sound.flags; places = refl }) sound
+pub IsWorld-position_kept : (w : World) (n : ℕ) → IsWorld w → IsWorld (position_kept w n)
+IsWorld-position_kept w n sound = IsWorld-with_kept w n (position_of w) (record { flags = sound.flags; places = refl }) sound
 
 placed : (w : World) (kept : Option Position) → IsSavedFor (length w.places) kept → IsWorld w → IsWorld (option_map_or (taken_back w) kept w)
 placed w None alike sound = sound

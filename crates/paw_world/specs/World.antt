@@ -158,8 +158,8 @@ abbrev pub kept_position : World → ℕ → Option Position
 kept_position w n = slice_index_or w.kept n None
 
 -- The world with its flags and places as the kept position with this number.
-abbrev pub keeping : World → ℕ → World
-keeping w n = record w { kept = slice_set w.kept n (Some (position_of w)) }
+abbrev pub position_kept : World → ℕ → World
+position_kept w n = record w { kept = slice_set w.kept n (Some (position_of w)) }
 
 -- The world after n more random words were drawn.
 abbrev pub drawn_on : World → ℕ → World
