@@ -62,7 +62,7 @@ VerbLeftBy code (Acts done) = (n : ℕ) (s : Story) (w : World) (c : Condact) �
     → IsWorldOf s.game w → HasVerb n w → LeavesVerb n (done s w c)
 
 pub record VerbLeft (code : ℕ) (m : Meaning) : Type 0 where
-  pub kept : VerbLeftBy code m
+  pub leaves : VerbLeftBy code m
 
 -- ---- where reading goes on ----
 
@@ -118,25 +118,25 @@ prints why = record { within = why }
 
 -- The world stays as it is.
 pub still : {code : ℕ} {text : Given Text} {act : Given Act} → VerbLeft code (action text (λ s w c. w) act)
-still = record { kept = λ n s w c is spares of k. inl k }
+still = record { leaves = λ n s w c is spares of k. inl k }
 
 -- The verb is left for this reason.
 pub verb_left : {code : ℕ} {done : Given Done} → VerbLeftBy code (Acts done) → VerbLeft code (Acts done)
-verb_left why = record { kept = why }
+verb_left why = record { leaves = why }
 
 -- An object is moved.
 pub moving : {code : ℕ} (o p : World → Condact → ℕ) → VerbLeft code (changing (λ w c. object_moved w (o w c) (p w c)))
-moving o p = record { kept = λ n s w c is spares of k. inl (moved_has n w (o w c) (p w c) k) }
+moving o p = record { leaves = λ n s w c is spares of k. inl (moved_has n w (o w c) (p w c) k) }
 
 -- This flag is given a value, or these two flags.
 pub set : {code f : ℕ} {x : World → Condact → ℕ} → (f == VERB_FLAG) ≡ false
     → VerbLeft code (changing (λ w c. with_flag w f (x w c)))
-set {f = f} {x = x} other = record { kept = λ n s w c is spares of k. inl (other_has n w f (x w c) other k) }
+set {f = f} {x = x} other = record { leaves = λ n s w c is spares of k. inl (other_has n w f (x w c) other k) }
 
 pub set_two : {code f h : ℕ} → (f == VERB_FLAG) ≡ false → (h == VERB_FLAG) ≡ false
     → VerbLeft code (changing (λ w c. with_flag (with_flag w f c.a) h c.b))
 set_two {f = f} {h = h} other another = record {
-  kept = λ n s w c is spares of k.
+  leaves = λ n s w c is spares of k.
       inl (other_has n (with_flag w f c.a) h c.b another (other_has n w f c.a other k));
 }
 
@@ -148,14 +148,14 @@ writes_one codes code c among is = subst (λ x. is_among codes x ≡ true) (sym 
 pub set_first : {code : ℕ} {x : World → Condact → ℕ} → is_among writes_first code ≡ true
     → VerbLeft code (changing (λ w c. with_flag w c.a (x w c)))
 set_first {code} {x} among = record {
-  kept = λ n s w c is spares of k.
+  leaves = λ n s w c is spares of k.
       inl (other_has n w c.a (x w c) (spares.first (writes_one writes_first code c among is)) k);
 }
 
 pub set_second : {code : ℕ} {x : World → Condact → ℕ} → is_among writes_second code ≡ true
     → VerbLeft code (changing (λ w c. with_flag w c.b (x w c)))
 set_second {code} {x} among = record {
-  kept = λ n s w c is spares of k.
+  leaves = λ n s w c is spares of k.
       inl (other_has n w c.b (x w c) (spares.second (writes_one writes_second code c among is)) k);
 }
 
@@ -217,7 +217,7 @@ module _ (code : ℕ) (g : GameLists) (w : World) where
 -- A condition, by why it leaves the verb.
 pub condition : {code : ℕ} {most : Most} {test : GameLists → World → Condact → Tested} → VerbLeftBy code (Tests test)
     → Facts code most (Tests test)
-condition why = row (record { within = tt {0} }) (record { kept = why }) (record { led = tt {0} })
+condition why = row (record { within = tt {0} }) (record { leaves = why }) (record { led = tt {0} })
 
 -- One that changes nothing.
 pub tested : (most : Most) (code : ℕ) (so : World → Condact → Bool) → Facts code most (tests so)

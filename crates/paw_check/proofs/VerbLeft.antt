@@ -31,12 +31,12 @@ tested_has n (Acts done) g w c kept spares k = k
 plain_leaves : (n : ℕ) (s : Story) (w : World) (c : Condact) → SparesVerb c → IsWorldOf s.game w → HasVerb n w
     → LeavesVerb n (plain_effect s w c)
 unfolding plain_effect
-plain_leaves n s w c = done_leaves n (meaning_of c.code) s w c (facts c.code).verb.kept
+plain_leaves n s w c = done_leaves n (meaning_of c.code) s w c (facts c.code).verb.leaves
 
 plain_has : (n : ℕ) (g : GameLists) (w : World) (c : Condact) → SparesVerb c → HasVerb n w
     → HasVerb n (plain_holds g w c).world
 unfolding plain_holds
-plain_has n g w c = tested_has n (meaning_of c.code) g w c (facts c.code).verb.kept
+plain_has n g w c = tested_has n (meaning_of c.code) g w c (facts c.code).verb.leaves
 
 -- ---- each condact ----
 

@@ -49,14 +49,14 @@ use Rattle.paw_effects.proofs.Placed.{answered_placed, moves_placed, done_placed
 use Rattle.paw_effects.proofs.Worlds.{IsPlace, argument_small, world_of, flag_small, flagged, place_of, place_is_small}
 use Rattle.paw_effects.proofs.Worlds.{here_place as here_so}
 use Rattle.paw_effects.proofs.Worlds.{named, moved_so, weight_small, returned_so}
-use Rattle.paw_effects.proofs.Changes.{Is, IsNext, SoBy, Puts, next, loaded_so, saved_so, drawn_so, kept_at, keeping_so}
+use Rattle.paw_effects.proofs.Changes.{Is, IsNext, SoBy, Puts, next, loaded_so, saved_so, drawn_so, kept_at, position_kept_so}
 use Rattle.paw_effects.proofs.Changes.{back_so, rolled_small}
 use Rattle.paw_effects.proofs.Changes.{flag_so, flags_so, carried_small, all_so, place_is, puto_is, autop_is, putin_is}
 use Rattle.paw_effects.proofs.Changes.{not_created as not_created_so}
 use Rattle.paw_effects.proofs.Changes.{names, to, if_so, acted_so, meant_so, first_small, value_small, answered_so}
 use Rattle.paw_effects.proofs.Changes.{named_so, swapped_so, less_small}
 use Rattle.paw_effects.proofs.Changes.{moves_so, done_so, tested_so}
-use Rattle.paw_effects.proofs.Saving.{AreKept, KeepsBy, one_kept, moved_kept, dropped_kept, acted_kept, found_kept}
+use Rattle.paw_effects.proofs.Saving.{AreKept, LeavesKept, one_kept, moved_kept, dropped_kept, acted_kept, found_kept}
 use Rattle.paw_effects.proofs.Saving.{referred_found as kept_found}
 use Rattle.paw_effects.proofs.Saving.{ramloaded_kept, loaded_kept, answered_kept, moves_kept, done_kept, tested_kept}
 
@@ -65,7 +65,7 @@ record Facts (code : ℕ) (m : Meaning) : Type 0 where
   leads : LeadsOn code m
   places : PlacesBy code m
   stays : (g : GameLists) (v : Valid g) (seed : Seed) (n : ℕ) → SoBy g v seed n code m
-  keeps : (ks : List (Option Position)) → KeepsBy ks code m
+  kept : (ks : List (Option Position)) → LeavesKept ks code m
 
 -- ---- kinds of rows ----
 
@@ -75,7 +75,7 @@ tested code so = record {
   leads = λ g w c is h. absurd (truth_told _ h);
   places = λ g w c k. k;
   stays = λ g v seed n w c k. next g v seed n w k;
-  keeps = λ ks g w c k. k;
+  kept = λ ks g w c k. k;
 }
 
 -- A condition that makes a draw.
@@ -84,7 +84,7 @@ chance code so = record {
   leads = λ g w c is h. absurd (truth_told _ h);
   places = λ g w c k. k;
   stays = λ g v seed n w c k. drawn_so g v seed n w k;
-  keeps = λ ks g w c k. k;
+  kept = λ ks g w c k. k;
 }
 
 -- An action that changes nothing.
@@ -95,7 +95,7 @@ still code text act leads = record {
   leads = leads;
   places = λ s w c is v r k. k;
   stays = λ g v seed n X w c is bytes k kept a b. next g v seed n w k;
-  keeps = λ ks s w c is o k. k;
+  kept = λ ks s w c is o k. k;
 }
 
 -- An action that prints.
@@ -110,7 +110,7 @@ set code f x small = record {
   leads = λ s w c is. tt;
   places = λ s w c is v r k. k;
   stays = λ g v seed n X w c is bytes k kept a b. flag_so g v seed n w k (f w c) (x w c) (small g v seed n w c k a b);
-  keeps = λ ks s w c is o k. k;
+  kept = λ ks s w c is o k. k;
 }
 
 -- An action that gives two flags its numbers.
@@ -119,7 +119,7 @@ set_two code f h = record {
   leads = λ s w c is. tt;
   places = λ s w c is v r k. k;
   stays = λ g v seed n X w c is bytes k kept a b. flags_so g v seed n w k f c.a h c.b a b;
-  keeps = λ ks s w c is o k. k;
+  kept = λ ks s w c is o k. k;
 }
 
 -- An action that moves an object to a place.
@@ -133,7 +133,7 @@ moving code o p at stands = record {
   leads = λ s w c is. tt;
   places = λ s w c is v r k. moved_placed s.game w (o w c) (p w c) (at s.game w c is v r k) k;
   stays = λ g v seed n X w c is bytes k kept a b. to g v seed n w k (o w c) (p w c) (stands g v seed n w c is k kept);
-  keeps = λ ks s w c is o_is k. moved_kept ks w (o w c) (p w c) k;
+  kept = λ ks s w c is o_is k. moved_kept ks w (o w c) (p w c) k;
 }
 
 -- An action on the object that it names.
@@ -144,7 +144,7 @@ on_object code a goes puts = record {
   leads = λ s w c is. acted_leads s.game w c c.a (a c);
   places = λ s w c is v r k. acted_placed s.game w c.a (a c) (goes s.game c is r) k;
   stays = λ g v seed n X w c is bytes k kept small b. next g v seed n _ (acted_so g v seed n w k c.a (a c) small (puts g v seed n c is kept));
-  keeps = λ ks s w c is o k. acted_kept ks s.game w c.a (a c) k;
+  kept = λ ks s w c is o k. acted_kept ks s.game w c.a (a c) k;
 }
 
 -- An action on the object that the sentence names.
@@ -155,7 +155,7 @@ by_name code a goes puts = record {
   leads = λ s w c is. named_leads s.game w c (a c);
   places = λ s w c is v r k. found_placed s.game w (a c) (first_fitting w (looks_at (a c))) (goes s.game c is r) k;
   stays = λ g v seed n X w c is bytes k kept small b. named_so g v seed n w k (a c) (puts g v seed n c is kept);
-  keeps = λ ks s w c is o k. found_kept ks s.game w (a c) (first_fitting w (looks_at (a c))) k;
+  kept = λ ks s w c is o k. found_kept ks s.game w (a c) (first_fitting w (looks_at (a c))) k;
 }
 
 -- ---- each row ----
@@ -194,13 +194,13 @@ each_row =
       leads = λ g w c is h. is;
       places = λ g w c k. k;
       stays = λ g v seed n w c k. next g v seed n w k;
-      keeps = λ ks g w c k. k;
+      kept = λ ks g w c k. k;
     }) &  -- QUIT
     (record {
       leads = λ g w c is h. absurd (move_told w c.a _ h);
       places = λ g w c k. moves_placed g w c.a _ k;
       stays = λ g v seed n w c k. next g v seed n _ (moves_so g v seed n w k c.a (exit_at g (flag w c.a) (flag w VERB_FLAG)) refl);
-      keeps = λ ks g w c k. moves_kept ks w c.a _ k;
+      kept = λ ks g w c k. moves_kept ks w c.a _ k;
     }) &  -- MOVE
     printed _ _ &  -- INVEN
     still _ _ _ (λ s w c is. tt) &  -- DESC
@@ -212,27 +212,27 @@ each_row =
     (record {
       leads = λ s w c is. tt;
       places = λ s w c is v r k. saved_placed s.game w k;
-      stays = λ g v seed n X w c is bytes k kept a b. next g v seed n _ (keeping_so g v seed n w k (position_number w));
-      keeps = λ ks s w c is o k. absurd (o refl);
+      stays = λ g v seed n X w c is bytes k kept a b. next g v seed n _ (position_kept_so g v seed n w k (position_number w));
+      kept = λ ks s w c is o k. absurd (o refl);
     }) &  -- SAVE
     (record {
       leads = λ s w c is. loaded_leads s.game w c (kept_position w (position_number w));
       places = λ s w c is v r k. taken_placed s.game w (kept_position w (position_number w)) (kept_stands s.game w (position_number w) k) k;
       stays = λ g v seed n X w c is bytes k kept a b.
           next g v seed n _ (back_so g v seed n w k (kept_position w (position_number w)) (kept_at g v seed n w k (position_number w)));
-      keeps = λ ks s w c is o k. loaded_kept ks s.game w (kept_position w (position_number w)) k;
+      kept = λ ks s w c is o k. loaded_kept ks s.game w (kept_position w (position_number w)) k;
     }) &  -- LOAD
     (record {
       leads = λ s w c is. tt;
       places = λ s w c is v r k. (k.0, (k.1.0, (k.1.1.0, (k.1.1.0, k.1.1.1.1))));
       stays = λ g v seed n X w c is bytes k kept a b. next g v seed n _ (saved_so g v seed n w k);
-      keeps = λ ks s w c is o k. k;
+      kept = λ ks s w c is o k. k;
     }) &  -- RAMSAVE
     (record {
       leads = λ s w c is. tt;
       places = λ s w c is v r k. loaded_placed s.game w c.a w.saved refl k;
       stays = λ g v seed n X w c is bytes k kept a b. next g v seed n _ (loaded_so g v seed n w c.a w.saved k.saved k);
-      keeps = λ ks s w c is o k. ramloaded_kept ks w c.a w.saved k;
+      kept = λ ks s w c is o k. ramloaded_kept ks w c.a w.saved k;
     }) &  -- RAMLOAD
     printed _ _ &  -- TURNS
     printed _ _ &  -- SCORE
@@ -240,7 +240,7 @@ each_row =
       leads = λ s w c is. tt;
       places = λ s w c is v r k. dropped s.game (here w) (held_objects w) w (here_place s.game w k.1.0) k;
       stays = λ g v seed n X w c is bytes k kept a b. next g v seed n _ (all_so g v seed n (here w) (here_so g v seed n w k) (held_objects w) w k);
-      keeps = λ ks s w c is o k. dropped_kept ks (here w) (held_objects w) w k;
+      kept = λ ks s w c is o k. dropped_kept ks (here w) (held_objects w) w k;
     }) &  -- DROPALL
     by_name _ (λ c. action.Get) (λ g c is r. record { to = tt {0} }) (λ g v seed n c is kept. record { at = tt {0} }) &  -- AUTOG
     by_name _ (λ c. action.Drop) (λ g c is r. record { to = tt {0} }) (λ g v seed n c is kept. record { at = tt {0} }) &  -- AUTOD
@@ -268,7 +268,7 @@ each_row =
       leads = λ s w c is. tt;
       places = λ s w c is v r k. swapped_placed s.game v w c.a c.b k;
       stays = λ g v seed n X w c is bytes k kept a b. swapped_so g v seed n w k c.a c.b;
-      keeps = λ ks s w c is o k. moved_kept ks (object_moved w c.a (place w c.b)) c.b (place w c.a) (moved_kept ks w c.a (place w c.b) k);
+      kept = λ ks s w c is o k. moved_kept ks (object_moved w c.a (place w c.b)) c.b (place w c.a) (moved_kept ks w c.a (place w c.b) k);
     }) &  -- SWAP
     moving _ _ _ (λ g w c is v r k. named_is_place g w c.b k.1.0 (second_follows g c PLACE kind.Place place_takes is r))
     (λ g v seed n w c is k kept. named g v seed n w k c.b (place_is g v seed n c is kept)) &  -- PLACE
@@ -277,7 +277,7 @@ each_row =
       places = λ s w c is v r k. to_placed s.game w _ (named_is_place s.game w c.a k.1.0 (first_follows s.game c PUTO kind.Place puto_takes is r)) k;
       stays = λ g v seed n X w c is bytes k kept a b. next g v seed n _
           (world_of g v seed n _ _ w (moved_so g v seed n w k (flag w REFERRED_FLAG) _ (named g v seed n w k c.a (puto_is g v seed n c is kept))) k);
-      keeps = λ ks s w c is o k. one_kept ks _ _ w (moved_kept ks w (flag w REFERRED_FLAG) (named_place w c.a) k) k;
+      kept = λ ks s w c is o k. one_kept ks _ _ w (moved_kept ks w (flag w REFERRED_FLAG) (named_place w c.a) k) k;
     }) &  -- PUTO
     set _ _ _ (λ g v seed n w c k a b. omega arith) &  -- SET
     set _ _ _ (λ g v seed n w c k a b. omega arith) &  -- CLEAR
@@ -291,7 +291,7 @@ each_row =
       places = λ s w c is v r k. k;
       stays = λ g v seed n X w c is bytes k kept a b.
           flagged g v seed (suc n) (drawn_on w 1) (drawn_so g v seed n w k) c.a (percent_drawn w) (rolled_small g v seed n w);
-      keeps = λ ks s w c is o k. k;
+      kept = λ ks s w c is o k. k;
     }) &  -- RANDOM
     moving _ _ _ (λ g w c is v r k. at_place g v w.places c.a k.1.1.0)
     (λ g v seed n w c is k kept. place_of g v seed n w k c.a) &  -- COPYOO
@@ -301,7 +301,7 @@ each_row =
       places = λ s w c is v r k. if_place s.game w c.b (flag w c.a) k;
       stays = λ g v seed n X w c is bytes k kept a b. if_so g v seed n (names_place w (flag w c.a)) _ w
           (λ own. to g v seed n w k c.b _ (names g v seed n w k (flag w c.a) own)) (next g v seed n w k);
-      keeps = λ ks s w c is o k. one_kept ks (names_place w (flag w c.a)) _ w (moved_kept ks w c.b (named_place w (flag w c.a)) k) k;
+      kept = λ ks s w c is o k. one_kept ks (names_place w (flag w c.a)) _ w (moved_kept ks w c.b (named_place w (flag w c.a)) k) k;
     }) &  -- COPYFO
     set _ _ _ (λ g v seed n w c k a b. flag_small g v seed n w k c.a) &  -- COPYFF
     printed _ _ &  -- LISTOBJ
@@ -311,7 +311,7 @@ each_row =
       places = λ s w c is v r k. referred_found s.game w _ k;
       stays = λ g v seed n X w c is bytes k kept a b. next g v seed n _
           (meant_so g v seed n w k (first_fitting w (looks_at action.Drop)) (first_small g v seed n w k (looks_at action.Drop)));
-      keeps = λ ks s w c is o k. kept_found ks w _ k;
+      kept = λ ks s w c is o k. kept_found ks w _ k;
     }) &  -- WHATO
     set _ _ _ (λ g v seed n w c k a b. weight_small g v seed n w k c.a) &  -- WEIGH
     set _ _ _ (λ g v seed n w c k a b. carried_small g v seed n w) &  -- WEIGHT
@@ -327,7 +327,7 @@ each_row =
       places = λ s w c is v r k. returned_placed s.game w v k;
       stays = λ g v seed n X w c is bytes k kept a b.
           next g v seed n _ (flagged g v seed n (with_objects_returned w) (returned_so g v seed n w k) LOCATION_FLAG c.a a);
-      keeps = λ ks s w c is o k. k;
+      kept = λ ks s w c is o k. k;
     }) &  -- RESET
     (record {
       leads = λ s w c is. tt;
@@ -335,7 +335,7 @@ each_row =
       stays = λ g v seed n X w c is bytes k kept a b. next g v seed n _
           (answered_so g v seed n w k c.b (value_at X c.a (flag w c.b))
           (λ y at. value_small g v seed n X bytes c.a (flag w c.b) y (slice_get X c.a) refl at));
-      keeps = λ ks s w c is o k. answered_kept ks w c.b (value_at s.answers c.a (flag w c.b)) k;
+      kept = λ ks s w c is o k. answered_kept ks w c.b (value_at s.answers c.a (flag w c.b)) k;
     }) &  -- EXTERN
     printed _ _ &  -- PICTURE
     printed _ _ &  -- GRAPHIC
@@ -379,11 +379,11 @@ module _ (w : World) (c : Condact) where
 
   plain_kept : (ks : List (Option Position)) (s : Story) → c.code ≢ SAVE → AreKept ks w → AreKept ks (plain_effect s w c).world
   unfolding plain_effect
-  plain_kept ks s = done_kept ks (meaning_of c.code) s w c ((facts c.code).keeps ks)
+  plain_kept ks s = done_kept ks (meaning_of c.code) s w c ((facts c.code).kept ks)
 
   plain_test_kept : (ks : List (Option Position)) (g : GameLists) → AreKept ks w → AreKept ks (plain_holds g w c).world
   unfolding plain_holds
-  plain_test_kept ks g = tested_kept ks (meaning_of c.code) g w c ((facts c.code).keeps ks)
+  plain_test_kept ks g = tested_kept ks (meaning_of c.code) g w c ((facts c.code).kept ks)
 
   module _ (g : GameLists) (v : Valid g) (seed : Seed) (n : ℕ) (k : Is g v seed n w) where
     plain_so : (X : RoutineAnswers) → All AreBytes X → is_right g c ≡ true → IsNext g v seed n (plain_effect (story_of g X) w c).world

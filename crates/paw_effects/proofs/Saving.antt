@@ -96,14 +96,14 @@ module _ (ks : List (Option Position)) where
   -- ---- each row ----
 
   -- A condition, and an action of a code that isn't SAVE, leave these positions.
-  abbrev pub KeepsBy : ℕ → Meaning → Type 0
-  KeepsBy code (Tests tested) = (g : GameLists) (w : World) (c : Condact) → AreKept w → AreKept (tested g w c).world
-  KeepsBy code (Acts done) = (s : Story) (w : World) (c : Condact) → c.code ≡ code → code ≢ SAVE → AreKept w → AreKept (done s w c).world
+  abbrev pub LeavesKept : ℕ → Meaning → Type 0
+  LeavesKept code (Tests tested) = (g : GameLists) (w : World) (c : Condact) → AreKept w → AreKept (tested g w c).world
+  LeavesKept code (Acts done) = (s : Story) (w : World) (c : Condact) → c.code ≡ code → code ≢ SAVE → AreKept w → AreKept (done s w c).world
 
-  pub done_kept : (m : Meaning) (s : Story) (w : World) (c : Condact) → KeepsBy c.code m → c.code ≢ SAVE → AreKept w → AreKept (done_by m s w c).world
+  pub done_kept : (m : Meaning) (s : Story) (w : World) (c : Condact) → LeavesKept c.code m → c.code ≢ SAVE → AreKept w → AreKept (done_by m s w c).world
   done_kept (Tests tested) s w c h other k = k
   done_kept (Acts done) s w c h other k = h s w c refl other k
 
-  pub tested_kept : (m : Meaning) (g : GameLists) (w : World) (c : Condact) → KeepsBy c.code m → AreKept w → AreKept (tested_by m g w c).world
+  pub tested_kept : (m : Meaning) (g : GameLists) (w : World) (c : Condact) → LeavesKept c.code m → AreKept w → AreKept (tested_by m g w c).world
   tested_kept (Tests tested) g w c h k = h g w c k
   tested_kept (Acts done) g w c h k = k

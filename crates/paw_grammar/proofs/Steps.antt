@@ -51,10 +51,10 @@ follows_by rule n m e =
 -- A value in range was read, and follows the rule.
 pub record Ranged (rule : ℕ → Bool) (r : Reads ℕ) (x : ℕ × Tokens) : Type 0 where
   pub is : r ≡ Ok x
-  pub keeps : rule x.0 ≡ true
+  pub right : rule x.0 ≡ true
 
 pub ranged : (rule : ℕ → Bool) (r : Reads ℕ) (x : ℕ × Tokens) → (r >>= in_range rule) ≡ Ok x → Ranged rule r x
 ranged rule r x e =
     let b = bound r (in_range rule) x e in
     let two = follows_by rule b.value x b.goes_on in
-    record { is = b.is ∙ ap Ok two.0; keeps = ap (λ (n : ℕ × Tokens). rule n.0) (sym two.0) ∙ two.1 }
+    record { is = b.is ∙ ap Ok two.0; right = ap (λ (n : ℕ × Tokens). rule n.0) (sym two.0) ∙ two.1 }

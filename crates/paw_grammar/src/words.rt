@@ -42,8 +42,8 @@ fn letters_of(token: &[u8]) -> [u8; WORD_LENGTH]
     ensures value { result ≡ letters_of token.now }
 {
     let mut letters = [b' '; WORD_LENGTH];
-    let kept = token.len().min(WORD_LENGTH);
-    letters[..kept].copy_from_slice(&token[..kept]);
+    let len = token.len().min(WORD_LENGTH);
+    letters[..len].copy_from_slice(&token[..len]);
     letters.make_ascii_uppercase();
     letters
 }
