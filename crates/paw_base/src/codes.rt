@@ -111,7 +111,7 @@ pub const OK: u8 = 34;
 /// ANYKEY: asks for a key, and waits for a line.
 pub const ANYKEY: u8 = 35;
 
-/// SAVE: saves flags and places in a numbered position, then describes the location.
+/// SAVE: keeps flags and places as a numbered position, then describes the location.
 pub const SAVE: u8 = 36;
 
 /// LOAD: brings flags and places back from a numbered position, then describes the location.

@@ -1,4 +1,4 @@
-// The system messages that a game prints of itself, by what they say.
+// The system messages that a game prints by itself, by what they say.
 
 /// It is dark.
 pub const DARK_MESSAGE: u8 = 0;

@@ -266,7 +266,7 @@ pub fn condact_named(name: &[u8]) -> Option<u8>
     Some(code as u8)
 }
 
-// The index in the table of the condact with this name, in any case of letters.
+// The code of the condact with this name, in any case of letters.
 fn code_of(name: &[u8]) -> Option<usize>
     ensures value { result ≡ code_named name.now }
 {
@@ -274,7 +274,7 @@ fn code_of(name: &[u8]) -> Option<usize>
     index_of_name(wanted)
 }
 
-// The code of the condact with this name in capitals, filled up with spaces.
+// The index in the table of the condact with this name in capitals, filled up with spaces.
 fn index_of_name(name: [u8; 8]) -> Option<usize>
     ensures value { result ≡ position (λ row. bytes_eq row.0 name) CONDACTS }
 {

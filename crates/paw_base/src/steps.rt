@@ -29,7 +29,7 @@ const NO_STEP: StepRow = StepRow {
 };
 
 /// The condacts that were read for a piece: how many there were, and the first 1,000, or none where they are only
-/// counted. It takes no memory.
+/// counted. It asks for no memory.
 #[derive(Drop)]
 pub struct Steps {
     rows: [StepRow; STEP_LIMIT],

@@ -1,4 +1,4 @@
-// The tables that a turn reads of itself. All others are read only where a condact calls them.
+// The tables that a turn reads by itself. All others are read only where a condact calls them.
 
 /// The table that answers a sentence.
 pub const RESPONSE_TABLE: u8 = 0;

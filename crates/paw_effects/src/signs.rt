@@ -19,8 +19,8 @@ fn print_parameter(piece: &mut Piece, kind: ParamKind, number: u8) -> bool
     }
 }
 
-/// Prints the sign of the condact with this code and these parameters. They come apart, since each of the many arms
-/// that call this would otherwise keep room in memory for a condact of its own.
+/// Prints the sign of the condact with this code and these parameters. They are passed one by one, because
+/// each of the many arms that call this would otherwise keep room in memory for a condact of its own.
 pub(crate) fn print_sign(piece: &mut Piece, code: u8, a: u8, b: u8) -> bool
     requires code { IsCode code }
     ensures puts { Puts piece.old piece.new result (sign_text (record { code = code; a = a; b = b })) }

@@ -25,7 +25,7 @@ fn split_at_underscore(text: &[u8]) -> Option<(&[u8], &[u8])>
         with_name name text.now ≡ (p.0.now ++ name) ++ with_name name p.1.now) }
     ensures shorter { IfSome result (λ p. length p.1.now < length text.now) }
 {
-    // Most texts have none, which `contains` says soonest: it goes over many bytes at a time in short texts too.
+    // Most texts have none, which `contains` finds fastest: it tests many bytes at a time in short texts too.
     if !text.contains(&b'_') {
         return None;
     }

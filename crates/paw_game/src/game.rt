@@ -46,7 +46,7 @@ impl Game {
         Ok(Game { parts })
     }
 
-    /// The game of lists that follow the rules, which aren't gone over for it.
+    /// The game of lists that follow the rules, which aren't checked again.
     pub fn from_valid(parts: GameParts) -> Game
         requires valid { Valid parts }
         ensures value { result ≡ parts }

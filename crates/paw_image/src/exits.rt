@@ -88,7 +88,7 @@ fn read_exit<'a>(
 fn pass_exits<'a>(rules: &FieldRules, count: u8, bytes: &'a [u8]) -> Result<&'a [u8], ReadFault>
     ensures gives { Gives (λ x. x.now) result (after_exits_of rules.now [] count bytes.now) }
 {
-    // Which verbs came already: so no exit is held against all before it.
+    // Which verbs came already, so that an exit needn't be compared with all before it.
     let mut marks = [false; 256];
     let mut rest = bytes;
     for _ in 0..count {

@@ -34,8 +34,7 @@ fn indexed_word(word: u8) -> u8
     if is_wildcard(word) { NO_WORD } else { word }
 }
 
-// The rank of an entry in the order of verb, noun and number: one number, so that two entries are held against each
-// other by one comparison.
+// The rank of an entry in the order of verb, noun and number: one number, so that one comparison orders two entries.
 fn rank_of(verb: u8, noun: u8, entry: u16) -> u32
     ensures value { result ≡ entry_rank verb noun entry }
 {

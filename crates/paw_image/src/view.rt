@@ -273,7 +273,8 @@ impl<'a> Tables for View<'a> {
     }
 
     fn match_cursor(&self, table: u8, from: u16, verb: u8, noun: u8) -> Option<CondactCursor> {
-        // Most often the entry at hand matches, and no search is needed; where it isn't there, none comes after it.
+        // Most often the entry `from` itself matches, and no search is needed; where there is no such entry, none
+        // comes after it.
         let ((own_verb, own_noun), own) = self.start_of(table, from)?;
         if matches(own_verb, verb) && matches(own_noun, noun) {
             return Some(own);

@@ -31,7 +31,7 @@ pub(crate) fn apply(records: &[u8], state: &mut [u8; 4096]) -> Option<usize>
     None
 }
 
-/// Adds the change records that lead from one state to another to an empty list, in rising position.
+/// Adds the change records that lead from one state to another to an empty list, in rising order of their offsets.
 pub(crate) fn add_changes(old: &[u8; 4096], new: &[u8; 4096], records: &mut Vec<u8>)
     requires room { 4 * 4096 ≤ vec_capacity records.old }
     requires empty { records.old.items ≡ [] }

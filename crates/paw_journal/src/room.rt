@@ -207,7 +207,8 @@ impl Room {
         read(stage, which.start(), self.slot.as_mut_slice())
     }
 
-    /// Takes state and piece out of this slot, which was read, and keeps its state.
+    /// Takes state and piece out of this slot, which was read, and keeps its state where it is of the version that is
+    /// written.
     ///
     /// # Errors
     /// The offset in the slot of its first broken rule.
@@ -240,7 +241,7 @@ impl Room {
         }
     }
 
-    /// Keeps the state of this slot, which was read, where it has one.
+    /// Keeps the state of this slot, which was read, where it has one of the version that is written; otherwise none.
     pub(crate) fn load_other_state(&mut self, which: Slot)
         requires whole { length self.old.slot ≡ slot_length }
         ensures kept { self.new ≡ with_slot_kept which (kept_slot self.old.slot) self.old }

@@ -41,6 +41,7 @@ fn any_is_forbidden(text: bool, line: &[u8]) -> bool
     any
 }
 
+// Whether a line has a byte that may not stand in it; `text` says whether the line is one of a text.
 fn has_forbidden_byte(text: bool, line: &[u8]) -> bool
     ensures value { result ≡ has_forbidden_byte text line.now }
 {

@@ -184,7 +184,7 @@ pub fn count_fits(code: Option<u8>, count: u8) -> bool
     }
 }
 
-/// The least depth at which kept frames break a rule, where the machine waits at this condact or at none.
+/// The least depth at which kept frames break a rule, where the machine waits at this prompt.
 pub(crate) fn frames_fault<T: Tables>(tables: &T, prompt: Prompt, kept: &Frames) -> Option<u8>
     ensures value { result ≡ frames_fault (T.game tables.now) prompt kept.now }
 {

@@ -430,7 +430,7 @@ impl<T: Tables, F: Fn(u8, u8) -> u8> StoryReader<'_, T, F> {
             c,
         );
         match done.effect {
-            // A piece that is spent is for no one, so its line and its loop may stay as they are.
+            // A piece that is spent is never shown, so its line and its loop may stay as they are.
             Effect::Spent => AfterCondact::Moved(machine.stop(Turned::Halted(Halt::Spent(
                 SpentKind::Text,
             )))),

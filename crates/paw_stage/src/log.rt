@@ -1,4 +1,4 @@
-// A record of calls, kept in rooms that were taken beforehand.
+// A record of calls, kept in memory that was taken beforehand.
 
 ghost use Rattle.std.specs.Prelude.{◌≡◌, ◌↔◌, ◌≤◌, ◌<◌, ◌+◌, ◌++◌, ◌∷◌, [], IsTrue, IsFalse, IfOk, IfSome, IfNone};
 ghost use Rattle.std.specs.Prelude.{IsSome};

@@ -6,7 +6,7 @@ ghost use Rattle.paw_base.specs.declared.limits.TheConstants.{OBJECT_LIMIT, POSI
 ghost use Rattle.paw_world.specs.Draws.{random_word};
 ghost use Rattle.paw_world.specs.World.{starting_world, flag, with_flag, place, object_moved, position_saved};
 ghost use Rattle.paw_world.specs.World.{saved_position_loaded};
-ghost use Rattle.paw_world.specs.World.{kept_position, keeping, world_restarted, with_objects_returned};
+ghost use Rattle.paw_world.specs.World.{kept_position, position_kept, world_restarted, with_objects_returned};
 ghost use Rattle.paw_world.specs.World.{drawn_on, first_carried, IsWorld};
 ghost use Rattle.paw_world.specs.inner.World.{opening_flags, first_at, saved_flag, saved_place, kept_position_loaded};
 ghost use Rattle.paw_world.specs.inner.World.{with_kept};
@@ -74,9 +74,9 @@ impl Model for World {
 }
 
 impl World {
-    // What the loop that reads condacts calls to keep or to fill a whole position isn't inlined. The sets of its
-    // places, made anew, take 8,456 bytes of the stack, and a position itself some 500, which that loop would reserve
-    // each time that it begins.
+    // What a game that is running calls to keep or fill a whole position isn't inlined: places with their sets take
+    // 8,448 bytes of the stack while they are made, and a position 512, which the loop that reads condacts would
+    // reserve each time that it begins. `set_position` and `set_kept` are called only when a session is read.
 
     /// The world at the start of a game with these objects, this number of locations and this seed.
     pub fn new(facts: &[ObjectFacts], locations: u8, seed: u64) -> World
@@ -263,7 +263,7 @@ impl World {
     #[inline(never)]
     pub fn keep(&mut self, n: u8)
         requires known { n < POSITION_COUNT }
-        ensures change { self.new ≡ keeping self.old n }
+        ensures change { self.new ≡ position_kept self.old n }
     {
         self.kept[n as usize] = Some(Position::of(&self.flags, self.places.all()));
     }

@@ -62,7 +62,7 @@ HasReadSlot which s room = room.slot ≡ slot (slot_number which) s.disk.bytes
 abbrev pub ShowsSlot : Digests → Room → Room → Type 0
 ShowsSlot digests old new = slot_shows digests old.slot ≡ session_shown digests new.state new.piece
 
--- The room keeps the state of this slot, which was read, and may show another state and piece.
+-- The room keeps what a commit may go on from of this slot, which was read, and may show another state and piece.
 abbrev pub KeepsRead : Slot → Room → Room → Type 0
 KeepsRead which old new =
     new ≡ with_slot_kept which (kept_slot old.slot) (record old { state = new.state; piece = new.piece })

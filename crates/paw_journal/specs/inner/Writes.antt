@@ -134,7 +134,7 @@ header_digests header = digests_of header.game header.routines
 abbrev pub IsHeaderOf : Bytes → Header → Type 0
 IsHeaderOf bytes header = Introduces (slot_number header.slot) (header_digests header) bytes
 
--- Change records that lead from one state to another, one for each position that differs.
+-- Change records that lead from one state to another, one for each offset at which they differ.
 pub record ChangesInto (old new records : Bytes) : Type 0 where
   pub exact : records ≡ differences old new
   pub many : length records ≡ 4 * differing old new

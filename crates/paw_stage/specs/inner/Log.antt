@@ -1,4 +1,4 @@
--- A record of calls, kept in rooms that were taken beforehand.
+-- A record of calls, kept in memory that was taken beforehand.
 use Rattle.std.specs.Prelude.{◌≡◌, ℕ, suc, ◌-◌, ◌≤◌, ◌<◌, nat_lt, nat_le, ◌&&◌, Bool, List, [], ◌∷◌, ◌++◌}
 use Rattle.std.specs.Prelude.{map, length, take, slice_range, Option, Some, None}
 use Rattle.paw_base.specs.Bytes.{Bytes, Name, Text}

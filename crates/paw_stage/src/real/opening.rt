@@ -10,7 +10,7 @@ use std::io::{self, ErrorKind};
 use std::os::unix::fs::MetadataExt;
 use std::rt::Files;
 
-// Linux's number of the error that says that no locks are to be had, as of a network's file system without them.
+// Linux's number of the error that says that no locks are available, as on a network file system without them.
 const NO_LOCKS: i32 = 37;
 
 // The standard streams, as Linux names what is open.
@@ -18,8 +18,9 @@ const STREAMS: [&str; 3] = ["/proc/self/fd/0", "/proc/self/fd/1", "/proc/self/fd
 
 /// Opens a file to be read and written in parts, and gives its length in bytes. A missing file is made empty.
 ///
-/// Nobody else has it as a store while it is open, and it is none of the standard streams, nor is its descriptor. The
-/// file and its folder are synced, so that a crash leaves just what a read gives.
+/// Nobody else has it as a store while it is open, where the file system has locks. It is none of the standard streams,
+/// where the system says what they are, and its descriptor is none of theirs. The file and its folder are synced, so
+/// that a crash leaves just what a read gives.
 pub fn open_store<R: Files<File = File> + Alloc>(
     rt: &R,
     name: &str,
