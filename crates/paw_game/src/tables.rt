@@ -54,7 +54,7 @@ pub trait Tables {
         ensures value { result ≡ condact_at (game self.now) table entry at }
         ensures small { OnSome result (entry < ENTRY_LIMIT) }
         ensures early { OnSome result (at < CONDACT_LIMIT) }
-        ensures kept { IfSome result (λ c. IsTrue (is_condact (game self.now) c)) };
+        ensures right { IfSome result (λ c. IsTrue (is_condact (game self.now) c)) };
 
     /// The cursor at a condact of an entry, whether or not there is such a condact. Reading on from a cursor looks up
     /// neither the table nor the entry again, as `condact` does each time.
@@ -73,7 +73,7 @@ pub trait Tables {
         ensures value { result ≡ condact_at (game self.now) cursor.old.table cursor.old.entry cursor.old.at }
         ensures small { OnSome result (cursor.old.entry < ENTRY_LIMIT) }
         ensures early { OnSome result (cursor.old.at < CONDACT_LIMIT) }
-        ensures kept { IfSome result (λ c. IsTrue (is_condact (game self.now) c)) };
+        ensures right { IfSome result (λ c. IsTrue (is_condact (game self.now) c)) };
 
     /// The least entry not below `from` that matches this verb and noun; None exactly where there is none.
     fn next_match(&self, table: u8, from: u16, verb: u8, noun: u8) -> Option<u16>

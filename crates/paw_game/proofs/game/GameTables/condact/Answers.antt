@@ -16,8 +16,8 @@ returns-clause-early c =
     let valid = rw c.self.view_is at c.self.invariant in
     IfSome-from (λ _. c.args.at < CONDACT_LIMIT) c.condact_at.result _ is (condact-early c.args.self.now valid c.args.table c.args.entry c.args.at)
 
-pub returns-clause-kept : goal.returns-clause-kept
-returns-clause-kept c =
+pub returns-clause-right : goal.returns-clause-right
+returns-clause-right c =
     let is = rw c.self.view_is at c.condact_at.ensures.value in
     let valid = rw c.self.view_is at c.self.invariant in
     IfSome-from (λ x. IsTrue (is_condact c.args.self.now x)) c.condact_at.result _ is (condact_follows c.args.self.now valid c.args.table c.args.entry c.args.at)

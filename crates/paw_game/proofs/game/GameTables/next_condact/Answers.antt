@@ -20,8 +20,8 @@ returns-clause-early c =
     let cursor = c.args.cursor.now in
     condact-early c.args.self.now (rw c.self.view_is at c.self.invariant) cursor.table cursor.entry cursor.at c.in_ok-condact.condact (sym is)
 
-pub returns-clause-kept : goal.returns-clause-kept
-returns-clause-kept c =
+pub returns-clause-right : goal.returns-clause-right
+returns-clause-right c =
     let is = rw c.self.view_is at c.in_ok-condact.ensures.value in
     let cursor = c.args.cursor.now in
     condact_follows c.args.self.now (rw c.self.view_is at c.self.invariant) cursor.table cursor.entry cursor.at c.in_ok-condact.condact (sym is)

@@ -59,8 +59,8 @@ returns-clause-early c =
     let image = rw c.self.view_is at c.self.invariant.image in
     condact-early (game_read c.args.self.now) image.valid cursor.table cursor.entry cursor.at condact is
 
-pub returns-clause-kept : goal.returns-clause-kept
-returns-clause-kept c =
+pub returns-clause-right : goal.returns-clause-right
+returns-clause-right c =
     let cursor = c.args.cursor.now in
     let condact = c.condact_at-next.result.0 in
     let is = stands_read c.args.self.now cursor.table cursor.entry cursor.at cursor.left cursor.offset c.condact_at-next.result.1 condact
