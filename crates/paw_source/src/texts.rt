@@ -45,7 +45,7 @@ pub(crate) fn text_item(
 pub(crate) fn text_line(texts: &mut Vec<Text>, begun: bool, line: &[u8]) -> Result<(), LineError>
     requires some { 0 < length texts.old.items }
     ensures meaning { Gives (λ _. texts.new.items) result (text_line begun line.now texts.old.items) }
-    ensures kept { length texts.new.items ≡ length texts.old.items }
+    ensures same_count { length texts.new.items ≡ length texts.old.items }
 {
     let last = texts.len() - 1;
     let text = &mut texts[last];
