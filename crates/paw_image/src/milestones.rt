@@ -51,7 +51,7 @@ fn pass_condacts<'a>(
     ensures gives { Gives (λ x. x.now) result (each (after_condact rules.now) count bytes.now) }
     ensures milestones { OnOk result
         (AreMilestones (drop (length milestones.old.items) milestones.new.items) count bytes.now) }
-    ensures keeps { OnOk result (BeginsWithList milestones.old.items milestones.new.items) }
+    ensures extends { OnOk result (BeginsWithList milestones.old.items milestones.new.items) }
     ensures few { OnOk result (length milestones.new.items ≤ length milestones.old.items + 31) }
 {
     // An entry with no condact has no eight that another follows.
@@ -75,7 +75,7 @@ fn pass_entry<'a>(
     ensures gives { Gives (λ x. x.now) result (after_entry rules.now bytes.now) }
     ensures milestones { OnOk result
         (EntryMilestones (drop (length milestones.old.items) milestones.new.items) bytes.now) }
-    ensures keeps { OnOk result (BeginsWithList milestones.old.items milestones.new.items) }
+    ensures extends { OnOk result (BeginsWithList milestones.old.items milestones.new.items) }
     ensures few { OnOk result (length milestones.new.items ≤ length milestones.old.items + 31) }
 {
     let (verb, nouns) = read_byte(bytes)?;

@@ -38,7 +38,7 @@ loop-preserved c =
       few = omega (arith, c.in_ok-rest.ensures.few, inv.few);
       end = λ at. entry_end all rest after (λ i. omega (arith, c.type_inv.all i)) (inv.end at) d gives;
       marked = λ at. rw (place, c.saturating_sub.ensures, first, len)
-          (one_more_entry all offsets firsts milestones more (length all - length rest) same (inv.marked at) c.in_ok-rest.ensures.keeps
+          (one_more_entry all offsets firsts milestones more (length all - length rest) same (inv.marked at) c.in_ok-rest.ensures.extends
           (rw (inv.end at) c.in_ok-rest.ensures.milestones));
     }
 
