@@ -61,7 +61,7 @@ impl Ahead {
         ensures filled { OnOk result (Consumes (R.remaining reader.old) (R.remaining reader.new) self.new) }
         ensures end { OnOk result (self.new ≡ [] → IsAtEnd (R.remaining reader.new)) }
         ensures same { OnErr result (self.new ≡ []) }
-        ensures kept { OnErr result (Keeps (R.remaining reader.old) (R.remaining reader.new)) }
+        ensures untaken { OnErr result (Keeps (R.remaining reader.old) (R.remaining reader.new)) }
     {
         self.from = 0;
         self.to = 0;
