@@ -11,7 +11,7 @@ use Rattle.paw_journal.proofs.Parts.{length_put, put_below, put_above}
 pub within_stable : (lo hi : ℕ) (d : Disk) → IsStable d → IsWithin lo hi d.bytes d
 within_stable lo hi d h = record {
   long = refl;
-  synced = ap length h.kept;
+  synced = ap length h.same;
   longest = h.longest;
   same =
       λ i o. refl;
@@ -56,13 +56,13 @@ pub within_same : (lo hi : ℕ) (old image : Bytes) (d : Disk) → IsWithin lo h
 within_same lo hi old image d h m i low o = m.clean i (omega (arith, h.synced)) (h.clean i o) ∙ h.same i o
 
 pub stable_is : (bytes : Bytes) → IsStable (stable bytes)
-stable_is bytes = record { kept = refl; longest = refl; dirty = refl }
+stable_is bytes = record { same = refl; longest = refl; dirty = refl }
 
 -- Of a disk with nothing unsynced a crash leaves just its bytes.
 pub stable_leaves : (d : Disk) (image : Bytes) → IsStable d → MayLeave d image → image ≡ d.bytes
 stable_leaves d image h m =
-    let n : length image ≡ length d.bytes = omega (arith, ap length h.kept, h.longest, m.no_shorter, m.no_longer) in
-    ext_get_or 0 image d.bytes n (λ i low. m.clean i (omega (arith, ap length h.kept)) (ap (λ r. is_dirty r i) h.dirty))
+    let n : length image ≡ length d.bytes = omega (arith, ap length h.same, h.longest, m.no_shorter, m.no_longer) in
+    ext_get_or 0 image d.bytes n (λ i low. m.clean i (omega (arith, ap length h.same)) (ap (λ r. is_dirty r i) h.dirty))
 
 -- A stretch that was written and synced.
 pub put_within : (at n : ℕ) (new old : Bytes) → length new ≡ n → at + length new ≤ length old → IsWithin at (at + n) old (stable (put_at at new old))

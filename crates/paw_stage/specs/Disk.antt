@@ -50,6 +50,6 @@ stable bytes = record { bytes = bytes; synced = bytes; longest = length bytes; d
 
 -- Nothing was written since the last sync.
 pub record IsStable (d : Disk) : Type 0 where
-  pub kept : d.synced ≡ d.bytes
+  pub same : d.synced ≡ d.bytes
   pub longest : d.longest ≡ length d.bytes
   pub dirty : d.dirty ≡ []

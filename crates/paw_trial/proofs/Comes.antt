@@ -51,7 +51,7 @@ module _ (old new : Memory) (lines : Lines) (is : new ≡ record old { lines = o
 
 -- Nothing is unsynced at a stage that is ready for a half.
 pub ready_stable : (h : Half) (n : ℕ) (m : Memory) → IsReadyFor h n m → IsStable (standing_of m).disk
-ready_stable half.First n m is = subst (λ (x : Memory). IsStable (standing_of x).disk) (sym is) (record { kept = refl; longest = refl; dirty = refl })
+ready_stable half.First n m is = subst (λ (x : Memory). IsStable (standing_of x).disk) (sym is) (record { same = refl; longest = refl; dirty = refl })
 ready_stable half.Second n m holds = holds.stable
 
 -- A trial stops as the reading does that has ended in this way.
