@@ -19,7 +19,7 @@ use paw_read_error::read_error::ReadError;
 use std::alloc::{AllocError, Global};
 
 /// Where the version stands.
-const VERSION_PLACE: u64 = 4;
+const VERSION_AT: u64 = 4;
 
 /// The front of an image, the bytes after it, and where its other rows begin.
 #[derive(Drop)]
@@ -86,7 +86,7 @@ pub fn pass_whole<'a>(alloc: Global, bytes: &'a [u8]) -> Result<Passed<'a>, Imag
     let left = match pass_all(alloc, bytes) {
         Ok((passed, [])) => {
             if is_needless(alloc, bytes, &passed)? {
-                return Err(ImageRefusal::Damaged { at: VERSION_PLACE });
+                return Err(ImageRefusal::Damaged { at: VERSION_AT });
             }
             return Ok(passed);
         }
