@@ -45,10 +45,10 @@ short source h =
 pub names_the_first : NamesTheFirst
 names_the_first source n k small h =
     let p = count_by begins_table (lines_of source) in
-    let number : suc (0 + length h.before) ≡ suc n = let q = h.place in omega (arith, q) in
+    let number : suc (0 + length h.before) ≡ suc n = let q = h.number in omega (arith, q) in
     short source small
     ∙ ap (spelled_after (count_by begins_table (lines_of source)) 0 nothing_yet) h.parts
-    ∙ found (count_by begins_table (lines_of source)) 0 nothing_yet h.before h.line h.behind h.draft k h.no_fault h.fault
+    ∙ found (count_by begins_table (lines_of source)) 0 nothing_yet h.before h.line h.after h.draft k h.no_fault h.fault
     ∙ ap (λ (m : ℕ). Err (fault m k)) number
 
 err_is : {A E : Type 0} (x y : E) → ◌≡◌ {A = Result A E} (Err x) (Err y) → x ≡ y
@@ -88,10 +88,10 @@ named p n d (l ∷ ls) f h =
             record {
               before = [];
               line = l;
-              behind = ls;
+              after = ls;
               draft = d;
               parts = refl;
-              place = refl;
+              number = refl;
               no_fault = refl;
               fault = e ∙ ap (λ (x : SourceFault). Err x.kind) same;
             },
@@ -106,11 +106,11 @@ named p n d (l ∷ ls) f h =
               record {
                 before = l ∷ some.before;
                 line = some.line;
-                behind = some.behind;
+                after = some.after;
                 draft = some.draft;
                 parts =
                     ap (λ (y : Lines). l ∷ y) some.parts;
-                place = ap suc some.place;
+                number = ap suc some.number;
                 no_fault =
                     rw e some.no_fault;
                 fault = some.fault;

@@ -21,10 +21,10 @@ after_lines p d (l ∷ ls) = after_line p d l >>= λ e. after_lines p e ls
 pub record HasFault (p : ℕ) (d : Spelt) (ls : Lines) (n : ℕ) (k : SourceKind) : Type 0 where
   pub before : Lines
   pub line : Line
-  pub behind : Lines
+  pub after : Lines
   pub draft : Spelt
-  pub parts : ls ≡ before ++ line ∷ behind
-  pub place : length before ≡ n
+  pub parts : ls ≡ before ++ line ∷ after
+  pub number : length before ≡ n
   pub no_fault : after_lines p d before ≡ Ok draft
   pub fault : after_line p draft line ≡ Err k
 
