@@ -69,7 +69,7 @@ pub(crate) fn words(alloc: Global, objects: u16) -> Result<Vec<Word>, NoRoom>
 // The facts of an object: where it begins, and its weight.
 fn object_facts(locations: u16, number: u16) -> ObjectFacts
     requires some { 0 < locations }
-    requires places { locations ≤ LOCATION_LIMIT }
+    requires locations { locations ≤ LOCATION_LIMIT }
     requires number { number < 200 }
     ensures value { result ≡ object_facts locations number }
 {
@@ -86,7 +86,7 @@ fn object_facts(locations: u16, number: u16) -> ObjectFacts
 /// The objects in a game with this number of locations.
 pub(crate) fn objects(alloc: Global, locations: u16, objects: u16) -> Result<Vec<ObjectRow>, NoRoom>
     requires some { 0 < locations }
-    requires places { locations ≤ LOCATION_LIMIT }
+    requires locations { locations ≤ LOCATION_LIMIT }
     requires objects { objects ≤ 200 }
     ensures value { IfOk result (λ all. all.items ≡ rows objects (trial_object locations)) }
 {
@@ -103,7 +103,7 @@ pub(crate) fn objects(alloc: Global, locations: u16, objects: u16) -> Result<Vec
 // The ways out of a location of the ring.
 fn ring_exits(alloc: Global, locations: u16, number: u16) -> Result<Exits, NoRoom>
     requires some { 0 < locations }
-    requires places { locations ≤ LOCATION_LIMIT }
+    requires locations { locations ≤ LOCATION_LIMIT }
     requires number { number < locations }
     ensures value { IfOk result (λ exits. exits ≡ ring_exits locations number) }
 {
@@ -121,7 +121,7 @@ fn ring_exits(alloc: Global, locations: u16, number: u16) -> Result<Exits, NoRoo
 /// The ways out of all locations.
 pub(crate) fn exits(alloc: Global, locations: u16) -> Result<Vec<Exits>, NoRoom>
     requires some { 0 < locations }
-    requires places { locations ≤ LOCATION_LIMIT }
+    requires locations { locations ≤ LOCATION_LIMIT }
     ensures value { IfOk result (λ all. all.items ≡ rows locations (ring_exits locations)) }
 {
     let mut all = Vec::new(alloc);

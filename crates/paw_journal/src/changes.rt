@@ -46,7 +46,7 @@ pub(crate) fn add_changes(old: &[u8; 4096], new: &[u8; 4096], records: &mut Vec<
 
 // Adds the change records of the stretch that begins here.
 fn add_stretch(from: usize, old: &[u8; 4096], new: &[u8; 4096], records: &mut Vec<u8>)
-    requires place { from + STRETCH ≤ 4096 }
+    requires within { from + STRETCH ≤ 4096 }
     requires room { 4 * 4096 ≤ vec_capacity records.old }
     requires turning { ChangesTo old.now new.now from records.old.items }
     ensures turned { ChangesTo old.now new.now (from + STRETCH) records.new.items }
@@ -69,7 +69,7 @@ fn are_same(old: &[u8], new: &[u8]) -> bool
 // Adds the change records of the bytes from one offset up to another.
 fn add_bytes(from: usize, to: usize, old: &[u8; 4096], new: &[u8; 4096], records: &mut Vec<u8>)
     requires order { from ≤ to }
-    requires place { to ≤ 4096 }
+    requires within { to ≤ 4096 }
     requires room { 4 * 4096 ≤ vec_capacity records.old }
     requires turning { ChangesTo old.now new.now from records.old.items }
     ensures turned { ChangesTo old.now new.now to records.new.items }
@@ -84,7 +84,7 @@ fn add_bytes(from: usize, to: usize, old: &[u8; 4096], new: &[u8; 4096], records
 
 // Adds a change record to a list.
 fn add_change(at: usize, byte: u8, records: &mut Vec<u8>)
-    requires place { at < 4096 }
+    requires within { at < 4096 }
     requires room { length records.old.items + 4 ≤ vec_capacity records.old }
     ensures added { records.new.items ≡ records.old.items ++ change_bytes at byte }
     ensures capacity { vec_capacity records.old ≤ vec_capacity records.new }

@@ -55,7 +55,7 @@ fn len_without_return(line: &[u8]) -> usize
 fn first_line(text: &[u8]) -> Option<Cut>
     ensures lines { MatchOption result (lines text.now ≡ [])
         (λ cut. lines text.now ≡ take cut.line text.now ∷ lines (drop cut.whole text.now)) }
-    ensures places { IfSome result (λ cut.
+    ensures offsets { IfSome result (λ cut.
         (cut.line ≤ cut.whole) × (0 < cut.whole) × (cut.whole ≤ length text.now)) }
     ensures line_end { IfSome result (λ cut. IsLineEnd (slice_range text.now cut.line cut.whole)
         ⊎ ((cut.line ≡ cut.whole) × (cut.whole ≡ length text.now))) }

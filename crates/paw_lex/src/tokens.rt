@@ -45,7 +45,7 @@ fn first_token(bytes: &[u8]) -> Option<Token>
     ensures tokens { MatchOption result (tokens_of bytes.now ≡ [])
         (λ token. tokens_of bytes.now
         ≡ slice_range bytes.now token.from token.to ∷ tokens_of (drop token.to bytes.now)) }
-    ensures places { IfSome result (λ token.
+    ensures offsets { IfSome result (λ token.
         (token.from < token.to) × (token.to ≤ length bytes.now)) }
     ensures blanks { IfSome result (λ token. AreBlanks (take token.from bytes.now)) }
 {
@@ -65,11 +65,11 @@ fn first_token(bytes: &[u8]) -> Option<Token>
 /// at. A line is cut into tokens at spaces and tabs, up to its first `;`.
 pub fn next_token(source: &[u8], line: &Line, from: usize) -> Option<Token>
     requires span { LiesIn source.now line.now }
-    requires place { (line.now.from ≤ from) × (from ≤ line.now.to) }
+    requires within { (line.now.from ≤ from) × (from ≤ line.now.to) }
     ensures tokens { let left = tokens_from source.now line.now in
         MatchOption result (left from ≡ [])
         (λ token. left from ≡ slice_range source.now token.from token.to ∷ left token.to) }
-    ensures places { IfSome result (λ token.
+    ensures offsets { IfSome result (λ token.
         (from ≤ token.from) × (token.from < token.to) × (token.to ≤ line.now.to)) }
     ensures blanks { IfSome result (λ token. AreBlanks (slice_range source.now from token.from)) }
 {

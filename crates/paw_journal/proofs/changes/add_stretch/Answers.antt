@@ -7,4 +7,4 @@ pub returns-then-are_same-clause-turned : goal.returns-then-are_same-clause-turn
 returns-then-are_same-clause-turned c =
     let at = c.args.from in
     turns_stretch _ _ _ at (at + STRETCH - at) STRETCH c.requires.turning (c.told-old ∙ sym c.told-new)
-    (omega (arith, c.requires.place, c.told-old)) (c.are_same.ensures.value.0 c.if-are_same.true) (omega arith)
+    (omega (arith, c.requires.within, c.told-old)) (c.are_same.ensures.value.0 c.if-are_same.true) (omega arith)

@@ -14,7 +14,7 @@ returns-in-Some-clause-lines c =
     let len = length-take (c.self.inside.end - c.self.inside.at) (drop c.self.inside.at c.self.inside.source.now) in
     rw (← c.self.view_is)
     (next_line c.self.inside.source.now c.self.inside.end c.self.inside.at c.in-Some.cut.line c.in-Some.cut.whole
-    c.self.invariant.ends_at_mark (omega (arith, c.in-Some.ensures.places, len)) (omega (arith, c.in-Some.ensures.places))
+    c.self.invariant.ends_at_mark (omega (arith, c.in-Some.ensures.offsets, len)) (omega (arith, c.in-Some.ensures.offsets))
     c.in-Some.ensures.lines)
 
 pub returns-in-Some-clause-line_end : goal.returns-in-Some-clause-line_end
@@ -22,5 +22,5 @@ returns-in-Some-clause-line_end c =
     let len = length-take (c.self.inside.end - c.self.inside.at) (drop c.self.inside.at c.self.inside.source.now) in
     rw (← c.self.view_is)
     (next_line_end c.self.inside.source.now c.self.inside.end c.self.inside.at c.in-Some.cut.line c.in-Some.cut.whole
-    c.self.invariant.ends_at_mark (omega (arith, c.in-Some.ensures.places, len)) (omega (arith, c.in-Some.ensures.places))
+    c.self.invariant.ends_at_mark (omega (arith, c.in-Some.ensures.offsets, len)) (omega (arith, c.in-Some.ensures.offsets))
     c.in-Some.ensures.line_end)
