@@ -87,7 +87,7 @@ leads_none old new records e = record {
   few = omega (arith, ap length e);
   sound =
       ap (λ r. first_unsound (changes r)) e;
-  turned = ap (λ r. with_changes (changes r) old) e;
+  made = ap (λ r. with_changes (changes r) old) e;
 }
 
 more : (old new : Bytes) (i : ℕ) → length old ≡ length new → i < length old →
@@ -111,8 +111,8 @@ leads_same old new records i h n low e =
       many = omega (arith, h.many, d);
       few = omega (arith, h.few);
       sound = h.sound;
-      turned =
-          h.turned
+      made =
+          h.made
           ∙ (ap (λ l. take i new ++ l) (drop-cons old i 0 low ∙ ap (λ x. x ∷ drop (suc i) old) e)
           ∙ (sym (append_assoc (take i new) (get_or new i 0 ∷ []) (drop (suc i) old))
           ∙ ap (λ l. l ++ drop (suc i) old) (sym (take-suc new i 0 l))));
@@ -123,13 +123,13 @@ read_at : (xs : Bytes) (i n k : ℕ) → k < n → get_or (take n (drop i xs)) k
 read_at xs i n k low = get_or-take n (drop i xs) k 0 low ∙ get_or-drop i xs k 0
 
 -- Bytes that are the same in both states need no records.
-pub turns_stretch : (old new records : Bytes) (i n : ℕ) (k : ℕ) → ChangesTo old new i records → length old ≡ length new →
+pub skips_stretch : (old new records : Bytes) (i n : ℕ) (k : ℕ) → ChangesTo old new i records → length old ≡ length new →
     i + n ≤ length old → take n (drop i old) ≡ take n (drop i new) → k ≤ n → ChangesTo old new (i + k) records
-turns_stretch old new records i n zero h l low e le = subst (λ m. ChangesTo old new m records) (omega arith) h
-turns_stretch old new records i n (suc k) h l low e le =
+skips_stretch old new records i n zero h l low e le = subst (λ m. ChangesTo old new m records) (omega arith) h
+skips_stretch old new records i n (suc k) h l low e le =
     let same : get_or old (i + k) 0 ≡ get_or new (i + k) 0 =
     sym (read_at old i n k (omega arith)) ∙ ap (λ xs. get_or xs k 0) e ∙ read_at new i n k (omega arith) in
-    let before : ChangesTo old new (i + k) records = turns_stretch old new records i n k h l low e (omega arith) in
+    let before : ChangesTo old new (i + k) records = skips_stretch old new records i n k h l low e (omega arith) in
     subst (λ m. ChangesTo old new m records) (omega arith) (leads_same old new records (i + k) before l (omega arith) same)
 
 one_change : (x y z i : ℕ) → x + 256 * y ≡ i → changes (x ∷ y ∷ z ∷ 0 ∷ []) ≡ record { at = i; byte = z; last = 0 } ∷ []
@@ -159,10 +159,10 @@ leads_other old new records now i z h n low short ne q e =
       many = omega (arith, h.many, d, m);
       few = omega (arith, h.few, m);
       sound = ap first_unsound all ∙ sound-append (changes records) (c ∷ []) h.sound (sound_one c short refl);
-      turned =
+      made =
           ap (λ cs. with_changes cs old) all
           ∙ (changed-append (changes records) (c ∷ []) old
-          ∙ (ap (λ l. slice_set l i z) (h.turned ∙ ap (λ l. take i new ++ l) (drop-cons old i 0 low))
+          ∙ (ap (λ l. slice_set l i z) (h.made ∙ ap (λ l. take i new ++ l) (drop-cons old i 0 low))
           ∙ (ap (λ k. slice_set (take i new ++ get_or old i 0 ∷ drop (suc i) old) k z) at
           ∙ (set-append_seam (take i new) (get_or old i 0) (drop (suc i) old) z
           ∙ (ap (λ b. take i new ++ b ∷ drop (suc i) old) q
@@ -176,7 +176,7 @@ leads_all old new records n h e f = record {
   exact = sym (append-nil records) ∙ (ap (λ a. records ++ differences_from n a (drop n new)) (sym (drop_all n old (omega arith))) ∙ h.exact);
   many = h.many ∙ ap (λ a. 4 * differing a (take n new)) (take_all n old (omega arith)) ∙ ap (λ b. 4 * differing old b) (take_all n new (omega arith));
   sound = h.sound;
-  turned = h.turned ∙ ap (λ l. l ++ drop n old) (take_all n new (omega arith)) ∙ ap (λ l. new ++ l) (drop_all n old (omega arith)) ∙ append-nil new;
+  made = h.made ∙ ap (λ l. l ++ drop n old) (take_all n new (omega arith)) ∙ ap (λ l. new ++ l) (drop_all n old (omega arith)) ∙ append-nil new;
 }
 
 pub at_next : (old new records : Bytes) (i : ℕ) → ChangesTo old new (suc i) records → ChangesTo old new (i + 1) records

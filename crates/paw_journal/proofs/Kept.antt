@@ -223,7 +223,7 @@ behind_gives n c was state records piece old h t l few long short =
           ap (λ cs. with_changes cs (base (put_at 0 (slot_head (n + c)) (put_at PIECE_AT piece (put_at at records old))))) all
           ∙ (ap (with_changes (changes (stretch CHANGES_AT (4 * n) old) ++ changes records)) b
           ∙ (changed-append (changes (stretch CHANGES_AT (4 * n) old)) (changes records) (base old)
-          ∙ (ap (with_changes (changes records)) h.told ∙ t.turned)));
+          ∙ (ap (with_changes (changes records)) h.told ∙ t.made)));
     }
 
 -- ---- what a commit makes of a slot ----

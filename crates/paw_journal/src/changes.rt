@@ -35,7 +35,7 @@ pub(crate) fn apply(records: &[u8], state: &mut [u8; 4096]) -> Option<usize>
 pub(crate) fn add_changes(old: &[u8; 4096], new: &[u8; 4096], records: &mut Vec<u8>)
     requires room { 4 * 4096 ≤ vec_capacity records.old }
     requires empty { records.old.items ≡ [] }
-    ensures turned { ChangesInto old.now new.now records.new.items }
+    ensures made { ChangesInto old.now new.now records.new.items }
     ensures few { length records.new.items ≤ 4 * 4096 }
     ensures capacity { vec_capacity records.old ≤ vec_capacity records.new }
 {
@@ -48,8 +48,8 @@ pub(crate) fn add_changes(old: &[u8; 4096], new: &[u8; 4096], records: &mut Vec<
 fn add_stretch(from: usize, old: &[u8; 4096], new: &[u8; 4096], records: &mut Vec<u8>)
     requires within { from + STRETCH ≤ 4096 }
     requires room { 4 * 4096 ≤ vec_capacity records.old }
-    requires turning { ChangesTo old.now new.now from records.old.items }
-    ensures turned { ChangesTo old.now new.now (from + STRETCH) records.new.items }
+    requires making { ChangesTo old.now new.now from records.old.items }
+    ensures made { ChangesTo old.now new.now (from + STRETCH) records.new.items }
     ensures capacity { vec_capacity records.old ≤ vec_capacity records.new }
 {
     let to = from + STRETCH;
@@ -71,8 +71,8 @@ fn add_bytes(from: usize, to: usize, old: &[u8; 4096], new: &[u8; 4096], records
     requires order { from ≤ to }
     requires within { to ≤ 4096 }
     requires room { 4 * 4096 ≤ vec_capacity records.old }
-    requires turning { ChangesTo old.now new.now from records.old.items }
-    ensures turned { ChangesTo old.now new.now to records.new.items }
+    requires making { ChangesTo old.now new.now from records.old.items }
+    ensures made { ChangesTo old.now new.now to records.new.items }
     ensures capacity { vec_capacity records.old ≤ vec_capacity records.new }
 {
     for at in from..to {

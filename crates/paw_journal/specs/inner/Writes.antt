@@ -139,7 +139,7 @@ pub record ChangesInto (old new records : Bytes) : Type 0 where
   pub exact : records ≡ differences old new
   pub many : length records ≡ 4 * differing old new
   pub sound : first_unsound (changes records) ≡ None
-  pub turned : with_changes (changes records) old ≡ new
+  pub made : with_changes (changes records) old ≡ new
 
 -- Change records that make the first i bytes of one state those of another.
 pub record ChangesTo (old new : Bytes) (i : ℕ) (records : Bytes) : Type 0 where
@@ -147,7 +147,7 @@ pub record ChangesTo (old new : Bytes) (i : ℕ) (records : Bytes) : Type 0 wher
   pub many : length records ≡ 4 * differing (take i old) (take i new)
   pub few : length records ≤ 4 * i
   pub sound : first_unsound (changes records) ≡ None
-  pub turned : with_changes (changes records) old ≡ take i new ++ drop i old
+  pub made : with_changes (changes records) old ≡ take i new ++ drop i old
 
 -- The bytes of a slot once a commit has written it.
 abbrev pub written_slot : CommitDraft → Bytes → Text → Bytes → Bytes

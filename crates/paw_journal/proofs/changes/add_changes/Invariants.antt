@@ -6,6 +6,6 @@ use Rattle.paw_journal.proofs.changes.add_changes.Given as goal
 
 abbrev pub invariant-loop-stretch : goal.invariant-loop-stretch
 invariant-loop-stretch l = record {
-  turns : ChangesTo l.old l.new (l.stretch * STRETCH) l.records.items;
+  made : ChangesTo l.old l.new (l.stretch * STRETCH) l.records.items;
   capacity : vec_capacity l.initial.records ≤ vec_capacity l.records;
 }
