@@ -50,21 +50,21 @@ written_is d at bytes h =
           ∙ sym (index-put at bytes d.bytes i ∙ ap (λ b. if b then slice_index bytes (i - min at (length d.bytes)) else slice_index d.bytes i) t);
     }
 
-stepped_is : (k : CallKind) (name bytes : Bytes) (s : Standing) → IsDisk s.disk → IsDisk (after_call_of k name bytes s).disk
-stepped_is kind.Add name bytes s h = either_is (is_attached s.attached name) (stable bytes) s.disk (stable_is bytes) h
-stepped_is kind.Load name bytes s h = h
-stepped_is kind.Save name bytes s h = either_is (is_attached s.attached name) (stable bytes) s.disk (stable_is bytes) h
-stepped_is kind.Attach name bytes s h = stable_is (bytes_or_none (s.files name))
-stepped_is kind.Read name bytes s h = h
-stepped_is (kind.Write at) name bytes s h = written_is s.disk at bytes h
-stepped_is kind.Sync name bytes s h = stable_is s.disk.bytes
-stepped_is kind.Take name bytes s h = h
-stepped_is kind.End name bytes s h = h
-stepped_is kind.Show name bytes s h = h
+call_is : (k : CallKind) (name bytes : Bytes) (s : Standing) → IsDisk s.disk → IsDisk (after_call_of k name bytes s).disk
+call_is kind.Add name bytes s h = either_is (is_attached s.attached name) (stable bytes) s.disk (stable_is bytes) h
+call_is kind.Load name bytes s h = h
+call_is kind.Save name bytes s h = either_is (is_attached s.attached name) (stable bytes) s.disk (stable_is bytes) h
+call_is kind.Attach name bytes s h = stable_is (bytes_or_none (s.files name))
+call_is kind.Read name bytes s h = h
+call_is (kind.Write at) name bytes s h = written_is s.disk at bytes h
+call_is kind.Sync name bytes s h = stable_is s.disk.bytes
+call_is kind.Take name bytes s h = h
+call_is kind.End name bytes s h = h
+call_is kind.Show name bytes s h = h
 
 later_disk : (s : Standing) (ds : List DoneCall) → IsDisk s.disk → IsDisk (after s ds).disk
 later_disk s [] h = h
-later_disk s (d ∷ ds) h = later_disk (standing_after s d) ds (stepped_is d.kind d.name d.bytes s h)
+later_disk s (d ∷ ds) h = later_disk (standing_after s d) ds (call_is d.kind d.name d.bytes s h)
 
 pub after_disk : (ds : List DoneCall) → IsDisk (after fresh ds).disk
 after_disk ds = later_disk fresh ds (stable_is [])

@@ -41,27 +41,27 @@ some_same : (a b : Bytes) → Some a ≡ Some b → a ≡ b
 some_same a b e = cc
 
 -- A call of any kind leaves the store's bytes those of its file.
-stepped_filed : (k : CallKind) (name : Name) (bytes : Bytes) (s : Standing) → IsFiled s →
+call_filed : (k : CallKind) (name : Name) (bytes : Bytes) (s : Standing) → IsFiled s →
     IsFiled (after_call_of k name bytes s)
-stepped_filed kind.Add name bytes s h n e = saved_filed s name bytes h n e
-stepped_filed kind.Load name bytes s h n e = h n e
-stepped_filed kind.Save name bytes s h n e = saved_filed s name bytes h n e
-stepped_filed kind.Attach name bytes s h n e =
+call_filed kind.Add name bytes s h n e = saved_filed s name bytes h n e
+call_filed kind.Load name bytes s h n e = h n e
+call_filed kind.Save name bytes s h n e = saved_filed s name bytes h n e
+call_filed kind.Attach name bytes s h n e =
     subst (λ m. made_if_missing name (s.files name) s.files m ≡ Some (bytes_or_none (s.files name)))
     (some_same name n e) (made_gives (s.files name) s.files name refl)
-stepped_filed kind.Read name bytes s h n e = h n e
-stepped_filed (kind.Write at) name bytes s h n e =
+call_filed kind.Read name bytes s h n e = h n e
+call_filed (kind.Write at) name bytes s h n e =
     ap (λ a. store_holding a (put_at at bytes s.disk.bytes) s.files n) e
     ∙ holds n (Some (put_at at bytes s.disk.bytes)) s.files
-stepped_filed kind.Sync name bytes s h n e = h n e
-stepped_filed kind.Take name bytes s h n e = h n e
-stepped_filed kind.End name bytes s h n e = h n e
-stepped_filed kind.Show name bytes s h n e = h n e
+call_filed kind.Sync name bytes s h n e = h n e
+call_filed kind.Take name bytes s h n e = h n e
+call_filed kind.End name bytes s h n e = h n e
+call_filed kind.Show name bytes s h n e = h n e
 
 -- Calls in order leave the store's bytes those of its file.
 later_filed : (s : Standing) (ds : List DoneCall) → IsFiled s → IsFiled (after s ds)
 later_filed s [] h = h
-later_filed s (d ∷ ds) h = later_filed (standing_after s d) ds (stepped_filed d.kind d.name d.bytes s h)
+later_filed s (d ∷ ds) h = later_filed (standing_after s d) ds (call_filed d.kind d.name d.bytes s h)
 
 -- After any calls the store's bytes are those of its file.
 pub after_filed : (ds : List DoneCall) → IsFiled (after fresh ds)
