@@ -149,12 +149,12 @@ impl Room {
         requires short { length self.old.piece ≤ PIECE_LIMIT }
         ensures value { self.new ≡ record self.old { slot = made_slot self.old.state self.old.piece } }
     {
-        let behind = SLOT_LENGTH - PIECE_AT - self.piece.len();
+        let after = SLOT_LENGTH - PIECE_AT - self.piece.len();
         self.slot.clear();
         self.add_head();
         self.add_zeros(BASE_AT - SLOT_VERSION_AT - 1);
         self.add_body();
-        self.add_zeros(behind);
+        self.add_zeros(after);
     }
 
     // Adds the first bytes of a slot with no change records.

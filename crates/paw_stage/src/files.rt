@@ -69,8 +69,8 @@ fn replace<F: OpenFile + Write + Seek>(
     length: u64,
     bytes: &[u8],
 ) -> Result<(), Failed> {
-    let (first, behind) = bytes.split_at(length.min(bytes.len() as u64) as usize);
-    if !behind.is_empty() && append(file, length, behind).is_err() {
+    let (first, after) = bytes.split_at(length.min(bytes.len() as u64) as usize);
+    if !after.is_empty() && append(file, length, after).is_err() {
         let _ = file.set_len(length);
         return Err(Failed);
     }
@@ -153,9 +153,9 @@ pub fn write_part<F: Write + Seek>(file: &mut F, at: u64, bytes: &[u8]) -> Resul
 /// it would end the program by a signal, and nothing could be answered. Where there is no limit, or the system doesn't
 /// give it, that is the greatest number.
 pub fn longest_file<R: Files>(rt: &R) -> u64 {
-    let mut told = [0; LIMITS_ROOM];
-    match fs::open(rt, LIMITS).and_then(|mut file| file.read(&mut told)) {
-        Ok(length) => file_size_in(&told[..length]).unwrap_or(u64::MAX),
+    let mut limits = [0; LIMITS_ROOM];
+    match fs::open(rt, LIMITS).and_then(|mut file| file.read(&mut limits)) {
+        Ok(length) => file_size_in(&limits[..length]).unwrap_or(u64::MAX),
         Err(_) => u64::MAX,
     }
 }

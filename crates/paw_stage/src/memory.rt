@@ -174,7 +174,7 @@ impl Stage for MemoryStage {
         ensures failed { result ≡ Err refusal.Failed → self.new ≡ failure_recorded call.Load self.old }
         ensures noted { OnOk result (self.new ≡ call_recorded (loaded_file name.now) self.old) }
         ensures absent { result ≡ Err refusal.Absent → self.new ≡ found_none name.now self.old }
-        ensures wanting { result ≡ Err refusal.Memory → self.new ≡ call_recorded (loaded_file name.now) self.old }
+        ensures lacking { result ≡ Err refusal.Memory → self.new ≡ call_recorded (loaded_file name.now) self.old }
     {
         if !self.log.add(CallKind::Load, name.as_bytes(), &[]) {
             self.counts.raise(StageCall::Load);

@@ -65,4 +65,4 @@ pub record ForwardsLoad {R : Type 0} (refuses : R → Bool) (later : R → R) (n
   pub below : result ≡ Err refusal.Failed → FailsBelow refuses later call.Load old new
   pub noted : OnOk result (new ≡ passed_on later (call_recorded (loaded_file name)) old)
   pub absent : result ≡ Err refusal.Absent → new ≡ passed_on later (found_none name) old
-  pub wanting : result ≡ Err refusal.Memory → new ≡ passed_on later (call_recorded (loaded_file name)) old
+  pub lacking : result ≡ Err refusal.Memory → new ≡ passed_on later (call_recorded (loaded_file name)) old
