@@ -74,17 +74,17 @@ impl<'a> Model for Rules<'a> {
     ghost use Rattle.paw_base.specs.declared.words.TheConstants.{VERB_CLASS, ADVERB_CLASS, NOUN_CLASS};
     ghost use Rattle.paw_base.specs.declared.words.TheConstants.{ADJECTIVE_CLASS, PREPOSITION_CLASS};
     ghost use Rattle.paw_game.specs.inner.Rules.{Declared};
-    ghost use Rattle.paw_game.specs.inner.Values.{Tells, counts_in};
+    ghost use Rattle.paw_game.specs.inner.Values.{AreValuesOf, counts_in};
 
     ghost Value = { Declared };
 
     ghost view = { λ r. record { counts = counts_in r.lengths; words = r.words.now } };
 
-    ghost invariant = { λ r. Tells r.verbs r.words.now VERB_CLASS
-        × Tells r.adverbs r.words.now ADVERB_CLASS
-        × Tells r.nouns r.words.now NOUN_CLASS
-        × Tells r.adjectives r.words.now ADJECTIVE_CLASS
-        × Tells r.prepositions r.words.now PREPOSITION_CLASS };
+    ghost invariant = { λ r. AreValuesOf r.verbs r.words.now VERB_CLASS
+        × AreValuesOf r.adverbs r.words.now ADVERB_CLASS
+        × AreValuesOf r.nouns r.words.now NOUN_CLASS
+        × AreValuesOf r.adjectives r.words.now ADJECTIVE_CLASS
+        × AreValuesOf r.prepositions r.words.now PREPOSITION_CLASS };
 }
 
 impl<'a> Rules<'a> {

@@ -4,7 +4,7 @@ ghost use Rattle.std.specs.Prelude.{◌≡◌, ◌||◌, ◌==◌, false};
 ghost use Rattle.std.specs.List.{slice_index_or};
 ghost use Rattle.paw_base.specs.declared.words.TheConstants.{NO_WORD};
 ghost use Rattle.paw_game.specs.Valid.{is_wildcard};
-ghost use Rattle.paw_game.specs.inner.Values.{Tells};
+ghost use Rattle.paw_game.specs.inner.Values.{AreValuesOf};
 
 use crate::parts::Word;
 use paw_base::words::{ANY_WORD, NO_WORD};
@@ -25,7 +25,7 @@ pub(crate) fn is_in_or_none(values: &[bool; 256], value: u8) -> bool
 
 /// Which values the words of a class have.
 pub(crate) fn values_of(words: &[Word], class: u8) -> [bool; 256]
-    ensures value { Tells result words.now class }
+    ensures value { AreValuesOf result words.now class }
 {
     let mut values = [false; 256];
     for word in words {

@@ -8,14 +8,14 @@ use Rattle.std.proofs.lemmas.List.{length-replicate, get_or-replicate, length-se
 use Rattle.std.proofs.lemmas.List.{take_more}
 use Rattle.paw_game.specs.declared.parts.Word.{Word}
 use Rattle.paw_print.specs.Lines.{first_word}
-use Rattle.paw_print.specs.inner.Words.{TellsFirst}
+use Rattle.paw_print.specs.inner.Words.{HasFirst}
 
 -- A word of this class with this value.
 abbrev pub means : ℕ → ℕ → Word → Bool
 means class value w = eqb w.class class && eqb w.value value
 
-pub TellsFirst-none : (ws : List Word) (class : ℕ) → TellsFirst (replicate 256 None) (take 0 ws) class
-TellsFirst-none ws class =
+pub HasFirst-none : (ws : List Word) (class : ℕ) → HasFirst (replicate 256 None) (take 0 ws) class
+HasFirst-none ws class =
     let nothing : Option Word = None in
     record {
       long = length-replicate 256 nothing;
@@ -48,9 +48,9 @@ first_word-more ws i d class value h =
     ap (λ (vs : List Word). first_word vs class value) (take_more ws i d h) ∙ first_word-push (take i ws) (get_or ws i d) class value
 
 -- A word of another class.
-pub TellsFirst-other : (table : List (Option Word)) (ws : List Word) (i : ℕ) (d : Word) (class : ℕ) → i < length ws → (get_or ws i d).class ≢ class
-    → TellsFirst table (take i ws) class → TellsFirst table (take (i + 1) ws) class
-TellsFirst-other table ws i d class h other tells =
+pub HasFirst-other : (table : List (Option Word)) (ws : List Word) (i : ℕ) (d : Word) (class : ℕ) → i < length ws → (get_or ws i d).class ≢ class
+    → HasFirst table (take i ws) class → HasFirst table (take (i + 1) ws) class
+HasFirst-other table ws i d class h other tells =
     let differs : eqb (get_or ws i d).class class ≡ false = ne_eqb (get_or ws i d).class class other in
     record {
       long = tells.long;
@@ -61,11 +61,11 @@ TellsFirst-other table ws i d class h other tells =
     }
 
 -- A word of the class.
-pub TellsFirst-more : (table : List (Option Word)) (ws : List Word) (i : ℕ) (d : Word) (class : ℕ)
+pub HasFirst-more : (table : List (Option Word)) (ws : List Word) (i : ℕ) (d : Word) (class : ℕ)
     → (get_or ws i d).value < 256 → i < length ws → (get_or ws i d).class ≡ class
-    → TellsFirst table (take i ws) class
-    → TellsFirst (set table (get_or ws i d).value (option_or (get_or table (get_or ws i d).value None) (Some (get_or ws i d)))) (take (i + 1) ws) class
-TellsFirst-more table ws i d class small h is tells =
+    → HasFirst table (take i ws) class
+    → HasFirst (set table (get_or ws i d).value (option_or (get_or table (get_or ws i d).value None) (Some (get_or ws i d)))) (take (i + 1) ws) class
+HasFirst-more table ws i d class small h is tells =
     let w : Word = get_or ws i d in
     let same : eqb w.class class ≡ true = eq-eqb w.class class is in
     let put : Option Word = option_or (get_or table w.value None) (Some w) in

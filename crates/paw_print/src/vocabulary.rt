@@ -7,7 +7,7 @@ ghost use Rattle.paw_base.specs.declared.words.TheConstants.{PREPOSITION_CLASS};
 ghost use Rattle.paw_print.specs.Lines.{class_name, spelled_letters, tokens_spaced};
 ghost use Rattle.paw_print.specs.Lines.{first_word, value_token, verb_token, word_token};
 ghost use Rattle.paw_print.specs.Canonical.{with_line_end, words_lines, with_line_ends};
-ghost use Rattle.paw_print.specs.inner.Words.{TellsFirst};
+ghost use Rattle.paw_print.specs.inner.Words.{HasFirst};
 
 use crate::rows::{Written, end_line, write_header, write_number, write_token};
 use paw_base::words::{
@@ -34,18 +34,18 @@ impl<'a> Model for WordsByValue<'a> {
     ghost use Rattle.paw_base.specs.declared.words.TheConstants.{VERB_CLASS, ADVERB_CLASS, NOUN_CLASS};
     ghost use Rattle.paw_base.specs.declared.words.TheConstants.{ADJECTIVE_CLASS, PREPOSITION_CLASS};
     ghost use Rattle.paw_game.specs.declared.parts.Word.{Word};
-    ghost use Rattle.paw_print.specs.inner.Words.{TellsFirst};
+    ghost use Rattle.paw_print.specs.inner.Words.{HasFirst};
 
     ghost Value = { List Word };
 
     ghost view = { λ v. v.words.now };
 
     ghost invariant = { λ v. record {
-      verbs_are : TellsFirst v.verbs v.words.now VERB_CLASS;
-      adverbs_are : TellsFirst v.adverbs v.words.now ADVERB_CLASS;
-      nouns_are : TellsFirst v.nouns v.words.now NOUN_CLASS;
-      adjectives_are : TellsFirst v.adjectives v.words.now ADJECTIVE_CLASS;
-      prepositions_are : TellsFirst v.prepositions v.words.now PREPOSITION_CLASS;
+      verbs_are : HasFirst v.verbs v.words.now VERB_CLASS;
+      adverbs_are : HasFirst v.adverbs v.words.now ADVERB_CLASS;
+      nouns_are : HasFirst v.nouns v.words.now NOUN_CLASS;
+      adjectives_are : HasFirst v.adjectives v.words.now ADJECTIVE_CLASS;
+      prepositions_are : HasFirst v.prepositions v.words.now PREPOSITION_CLASS;
     } };
 }
 
@@ -111,7 +111,7 @@ impl<'a> WordsByValue<'a> {
 
 // The first word of the class with each value.
 fn first_words(words: &[Word], class: u8) -> [Option<Word>; 256]
-    ensures value { TellsFirst result words.now class }
+    ensures value { HasFirst result words.now class }
 {
     let mut first = [None; 256];
     for word in words {

@@ -8,7 +8,7 @@ use Rattle.paw_game.specs.Game.{counts_with}
 use Rattle.paw_game.specs.Valid.{has_word}
 
 -- The table says for each value whether a word of the class has it.
-pub record Tells (table : List Bool) (ws : List Word) (class : ℕ) : Type 0 where
+pub record AreValuesOf (table : List Bool) (ws : List Word) (class : ℕ) : Type 0 where
   pub long : length table ≡ 256
   pub each : (value : ℕ) → value < 256 → slice_index_or table value false ≡ has_word ws class value
 
