@@ -100,10 +100,10 @@ condacts_walked d (suc n) bytes rest fits e =
 
 -- ---- lists that grow ----
 
-pub kept_before : {A : Type 0} (xs ys : List A) (k : ℕ) (x : A) → slice_get xs k ≡ Some x → slice_get (xs ++ ys) k ≡ Some x
-kept_before [] ys k x e = absurd (none-some x e)
-kept_before (y ∷ xs) ys zero x e = e
-kept_before (y ∷ xs) ys (suc k) x e = kept_before xs ys k x e
+pub same_before : {A : Type 0} (xs ys : List A) (k : ℕ) (x : A) → slice_get xs k ≡ Some x → slice_get (xs ++ ys) k ≡ Some x
+same_before [] ys k x e = absurd (none-some x e)
+same_before (y ∷ xs) ys zero x e = e
+same_before (y ∷ xs) ys (suc k) x e = same_before xs ys k x e
 
 pub before_it : {A : Type 0} (xs ys : List A) (k : ℕ) → k < length xs → slice_get (xs ++ ys) k ≡ slice_get xs k
 before_it [] ys k lt = absurd (omega arith)
@@ -133,7 +133,7 @@ one_more_milestone milestones condacts start eights milestone len so_far goes_on
     elim (cases_lt k eights) [
       | inl before ↦
           let m = so_far k before in
-          (m.0, kept_before milestones (milestone ∷ []) (start + k) m.0 m.1, m.2)
+          (m.0, same_before milestones (milestone ∷ []) (start + k) m.0 m.1, m.2)
       | inr le ↦
           let same : k ≡ eights = omega (arith, lt, le) in (
             milestone,
@@ -155,26 +155,26 @@ milestone_is d n bytes rest fits e =
     let walked = condacts_walked d n bytes rest fits e in
     walked.past ∙ ap (λ (r : Bytes). Ok r) (sym walked.end)
 
--- Milestones that are kept milestone the same entry.
-pub entry_kept : (first : ℕ) (milestones more : List ℕ) (bytes : Bytes) → BeginsWithList milestones more
+-- A longer list of milestones holds those of the same entry.
+pub entry_same : (first : ℕ) (milestones more : List ℕ) (bytes : Bytes) → BeginsWithList milestones more
     → EntryMilestones (drop first milestones) bytes → EntryMilestones (drop first more) bytes
-entry_kept first milestones more [] keeps h = tt
-entry_kept first milestones more (verb ∷ []) keeps h = tt
-entry_kept first milestones more (verb ∷ noun ∷ []) keeps h = tt
-entry_kept first milestones more (verb ∷ noun ∷ count ∷ condacts) keeps h = λ k lt.
+entry_same first milestones more [] extends h = tt
+entry_same first milestones more (verb ∷ []) extends h = tt
+entry_same first milestones more (verb ∷ noun ∷ []) extends h = tt
+entry_same first milestones more (verb ∷ noun ∷ count ∷ condacts) extends h = λ k lt.
     let m = h k lt in
-    (m.0, get_drop first more k ∙ keeps (first + k) m.0 (sym (get_drop first milestones k) ∙ m.1), m.2)
+    (m.0, get_drop first more k ∙ extends (first + k) m.0 (sym (get_drop first milestones k) ∙ m.1), m.2)
 
 pub one_more_entry : (all : Bytes) (offsets firsts milestones more : List ℕ) (p : ℕ) → length offsets ≡ length firsts
     → EntriesMilestones all offsets firsts milestones → BeginsWithList milestones more → EntryMilestones (drop (length milestones) more) (drop p all)
     → EntriesMilestones all (offsets ++ p ∷ []) (firsts ++ length milestones ∷ []) more
-one_more_entry all offsets firsts milestones more p same so_far keeps last e q found =
+one_more_entry all offsets firsts milestones more p same so_far extends last e q found =
     elim (cases_lt e (length offsets)) [
       | inl before ↦
           let first : get_or (firsts ++ length milestones ∷ []) e 0 ≡ get_or firsts e 0 =
           get_or_append_left firsts (length milestones ∷ []) 0 e (omega (arith, before, same)) in
           let there = sym (before_it offsets (p ∷ []) e before) ∙ found in
-          rw first (entry_kept (get_or firsts e 0) milestones more (drop q all) keeps (so_far e q there))
+          rw first (entry_same (get_or firsts e 0) milestones more (drop q all) extends (so_far e q there))
       | inr le ↦
           let within = slice_get_within (offsets ++ p ∷ []) e q found in
           let at : e ≡ length offsets = omega (arith, le, within, length-append offsets (p ∷ [])) in

@@ -13,7 +13,7 @@ use Rattle.paw_image.specs.inner.Reading.{sized_text_at, object_at, exits_at}
 use Rattle.paw_image.proofs.FieldLaws.{IsBytes, Takes, at_ok, bind_then, follows_ok, number_takes}
 use Rattle.paw_image.proofs.ListLaws.{TakesRow}
 use Rattle.paw_image.proofs.RowLaws.{text_takes, object_takes, exits_take, entry_takes, table_takes}
-use Rattle.paw_image.proofs.SoundRows.{text_sound, object_sound, exits_sound, entry_sound, table_placed}
+use Rattle.paw_image.proofs.SoundRows.{text_sound, object_sound, exits_sound, entry_sound, table_begins}
 use Rattle.paw_image.proofs.Stands.{SoundRow, each_sound, taken_length}
 
 -- ---- the last of all bytes ----
@@ -70,7 +70,7 @@ module _ (all bytes rest : Bytes) (fits : IsBytes all) (end : IsEnd all bytes) w
   pub table_end : (d : ImagePreface) → after_table d bytes ≡ Ok rest → IsEnd all rest
   table_end d e =
       let here = end_fits all bytes fits end in
-      let table = table_placed d bytes rest here e in
+      let table = table_begins d bytes rest here e in
       end_of_end all bytes rest end (end_taken bytes (table_image table.value) rest (table_takes bytes (table.value, rest) here table.reads))
 
   pub within_end : (least most n : ℕ) → checked_number least most bytes ≡ Ok (n, rest) → IsEnd all rest

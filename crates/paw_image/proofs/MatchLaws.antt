@@ -52,8 +52,8 @@ indexed_is_for word flag =
 
 -- ---- ranks ----
 
-byte_at_place : (bytes front rest : Bytes) (at k : ℕ) → drop at bytes ≡ front ++ rest → get_or bytes (at + k) 0 ≡ get_or (front ++ rest) k 0
-byte_at_place bytes front rest at k e = sym (get_or-drop at bytes k 0) ∙ ap (λ (l : Bytes). get_or l k 0) e
+byte_at_offset : (bytes front rest : Bytes) (at k : ℕ) → drop at bytes ≡ front ++ rest → get_or bytes (at + k) 0 ≡ get_or (front ++ rest) k 0
+byte_at_offset bytes front rest at k e = sym (get_or-drop at bytes k 0) ∙ ap (λ (l : Bytes). get_or l k 0) e
 
 module _ (bytes rest : Bytes) (x : Entry) (xs : List Entry) (at : ℕ) (e : drop at bytes ≡ flat_map entry_image (x ∷ xs) ++ rest) where
   others : Bytes
@@ -64,10 +64,10 @@ module _ (bytes rest : Bytes) (x : Entry) (xs : List Entry) (at : ℕ) (e : drop
   entry_first = e ∙ append_assoc (entry_image x) (flat_map entry_image xs) rest
 
   verb_there : get_or bytes at 0 ≡ x.verb
-  verb_there = ap (λ (i : ℕ). get_or bytes i 0) (sym (add-zero at)) ∙ byte_at_place bytes (entry_image x) others at 0 entry_first
+  verb_there = ap (λ (i : ℕ). get_or bytes i 0) (sym (add-zero at)) ∙ byte_at_offset bytes (entry_image x) others at 0 entry_first
 
   noun_there : get_or bytes (at + 1) 0 ≡ x.noun
-  noun_there = byte_at_place bytes (entry_image x) others at 1 entry_first
+  noun_there = byte_at_offset bytes (entry_image x) others at 1 entry_first
 
   others_next : drop (at + length (entry_image x)) bytes ≡ flat_map entry_image xs ++ rest
   unfolding others

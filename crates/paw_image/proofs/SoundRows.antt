@@ -235,15 +235,15 @@ entry_sound d bytes rest fits e =
     })))
 
 -- A table, with where its entries begin.
-pub record TablePlaced (d : ImagePreface) (bytes rest : Bytes) : Type 0 where
+pub record TableBegins (d : ImagePreface) (bytes rest : Bytes) : Type 0 where
   pub value : List Entry
   pub reads : leading_table bytes ≡ Ok (value, rest)
   pub follows : table_follows d value ≡ true
   pub begin : (total start : ℕ) → start + length bytes ≡ total → entries_begin d total bytes ≡ offsets entry_image (start + 2) value
 
-pub table_placed : (d : ImagePreface) (bytes rest : Bytes) → IsBytes bytes → after_table d bytes ≡ Ok rest → TablePlaced d bytes rest
+pub table_begins : (d : ImagePreface) (bytes rest : Bytes) → IsBytes bytes → after_table d bytes ≡ Ok rest → TableBegins d bytes rest
 unfolding after_table leading_table entries_begin
-table_placed d bytes rest fits e =
+table_begins d bytes rest fits e =
     follows_then _ (is_within 0 ENTRY_LIMIT) number_at bytes _ rest e (λ count count_ok count_follows e.
     let count_taken = number_takes bytes count fits count_ok in
     let rows = each_sound (after_entry d) leading_entry entry_image (entry_follows d) entry_takes (entry_sound d) count.0 count.1 rest count_taken.0.rest_fits e
@@ -259,26 +259,26 @@ table_placed d bytes rest fits e =
     })
 
 -- Tables, with where their entries begin.
-pub record TablesPlaced (d : ImagePreface) (n : ℕ) (bytes rest : Bytes) : Type 0 where
+pub record TablesBegin (d : ImagePreface) (n : ℕ) (bytes rest : Bytes) : Type 0 where
   pub value : List (List Entry)
   pub reads : leading_rows leading_table n bytes ≡ Ok (value, rest)
   pub follows : list_all (table_follows d) value ≡ true
   pub begin : (total start : ℕ) → start + length bytes ≡ total → tables_begin d total n bytes ≡ entry_offsets start value
 
-pub tables_placed : (d : ImagePreface) (n : ℕ) (bytes rest : Bytes) → IsBytes bytes → each (after_table d) n bytes ≡ Ok rest → TablesPlaced d n bytes rest
+pub each_table_begins : (d : ImagePreface) (n : ℕ) (bytes rest : Bytes) → IsBytes bytes → each (after_table d) n bytes ≡ Ok rest → TablesBegin d n bytes rest
 unfolding each leading_rows tables_begin
-tables_placed d zero bytes rest fits e =
+each_table_begins d zero bytes rest fits e =
     record {
       value = [];
       reads = at_ok (λ (r : Bytes). leading_rows leading_table 0 bytes ≡ Ok ([], r)) bytes rest e refl;
       follows = refl;
       begin = λ total start h. refl;
     }
-tables_placed d (suc n) bytes rest fits e =
+each_table_begins d (suc n) bytes rest fits e =
     bind_then _ (after_table d bytes) _ rest e (λ after after_ok e.
-    let first = table_placed d bytes after fits after_ok in
+    let first = table_begins d bytes after fits after_ok in
     let taken = table_takes bytes (first.value, after) fits first.reads in
-    let others = tables_placed d n after rest taken.rest_fits e in
+    let others = each_table_begins d n after rest taken.rest_fits e in
     record {
       value = first.value ∷ others.value;
       reads = rw (first.reads, others.reads) refl;

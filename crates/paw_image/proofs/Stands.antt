@@ -59,7 +59,7 @@ pub taken_ends : (bytes text rest : Bytes) (total start : ℕ) → Takes bytes t
 taken_ends bytes text rest total start t h = omega (arith, h, taken_length bytes text rest t)
 
 -- These n rows follow the rule and stand there, with where they begin in the last of `total` bytes.
-pub record Placed {A : Type 0} (pass : Bytes → Passing) (image : A → Bytes) (n : ℕ) (bytes : Bytes)
+pub record Begins {A : Type 0} (pass : Bytes → Passing) (image : A → Bytes) (n : ℕ) (bytes : Bytes)
     (reading : Reading (List A)) (rule : A → Bool) (rest : Bytes) : Type 0 where
   pub value : List A
   pub reads : reading ≡ Ok (value, rest)
@@ -70,7 +70,7 @@ pub record Placed {A : Type 0} (pass : Bytes → Passing) (image : A → Bytes) 
 
 pub each_sound : {A : Type 0} (pass : Bytes → Passing) (row : Bytes → Reading A) (image : A → Bytes)
     (rule : A → Bool) → TakesRow row image → SoundRow pass row rule → (n : ℕ) (bytes rest : Bytes) → IsBytes bytes
-    → each pass n bytes ≡ Ok rest → Placed pass image n bytes (leading_rows row n bytes) rule rest
+    → each pass n bytes ≡ Ok rest → Begins pass image n bytes (leading_rows row n bytes) rule rest
 unfolding each leading_rows begins
 each_sound {A} pass row image rule takes sound zero bytes rest fits e =
     let same : bytes ≡ rest = at_ok (λ (t : Bytes). bytes ≡ t) bytes rest e refl in

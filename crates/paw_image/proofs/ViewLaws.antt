@@ -116,24 +116,24 @@ entry_fits bytes is t k e h =
     in_table (slice_get (game_read bytes).tables t)
     (λ es found. all_at FitsTable (game_read bytes).tables t es (fits_of bytes is).tables found) k e h
 
-pub entry_at_place : (bytes : Bytes) → IsImage bytes (game_read bytes) → (t k p : ℕ)
+pub entry_at_offset : (bytes : Bytes) → IsImage bytes (game_read bytes) → (t k p : ℕ)
     → slice_get (unwrap_or (slice_get (entry_offsets (tables_begin_at (game_read bytes)) (game_read bytes).tables) t) []) k
     ≡ Some p
     → RowAt entry_image bytes (entry_at (game_read bytes) t k) p
-entry_at_place bytes is t k p h = entry_lies bytes (game_read bytes) (lists_of bytes is) t k p h
+entry_at_offset bytes is t k p h = entry_lies bytes (game_read bytes) (lists_of bytes is) t k p h
 
 pub head_read : (bytes : Bytes) → IsImage bytes (game_read bytes) → (t k p : ℕ)
     → slice_get (unwrap_or (slice_get (entry_offsets (tables_begin_at (game_read bytes)) (game_read bytes).tables) t) []) k
     ≡ Some p
     → option_map {U = ℕ × ℕ} (λ (x : (ℕ × ℕ) × ℕ). x.0) (head_here (drop p bytes)) ≡ head_at (game_read bytes) t k
-head_read bytes is t k p h = let r = entry_at_place bytes is t k p h in rw (r.lies, r.is, head_there r.row r.after) refl
+head_read bytes is t k p h = let r = entry_at_offset bytes is t k p h in rw (r.lies, r.is, head_there r.row r.after) refl
 
 pub counts_read : (bytes : Bytes) → IsImage bytes (game_read bytes) → (t k p : ℕ)
     → slice_get (unwrap_or (slice_get (entry_offsets (tables_begin_at (game_read bytes)) (game_read bytes).tables) t) []) k
     ≡ Some p
     → HeadCounts bytes t k p
 counts_read bytes is t k p h =
-    let r = entry_at_place bytes is t k p h in
+    let r = entry_at_offset bytes is t k p h in
     ((r.row.verb, r.row.noun), rw (r.lies, r.is) (head_there r.row r.after))
 
 pub condact_read : (bytes : Bytes) → IsImage bytes (game_read bytes) → (t k p at : ℕ)
@@ -141,7 +141,7 @@ pub condact_read : (bytes : Bytes) → IsImage bytes (game_read bytes) → (t k 
     ≡ Some p
     → nth_condact at (drop p bytes) ≡ condact_at (game_read bytes) t k at
 condact_read bytes is t k p at h =
-    let r = entry_at_place bytes is t k p h in
+    let r = entry_at_offset bytes is t k p h in
     rw (r.lies, r.is) (condact_there r.row r.after at (entry_fits bytes is t k r.row r.is))
 
 pub entry_read : (bytes : Bytes) → IsImage bytes (game_read bytes) → (t k p : ℕ)
@@ -149,7 +149,7 @@ pub entry_read : (bytes : Bytes) → IsImage bytes (game_read bytes) → (t k p 
     ≡ Some p
     → entry_here (drop p bytes) ≡ option_map entry_image (entry_at (game_read bytes) t k)
 entry_read bytes is t k p h =
-    let r = entry_at_place bytes is t k p h in
+    let r = entry_at_offset bytes is t k p h in
     rw (r.lies, r.is) (entry_bytes_there r.row r.after (entry_fits bytes is t k r.row r.is))
 
 pub no_entry_read : (bytes : Bytes) (t k : ℕ)

@@ -35,7 +35,7 @@ use Rattle.paw_image.proofs.GameLaws.{from_messages, from_objects, from_location
 use Rattle.paw_image.proofs.GameLaws.{lists_image, lists_take, image_is, ended, all_takes}
 use Rattle.paw_image.proofs.HeadLaws.{AreFew, front_image, front_length, Fronted, front_takes, front_passes}
 use Rattle.paw_image.proofs.Stands.{and_true, each_sound, each_passes, taken_length, taken_ends}
-use Rattle.paw_image.proofs.SoundRows.{declared_as, text_sound, object_sound, exits_sound, tables_placed, table_follows}
+use Rattle.paw_image.proofs.SoundRows.{declared_as, text_sound, object_sound, exits_sound, each_table_begins, table_follows}
 use Rattle.paw_image.proofs.VersionLaws.{tables_valid, tables_stop, needed_by, needed_byte, needed_follows, is_needed}
 use Rattle.paw_image.proofs.VersionLaws.{right_version}
 use Rattle.paw_image.proofs.PassRows.{text_passes, object_passes, exits_pass, table_passes}
@@ -93,7 +93,7 @@ lists_sound d bytes rest fits e =
     let exits =
     each_sound (after_exits d) exits_at exits_image (exits_are_valid d.words c.locations) exits_take (exits_sound d)
     c.locations at_exits at_tables locations.taken.rest_fits exits_ok in
-    let tables = tables_placed d c.tables at_tables rest exits.taken.rest_fits e in
+    let tables = each_table_begins d c.tables at_tables rest exits.taken.rest_fits e in
     record {
       game = record {
         words = d.words;

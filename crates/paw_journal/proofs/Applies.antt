@@ -37,13 +37,13 @@ unsound_here all old number a b c d rest now h e =
     sym (first_is (changes all) ∙ (h.unsound
     ∙ ap (λ t. if not t then Some number else position_from (λ c. not (is_sound c)) (number + 1) (changes rest)) e))
 
-pub unsound_place : (all old : Bytes) (number : ℕ) (rest now : Bytes) → Applies all old number rest now →
+pub unsound_offset : (all old : Bytes) (number : ℕ) (rest now : Bytes) → Applies all old number rest now →
     4 ≤ length rest → base_length ≤ get_or rest 0 0 + 256 * get_or rest 1 0 → Some number ≡ first_unsound (changes all)
-unsound_place all old number (a ∷ b ∷ c ∷ d ∷ rest) now h low e = unsound_here all old number a b c d rest now h (grind (arith, nat_tests))
-unsound_place all old number [] now h low e = absurd (omega arith)
-unsound_place all old number (a ∷ []) now h low e = absurd (omega arith)
-unsound_place all old number (a ∷ b ∷ []) now h low e = absurd (omega arith)
-unsound_place all old number (a ∷ b ∷ c ∷ []) now h low e = absurd (omega arith)
+unsound_offset all old number (a ∷ b ∷ c ∷ d ∷ rest) now h low e = unsound_here all old number a b c d rest now h (grind (arith, nat_tests))
+unsound_offset all old number [] now h low e = absurd (omega arith)
+unsound_offset all old number (a ∷ []) now h low e = absurd (omega arith)
+unsound_offset all old number (a ∷ b ∷ []) now h low e = absurd (omega arith)
+unsound_offset all old number (a ∷ b ∷ c ∷ []) now h low e = absurd (omega arith)
 
 pub unsound_last : (all old : Bytes) (number : ℕ) (rest now : Bytes) → Applies all old number rest now →
     4 ≤ length rest → get_or rest 3 0 ≢ 0 → Some number ≡ first_unsound (changes all)

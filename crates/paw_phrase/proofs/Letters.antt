@@ -40,9 +40,9 @@ five_letters-cut run letter h =
     let none : WORD_LENGTH - length (run ++ letter ∷ []) ≡ WORD_LENGTH - length run = omega (arith, length-append run (letter ∷ [])) in
     rw (cut, none) refl
 
-pub letter_kept : (bytes : Bytes) (n : ℕ) → n < length bytes → n < WORD_LENGTH
+pub letter_copied : (bytes : Bytes) (n : ℕ) → n < length bytes → n < WORD_LENGTH
     → set (five_letters (letters_of n bytes)) n (to_ascii_uppercase (get_or bytes n 0)) ≡ five_letters (letters_of (n + 1) bytes)
-letter_kept bytes n h five =
+letter_copied bytes n h five =
     let run = letters_of n bytes in
     let letter = to_ascii_uppercase (get_or bytes n 0) in
     let long : length run ≡ n = length-letters_of n bytes (omega arith) in

@@ -7,7 +7,7 @@ use Rattle.std.proofs.lemmas.List.{get_or-drop}
 use Rattle.paw_base.specs.Bytes.{Letters, Bytes}
 use Rattle.paw_base.specs.declared.limits.TheConstants.{WORD_LENGTH}
 use Rattle.paw_phrase.specs.Phrase.{is_separator, five_letters, lexemes_from, lexemes}
-use Rattle.paw_phrase.proofs.Letters.{letters_of, letters_of-suc, length-letters_of, letter_kept, letter_cut}
+use Rattle.paw_phrase.proofs.Letters.{letters_of, letters_of-suc, length-letters_of, letter_copied, letter_cut}
 
 -- A byte of a token belongs to the token that has begun.
 lexemes_from-more : (s : Bytes) (n : ℕ) → n < length s → is_ascii_alphanumeric (get_or s n 0) ≡ true
@@ -29,11 +29,11 @@ lexemes_from-end (b ∷ bs) (c ∷ cs) begun ends = let other : is_ascii_alphanu
 abbrev pub IsToken : Bytes → ℕ → Letters → Type 0
 IsToken s n letters = (lexemes s ≡ lexemes_from (letters_of n s) (drop n s)) × (letters ≡ five_letters (letters_of n s))
 
-pub kept : (s : Bytes) (n : ℕ) (letters : Letters) → IsToken s n letters → n < length s → is_ascii_alphanumeric (get_or s n 0) ≡ true → n < WORD_LENGTH
+pub letter_taken : (s : Bytes) (n : ℕ) (letters : Letters) → IsToken s n letters → n < length s → is_ascii_alphanumeric (get_or s n 0) ≡ true → n < WORD_LENGTH
     → IsToken s (n + 1) (set letters n (to_ascii_uppercase (get_or s n 0)))
-kept s n letters so_far h token five = (
+letter_taken s n letters so_far h token five = (
   so_far.0 ∙ lexemes_from-more s n h token,
-  ap (λ l. set l n (to_ascii_uppercase (get_or s n 0))) so_far.1 ∙ letter_kept s n h five,
+  ap (λ l. set l n (to_ascii_uppercase (get_or s n 0))) so_far.1 ∙ letter_copied s n h five,
 )
 
 pub cut : (s : Bytes) (n : ℕ) (letters : Letters) → IsToken s n letters → n < length s → is_ascii_alphanumeric (get_or s n 0) ≡ true → WORD_LENGTH ≤ n

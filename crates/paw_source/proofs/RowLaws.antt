@@ -77,8 +77,8 @@ shares_more x y (z ∷ zs) h e =
       | false ↦ λ f. shares_more x y zs f e
     ] h
 
-turned : (a b : ℕ) → eqb a b ≡ false → eqb b a ≡ false
-turned a b h = grind (arith, nat_tests)
+not_equal_back : (a b : ℕ) → eqb a b ≡ false → eqb b a ≡ false
+not_equal_back a b h = grind (arith, nat_tests)
 
 exits_more : (ws : List Word) (locations : ℕ) (xs : List Exit) (x : Exit) → are_exits ws locations xs ≡ true
     → has_exit x.verb xs ≡ false → is_verb_value ws x.verb ≡ true → nat_lt x.to locations ≡ true
@@ -92,7 +92,7 @@ exits_more ws locations (y ∷ ys) x kept none verb to =
       | true ↦ λ e f. absurd cc
       | false ↦ λ e f.
           let alone : shares y ys ≡ false = elim (shares y ys) as (λ b. not b ≡ true → b ≡ false) [ true ↦ λ g. absurd cc | false ↦ λ g. refl ] r.1 in
-          rw (q.0, r.0, shares_more y x ys alone (turned y.verb x.verb e)) (exits_more ws locations ys x p.1 f verb to)
+          rw (q.0, r.0, shares_more y x ys alone (not_equal_back y.verb x.verb e)) (exits_more ws locations ys x p.1 f verb to)
     ] refl none
 
 -- No two exits of a location have the same verb.
@@ -103,7 +103,7 @@ verbs_apart ws locations v (x ∷ xs) h =
     elim (eqb x.verb v) as (λ b. eqb x.verb v ≡ b → (b || list_any (λ y. eqb y.verb v) xs) ≡ false
     → AllByRecursion (λ y. eqb v y ≡ false) (map (λ (x : Exit). x.verb) (x ∷ xs))) [
       | true ↦ λ e f. absurd cc
-      | false ↦ λ e f. (turned x.verb v e, verbs_apart ws locations v xs f)
+      | false ↦ λ e f. (not_equal_back x.verb v e, verbs_apart ws locations v xs f)
     ] refl h
 
 verbs_distinct : (ws : List Word) (locations : ℕ) (xs : List Exit) → are_exits ws locations xs ≡ true → IsDistinct eqb (map (λ (x : Exit). x.verb) xs)

@@ -18,11 +18,11 @@ use Rattle.paw_stage.specs.declared.log.CallKind.TheVariants as kind
 use Rattle.paw_stage.specs.declared.replay.Store.{Store}
 use Rattle.paw_stage.proofs.Logs.{after-push}
 
-or_turned : (a b : Bool) → (a || b) ≡ (b || a)
-or_turned true true = refl
-or_turned true false = refl
-or_turned false true = refl
-or_turned false false = refl
+or_swapped : (a b : Bool) → (a || b) ≡ (b || a)
+or_swapped true true = refl
+or_swapped true false = refl
+or_swapped false true = refl
+or_swapped false false = refl
 
 or_false : (a : Bool) → (a || false) ≡ a
 or_false true = refl
@@ -39,12 +39,12 @@ is_written-push (x ∷ ds) d i =
     ∙ or_grouped (writes x.kind (length x.bytes) i) (is_written ds i) (writes d.kind (length d.bytes) i)
 
 -- A call that neither attaches nor syncs.
-kept_store : (ds : List DoneCall) (d : DoneCall) (name : Name) (n : ℕ) → IsStore ds name n →
+same_store : (ds : List DoneCall) (d : DoneCall) (name : Name) (n : ℕ) → IsStore ds name n →
     (standing_after (after fresh ds) d).attached ≡ (after fresh ds).attached →
     (standing_after (after fresh ds) d).disk.synced ≡ (after fresh ds).disk.synced
     → ((i : ℕ) → is_dirty (standing_after (after fresh ds) d).disk.dirty i
     ≡ (writes d.kind (length d.bytes) i || is_dirty (after fresh ds).disk.dirty i)) → IsStore (ds ++ d ∷ []) name n
-kept_store ds d name n h ea es ed =
+same_store ds d name n h ea es ed =
     let last : after fresh (ds ++ d ∷ []) ≡ standing_after (after fresh ds) d = after-push fresh ds d in
     let front : take n (ds ++ d ∷ []) ≡ take n ds = take-append-le n ds (d ∷ []) h.within in
     let back : drop n (ds ++ d ∷ []) ≡ drop n ds ++ d ∷ [] = drop-append-le n ds (d ∷ []) h.within in
@@ -55,7 +55,7 @@ kept_store ds d name n h ea es ed =
       synced = ap (λ l. (after fresh l).disk.bytes) front ∙ (h.synced ∙ sym (ap (λ (s : Standing). s.disk.synced) last ∙ es));
       dirty = λ i.
           ap (λ (s : Standing). is_dirty s.disk.dirty i) last ∙ (ed i ∙ (ap (λ b. writes d.kind (length d.bytes) i || b) (h.dirty i)
-          ∙ (or_turned (writes d.kind (length d.bytes) i) (is_written (drop n ds) i)
+          ∙ (or_swapped (writes d.kind (length d.bytes) i) (is_written (drop n ds) i)
           ∙ (sym (is_written-push (drop n ds) d i) ∙ sym (ap (λ l. is_written l i) back)))));
     }
 
@@ -91,28 +91,28 @@ IsQuiet kind.Attach = ⊥
 IsQuiet kind.Sync = ⊥
 IsQuiet _ = Unit {0}
 
-kept_finds : (room : Bytes) (ds : List DoneCall) (d : DoneCall) (store : Option Store) → FindsStore room ds store →
+same_finds : (room : Bytes) (ds : List DoneCall) (d : DoneCall) (store : Option Store) → FindsStore room ds store →
     (standing_after (after fresh ds) d).attached ≡ (after fresh ds).attached →
     (standing_after (after fresh ds) d).disk.synced ≡ (after fresh ds).disk.synced
     → ((i : ℕ) → is_dirty (standing_after (after fresh ds) d).disk.dirty i
     ≡ (writes d.kind (length d.bytes) i || is_dirty (after fresh ds).disk.dirty i)) →
     FindsStore room (ds ++ d ∷ []) store
-kept_finds room ds d None h ea es ed = ap (λ (s : Standing). s.attached) (after-push fresh ds d) ∙ (ea ∙ h)
-kept_finds room ds d (Some store) h ea es ed = (h.0, kept_store ds d _ store.synced h.1 ea es ed)
+same_finds room ds d None h ea es ed = ap (λ (s : Standing). s.attached) (after-push fresh ds d) ∙ (ea ∙ h)
+same_finds room ds d (Some store) h ea es ed = (h.0, same_store ds d _ store.synced h.1 ea es ed)
 
 pub quiet_finds : (room : Bytes) (ds : List DoneCall) (k : CallKind) (name bytes : Bytes) (store : Option Store) → IsQuiet k →
     FindsStore room ds store → FindsStore room (ds ++ record { kind = k; name = name; bytes = bytes } ∷ []) store
 quiet_finds room ds kind.Add name bytes store q h = absurd q
-quiet_finds room ds kind.Load name bytes store q h = kept_finds room ds (record { kind = kind.Load; name = name; bytes = bytes }) store h refl refl (λ i. refl)
+quiet_finds room ds kind.Load name bytes store q h = same_finds room ds (record { kind = kind.Load; name = name; bytes = bytes }) store h refl refl (λ i. refl)
 quiet_finds room ds kind.Save name bytes store q h = absurd q
 quiet_finds room ds kind.Attach name bytes store q h = absurd q
-quiet_finds room ds kind.Read name bytes store q h = kept_finds room ds (record { kind = kind.Read; name = name; bytes = bytes }) store h refl refl (λ i. refl)
+quiet_finds room ds kind.Read name bytes store q h = same_finds room ds (record { kind = kind.Read; name = name; bytes = bytes }) store h refl refl (λ i. refl)
 quiet_finds room ds (kind.Write at) name bytes store q h =
-    kept_finds room ds (record { kind = kind.Write at; name = name; bytes = bytes }) store h refl refl (λ i. refl)
+    same_finds room ds (record { kind = kind.Write at; name = name; bytes = bytes }) store h refl refl (λ i. refl)
 quiet_finds room ds kind.Sync name bytes store q h = absurd q
-quiet_finds room ds kind.Take name bytes store q h = kept_finds room ds (record { kind = kind.Take; name = name; bytes = bytes }) store h refl refl (λ i. refl)
-quiet_finds room ds kind.End name bytes store q h = kept_finds room ds (record { kind = kind.End; name = name; bytes = bytes }) store h refl refl (λ i. refl)
-quiet_finds room ds kind.Show name bytes store q h = kept_finds room ds (record { kind = kind.Show; name = name; bytes = bytes }) store h refl refl (λ i. refl)
+quiet_finds room ds kind.Take name bytes store q h = same_finds room ds (record { kind = kind.Take; name = name; bytes = bytes }) store h refl refl (λ i. refl)
+quiet_finds room ds kind.End name bytes store q h = same_finds room ds (record { kind = kind.End; name = name; bytes = bytes }) store h refl refl (λ i. refl)
+quiet_finds room ds kind.Show name bytes store q h = same_finds room ds (record { kind = kind.Show; name = name; bytes = bytes }) store h refl refl (λ i. refl)
 
 -- So does a call that lies in this room.
 pub quiet_call_finds : (room : Bytes) (ds : List DoneCall) (call : Call) (store : Option Store) → IsQuiet call.kind → FindsStore room ds store
@@ -162,9 +162,9 @@ saved_other ds k name other bytes n w ne h =
     let dirty = λ (i : ℕ). ap (λ (d : Disk). is_dirty d.dirty i) disk in
     elim w [
       | inl e ↦ subst (λ x. IsStore (ds ++ record { kind = x; name = other; bytes = bytes } ∷ []) name n) (sym e)
-          (kept_store ds (record { kind = kind.Add; name = other; bytes = bytes }) name n h refl synced dirty)
+          (same_store ds (record { kind = kind.Add; name = other; bytes = bytes }) name n h refl synced dirty)
       | inr e ↦ subst (λ x. IsStore (ds ++ record { kind = x; name = other; bytes = bytes } ∷ []) name n) (sym e)
-          (kept_store ds (record { kind = kind.Save; name = other; bytes = bytes }) name n h refl synced dirty)
+          (same_store ds (record { kind = kind.Save; name = other; bytes = bytes }) name n h refl synced dirty)
     ]
 
 -- No store is attached by saving.

@@ -41,16 +41,16 @@ broken_at text bytes (at ∷ choice) n broken spaces =
     rw count (broken_at text (set bytes at line_feed) choice (suc n) (broken_once text bytes n at broken spaces.0) spaces.1)
 
 -- The first word of a text stands in the first line of what was broken.
-word_kept : (text bytes : Bytes) (n : ℕ) → Broken text bytes n → word_length text ≤ length (first_line (lines bytes))
-word_kept [] bytes n broken = omega arith
-word_kept (b ∷ bs) [] n broken = absurd broken
-word_kept (b ∷ bs) (c ∷ cs) n broken =
+word_whole : (text bytes : Bytes) (n : ℕ) → Broken text bytes n → word_length text ≤ length (first_line (lines bytes))
+word_whole [] bytes n broken = omega arith
+word_whole (b ∷ bs) [] n broken = absurd broken
+word_whole (b ∷ bs) (c ∷ cs) n broken =
     elim (word_length-cons b bs) as (λ _. word_length (b ∷ bs) ≤ length (first_line (lines (c ∷ cs)))) [
       | inl none ↦ rw none (omega arith)
       | inr word ↦ elim broken as (λ _. word_length (b ∷ bs) ≤ length (first_line (lines (c ∷ cs)))) [
         | inl same ↦
             let line : lines (c ∷ cs) ≡ onto_first c (lines cs) = lines-other c cs (ap (λ x. eqb x line_feed) (sym same.0) ∙ word.1) in
-            rw (word.2, line, first_line-onto c (lines cs)) (omega (arith, word_kept bs cs n same.1))
+            rw (word.2, line, first_line-onto c (lines cs)) (omega (arith, word_whole bs cs n same.1))
         | inr other ↦ absurd (let never : eqb b space ≡ true = ap (λ x. eqb x space) other.2 in cc)
       ]
     ]
@@ -78,7 +78,7 @@ too_long : (w before other c n : ℕ) (bs cs : Bytes) → eqb c line_feed ≡ fa
 too_long w before other c n bs cs e f begun long broken fit =
     let size : length (first_line (lines (c ∷ cs))) ≡ suc (length (first_line (lines cs))) = ap length (first_line-other c cs e) in
     let some : has_space (first_line (lines (c ∷ cs))) ≡ true = ap has_space (first_line-other c cs e) ∙ rw f refl in
-    omega (arith, size, fit.first some, word_kept bs cs n broken)
+    omega (arith, size, fit.first some, word_whole bs cs n broken)
 
 -- The lines of the other choice fit. Its line began no later than first fit's, or it has a break in first fit's line.
 fewest : (w at before other ahead n : ℕ) (text bytes : Bytes) → Broken text bytes n → (before ≤ other) ⊎ (1 ≤ ahead)

@@ -2,7 +2,7 @@ use Rattle.std.proofs.Common.{◌≡◌, ℕ, suc, ◌+◌, ◌-◌, ◌*◌, �
 use Rattle.std.proofs.lemmas.List.{length-append}
 use Rattle.std.proofs.lemmas.Result.{err_from_is_err_and}
 use Rattle.paw_image.specs.Damage.{each, after_condact}
-use Rattle.paw_image.proofs.CondactLaws.{each_none, each_more, eights_fail, milestone_small, milestone_is, kept_before}
+use Rattle.paw_image.proofs.CondactLaws.{each_none, each_more, eights_fail, milestone_small, milestone_is, same_before}
 use Rattle.paw_image.proofs.CondactLaws.{MilestonesSoFar, one_more_milestone, all_milestones, on_ok}
 use Rattle.paw_image.proofs.milestones.pass_condacts.Goals as goal
 
@@ -49,7 +49,7 @@ loop-preserved c =
       marked = rw (items, c.saturating_sub.ensures)
           (one_more_milestone milestones bytes (length c.args.milestones.now.items) i (length bytes - length rest)
           c.loop.invariant.long c.loop.invariant.marked goes_on);
-      kept = λ k x e. rw items (kept_before milestones (c.saturating_sub.result ∷ []) k x (c.loop.invariant.kept k x e));
+      kept = λ k x e. rw items (same_before milestones (c.saturating_sub.result ∷ []) k x (c.loop.invariant.kept k x e));
     }
 
 pub returns-clause-gives : goal.returns-clause-gives

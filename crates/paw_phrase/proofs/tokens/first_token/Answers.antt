@@ -1,5 +1,5 @@
 use Rattle.std.proofs.Common.{◌≡◌, ◌+◌, length, set, sym, ap, subst, ◌∙◌, arith}
-use Rattle.paw_phrase.proofs.Lexemes.{IsToken, kept, cut, lexemes-token}
+use Rattle.paw_phrase.proofs.Lexemes.{IsToken, letter_taken, cut, lexemes-token}
 use Rattle.paw_phrase.proofs.tokens.first_token.Goals as goal
 use Rattle.paw_phrase.proofs.tokens.first_token.Goals.{then-i-lt-WORD_LENGTH, else-i-lt-WORD_LENGTH}
 
@@ -15,7 +15,7 @@ loop-i-preserved c =
     elim c.if-i-lt-WORD_LENGTH.branch [
       | then-i-lt-WORD_LENGTH w ↦
           subst (IsToken s (c.loop-i.i + 1)) (sym (w.letters-is ∙ ap (set c.loop-i.letters c.loop-i.i) c.in-Some.ensures.some.1))
-          (kept s c.loop-i.i c.loop-i.letters c.loop-i.invariant c.loop-i-test.true token w.if-i-lt-WORD_LENGTH.true)
+          (letter_taken s c.loop-i.i c.loop-i.letters c.loop-i.invariant c.loop-i-test.true token w.if-i-lt-WORD_LENGTH.true)
       | else-i-lt-WORD_LENGTH w ↦
           subst (IsToken s (c.loop-i.i + 1)) (sym w.letters-is)
           (cut s c.loop-i.i c.loop-i.letters c.loop-i.invariant c.loop-i-test.true token w.if-i-lt-WORD_LENGTH.false)
