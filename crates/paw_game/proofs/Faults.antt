@@ -39,16 +39,16 @@ and_assoc : (a b c : Bool) → (a && (b && c)) ≡ ((a && b) && c)
 and_assoc true b c = refl
 and_assoc false b c = refl
 
-position_step : (b : Bool) (n m : ℕ)
+position_next : (b : Bool) (n m : ℕ)
     → is_none (cond (nat_lt (cond (not (not b)) (1 + n) 0) (suc m)) (Some (cond (not (not b)) (1 + n) 0)) None)
     ≡ (b && is_none (cond (nat_lt n m) (Some n) None))
-position_step true n m = grind (arith, nat_tests)
-position_step false n m = grind (arith, nat_tests)
+position_next true n m = grind (arith, nat_tests)
+position_next false n m = grind (arith, nat_tests)
 
 is_none-first_bad : {X : Type 0} (rule : X → Bool) (xs : List X) → is_none (first_bad rule xs) ≡ list_all rule xs
 is_none-first_bad rule [] = refl
 is_none-first_bad rule (x ∷ xs) =
-    position_step (rule x) (prefix_len (λ y. not (not (rule y))) xs) (length xs)
+    position_next (rule x) (prefix_len (λ y. not (not (rule y))) xs) (length xs)
     ∙ ap (λ b. rule x && b) (is_none-first_bad rule xs)
 
 -- ---- words
@@ -58,18 +58,18 @@ unfoldable pub rise_after : Bytes → List Word → Bool
 rise_after before [] = true
 rise_after before (w ∷ ws) = is_lt (slice_cmp nat_cmp before w.letters) && rise_after w.letters ws
 
-bad_word_step : (b l all rise : Bool) (rest : Option ℕ) (n : ℕ) → is_none rest ≡ (all && rise)
+bad_word_next : (b l all rise : Bool) (rest : Option ℕ) (n : ℕ) → is_none rest ≡ (all && rise)
     → is_none (if b && l then rest else Some n) ≡ ((b && all) && (l && rise))
-bad_word_step true true all rise rest n h = h
-bad_word_step true false true rise rest n h = refl
-bad_word_step true false false rise rest n h = refl
-bad_word_step false l all rise rest n h = refl
+bad_word_next true true all rise rest n h = h
+bad_word_next true false true rise rest n h = refl
+bad_word_next true false false rise rest n h = refl
+bad_word_next false l all rise rest n h = refl
 
 is_none-bad_word : (n : ℕ) (before : Bytes) (ws : List Word) → is_none (bad_word n before ws) ≡ (list_all is_word ws && rise_after before ws)
 unfolding rise_after
 is_none-bad_word n before [] = refl
 is_none-bad_word n before (w ∷ ws) =
-    bad_word_step (is_word w) (is_lt (slice_cmp nat_cmp before w.letters)) (list_all is_word ws) (rise_after w.letters ws)
+    bad_word_next (is_word w) (is_lt (slice_cmp nat_cmp before w.letters)) (list_all is_word ws) (rise_after w.letters ws)
     (bad_word (suc n) w.letters ws) n (is_none-bad_word (suc n) w.letters ws)
 
 rise_after-is : (w : Word) (ws : List Word) → rise_after w.letters ws ≡ words_rise (w ∷ ws)

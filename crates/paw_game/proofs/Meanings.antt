@@ -14,15 +14,15 @@ use Rattle.paw_game.specs.Valid.{Valid, are_letters, is_within, is_word, words_r
 use Rattle.paw_game.specs.Tables.{word_at, word_of}
 use Rattle.paw_game.proofs.ValidGames.{first_of_and, second_of_and, option_map-Some}
 
-word_step : (b : Bool) (here w : Word) (later : Option Word) → IsTrue (is_word here) → (later ≡ Some w → IsTrue (is_word w))
+word_next : (b : Bool) (here w : Word) (later : Option Word) → IsTrue (is_word here) → (later ≡ Some w → IsTrue (is_word w))
     → (if b then Some here else later) ≡ Some w → IsTrue (is_word w)
-word_step true here w later h k e = rw (← same_Some here w e) h
-word_step false here w later h k e = k e
+word_next true here w later h k e = rw (← same_Some here w e) h
+word_next false here w later h k e = k e
 
 word_in : (letters : Letters) (ws : List Word) (w : Word) → IsTrue (list_all is_word ws) → word_of letters ws ≡ Some w → IsTrue (is_word w)
 word_in letters [] w h e = absurd (none-some w e)
 word_in letters (x ∷ xs) w h e =
-    word_step (bytes_eq x.letters letters) x w (word_of letters xs) (first_of_and (is_word x) _ h)
+    word_next (bytes_eq x.letters letters) x w (word_of letters xs) (first_of_and (is_word x) _ h)
     (word_in letters xs w (second_of_and (is_word x) _ h)) e
 
 pub word_follows : (g : GameLists) → Valid g → (letters : Letters) (w : Word) → word_of letters g.words ≡ Some w → IsTrue (is_word w)

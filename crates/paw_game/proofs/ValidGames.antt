@@ -130,17 +130,17 @@ text-bytes t h = λ k d high. printed-bytes true t k d (second_of_and (nat_le (l
 
 -- ---- exits
 
-exit_of_step : (b : Bool) (here : Exit) (to locations : ℕ) (later : Option Exit) → here.to < locations
+exit_of_next : (b : Bool) (here : Exit) (to locations : ℕ) (later : Option Exit) → here.to < locations
     → (option_map (λ (x : Exit). x.to) later ≡ Some to → to < locations)
     → option_map (λ (x : Exit). x.to) (if b then Some here else later) ≡ Some to → to < locations
-exit_of_step true here to locations later h k e = omega (arith, h, same_Some here.to to e)
-exit_of_step false here to locations later h k e = k e
+exit_of_next true here to locations later h k e = omega (arith, h, same_Some here.to to e)
+exit_of_next false here to locations later h k e = k e
 
 exit_of-leads : (ws : List Word) (locations : ℕ) (xs : List Exit) (verb to : ℕ) → IsTrue (are_exits ws locations xs)
     → exit_of xs verb ≡ Some to → to < locations
 exit_of-leads ws locations [] verb to h e = absurd (none-some to e)
 exit_of-leads ws locations (x ∷ xs) verb to h e =
-    exit_of_step (x.verb == verb) x to locations (find (λ (y : Exit). y.verb == verb) xs)
+    exit_of_next (x.verb == verb) x to locations (find (λ (y : Exit). y.verb == verb) xs)
     (ltb-true x.to locations
     (first_of_and (nat_lt x.to locations) _ (second_of_and (is_verb_value ws x.verb) _ (first_of_and _ (are_exits ws locations xs) h))))
     (exit_of-leads ws locations xs verb to (second_of_and _ (are_exits ws locations xs) h)) e

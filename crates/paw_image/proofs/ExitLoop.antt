@@ -4,10 +4,10 @@ use Rattle.paw_base.specs.Bytes.{Bytes}
 use Rattle.paw_game.specs.declared.parts.Exit.{Exit}
 use Rattle.paw_image.specs.inner.Rows.{exit_here, exit_or_next, exit_in}
 
-pub exit_step : (verb count i : ℕ) (bytes : Bytes) (x : Exit × Bytes) → i < count → exit_here bytes ≡ Some x
+pub exit_next : (verb count i : ℕ) (bytes : Bytes) (x : Exit × Bytes) → i < count → exit_here bytes ≡ Some x
     → exit_in verb (count - i) bytes ≡ exit_or_next verb (exit_in verb (count - (i + 1))) (Some x)
 unfolding exit_in
-exit_step verb count i bytes x lt h =
+exit_next verb count i bytes x lt h =
     let k : count - i ≡ suc (count - (i + 1)) = omega arith in
     rw (k, h) refl
 
