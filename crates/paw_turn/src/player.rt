@@ -264,7 +264,7 @@ impl<'a, T: Tables, F: Fn(u8, u8) -> u8> Player<'a, T, F> {
         ensures same { IsSeated self.now → IsStanding self.now.last →
             seat_at self.now.game self.now.routines self.now.world self.now.machine self.now.pending
             (prompt_at self.now.last) ≡ record self.now { piece = [] } }
-        ensures kept { IsSeated self.now → IsStanding self.now.last →
+        ensures accepted { IsSeated self.now → IsStanding self.now.last →
             frames_fault self.now.game (prompt_at self.now.last) (machine_kept self.now.machine) ≡ None }
     {
         Parts {
