@@ -54,18 +54,18 @@ no_image source target given old new (outcome.SourceRefused fault) f h = refused
 no_image source target given old new (outcome.Memory at) f h = memory at f.3
 no_image source target given old new _ f h = absurd h
 
-keeps_so : (source target : Name) (g : GameLists) (old new : Standing) (o : Outcome) → HoldsSource old source (Ok g) →
+saves_so : (source target : Name) (g : GameLists) (old new : Standing) (o : Outcome) → HoldsSource old source (Ok g) →
     SavesSo target (image g) (image_line (length (image g))) old new o → Compiles source target old new o
-keeps_so source target g old new outcome.Done s k = done g s k
-keeps_so source target g old new (outcome.Outside call.Save) s k = unsaved g s k
-keeps_so source target g old new (outcome.Outside call.Show) s k = unshown g k.2.0 s (k.0, k.1, k.2.1)
-keeps_so source target g old new _ s k = absurd k.2
+saves_so source target g old new outcome.Done s k = done g s k
+saves_so source target g old new (outcome.Outside call.Save) s k = unsaved g s k
+saves_so source target g old new (outcome.Outside call.Show) s k = unshown g k.2.0 s (k.0, k.1, k.2.1)
+saves_so source target g old new _ s k = absurd k.2
 
--- An image that is kept is compiled, as far as it was kept.
-pub keeps_image : (source target given made line : Bytes) (old mid new : Standing) (o : Outcome) → LoadsSome source SOURCE_LIMIT old mid given →
+-- An image that is saved is compiled, as far as it was saved.
+pub saves_image : (source target given made line : Bytes) (old mid new : Standing) (o : Outcome) → LoadsSome source SOURCE_LIMIT old mid given →
     (g : GameLists) × (game_spelled given ≡ Ok g) × (made ≡ image g) → line ≡ image_line (length made) →
     SavesSo target made line mid new o → Compiles source target old new o
-keeps_image source target given made line old mid new o f m l k =
-    keeps_so source target m.0 old new o (f.0, f.1, read_whole given f.0 f.2 ∙ m.1)
+saves_image source target given made line old mid new o f m l k =
+    saves_so source target m.0 old new o (f.0, f.1, read_whole given f.0 f.2 ∙ m.1)
     (subst (λ s. SavesSo target (image m.0) (image_line (length (image m.0))) s new o) f.3
     (subst (λ b. SavesSo target b (image_line (length b)) mid new o) m.2 (subst (λ t. SavesSo target made t mid new o) l k)))

@@ -66,11 +66,11 @@ fn line_of(alloc: Global, size: usize) -> Result<String, Outcome>
 }
 
 // Saves an image, and then shows a line.
-fn keep<S: Stage>(stage: &mut S, name: &str, image: &[u8], line: &[u8]) -> Outcome
+fn save_and_show<S: Stage>(stage: &mut S, name: &str, image: &[u8], line: &[u8]) -> Outcome
     ensures serves { FailsOnlyBy S.Stage (call.Save ∷ call.Show ∷ []) (failed_call result) stage.old stage.new }
     ensures form { result ≢ outcome.Usage }
     ensures memory { IfMemory result (λ at. ⊥) }
-    ensures keeps { IfTelling S.Stage stage.old stage.new
+    ensures saves { IfTelling S.Stage stage.old stage.new
         (λ old new. SavesSo name.now image.now line.now old new result) }
 {
     if stage.save(name, image).is_err() {
@@ -92,5 +92,5 @@ pub(crate) fn compile<S: Stage>(alloc: Global, stage: &mut S, source: &str, imag
         Err(refusal) => return refusal,
     };
     let line = or_return!(line_of(alloc, made.len()));
-    keep(stage, image, made.as_slice(), line.as_bytes())
+    save_and_show(stage, image, made.as_slice(), line.as_bytes())
 }
