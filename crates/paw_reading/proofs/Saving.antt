@@ -45,7 +45,7 @@ use Rattle.paw_reading.specs.Turn.{refusal_text}
 use Rattle.paw_reading.specs.Turn.{exit_taken, after_left, table_done, turn, phases_left, opening, first_table, goes_on}
 use Rattle.paw_reading.specs.Turn.{timeout_text}
 use Rattle.paw_reading.specs.Saving.{NeverSaves}
-use Rattle.paw_reading.specs.inner.Saving.{no_positions, EndsKeeping, ReadingsKeepNoPosition, GoingOnKeepsPositions}
+use Rattle.paw_reading.specs.inner.Saving.{no_positions, EndsKeeping, ReadingsKeepNoPosition, GoingOnLeavesPositions}
 use Rattle.paw_reading.specs.inner.Parts.{goodbye, quit_question, line_set, unknown_text, in_table}
 use Rattle.paw_reading.proofs.Lists.{drop_more}
 use Rattle.paw_reading.proofs.LeavesLoop.{either, open_or_not, prints}
@@ -316,5 +316,5 @@ pub readings_keep_no_position : ReadingsKeepNoPosition
 readings_keep_no_position g seed es never =
     turn_ends g never no_positions (phases_left (opening g seed es)) AtDescribe (opening g seed es) refl
 
-pub going_on_keeps_positions : GoingOnKeepsPositions
-going_on_keeps_positions g p path r never = goes_on_ends g never r.world.kept (phases_left r) p path r refl
+pub going_on_leaves_positions : GoingOnLeavesPositions
+going_on_leaves_positions g p path r never = goes_on_ends g never r.world.kept (phases_left r) p path r refl

@@ -6,7 +6,7 @@ ghost use Rattle.paw_reading.specs.inner.Pieces.{PiecesOfLines};
 ghost use Rattle.paw_reading.specs.inner.Waits.{ReadingsStopRightly, GoingOnStopsRightly};
 ghost use Rattle.paw_reading.specs.inner.Waits.{ReadingsAreBounded, GoingOnIsBounded};
 ghost use Rattle.paw_reading.specs.inner.Rules.{ReadingOn};
-ghost use Rattle.paw_reading.specs.inner.Saving.{ReadingsKeepNoPosition, GoingOnKeepsPositions};
+ghost use Rattle.paw_reading.specs.inner.Saving.{ReadingsKeepNoPosition, GoingOnLeavesPositions};
 ghost use Rattle.paw_reading.specs.inner.Turn.{TurnsEnd, EndsOnce, GoingOnEnds, GoesOnOnce, WaitsOn, GoingOnIsReading};
 
 /// Every reading ends: the phases that a turn is granted are enough.
@@ -85,5 +85,5 @@ pub fn stays_bounded()
 /// keeps none.
 pub fn keeps_no_position()
     ensures readings { ReadingsKeepNoPosition }
-    ensures going_on { GoingOnKeepsPositions }
+    ensures going_on { GoingOnLeavesPositions }
 {}

@@ -29,7 +29,7 @@ ReadingsKeepNoPosition =
     (g : Story) (seed : Seed) (es : Lines) → NeverSaves g.game → EndsKeeping no_positions (reading g seed es)
 
 -- Going on in such a game leaves the kept positions as they are.
-abbrev pub GoingOnKeepsPositions : Type 0
-GoingOnKeepsPositions =
+abbrev pub GoingOnLeavesPositions : Type 0
+GoingOnLeavesPositions =
     (g : Story) (p : Prompt) (path : List Frame) (r : Run) → NeverSaves g.game →
     EndsKeeping r.world.kept (going_on_from g p path r)
