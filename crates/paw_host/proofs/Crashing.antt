@@ -93,7 +93,7 @@ may_be_begun_again g seed first old next m valid small b i left lines =
     one name is = found g seed (before name) (after name) (file_bytes next (store_name name)) (m.attached ≡ Some (store_name name)) valid small
         (may_before g seed first old.lines i.taken valid small b.lines b.may name is)
         (may_after g seed first (take i.taken old.lines) valid small (All-take AreBytes i.taken old.lines b.lines) b.may name is)
-        (left_at g seed first old.lines i.taken i.text m i.keeps name is (file_bytes next (store_name name)) (left name is))
+        (left_at g seed first old.lines i.taken i.text m i.up_to_date name is (file_bytes next (store_name name)) (left name is))
 
     again : Sessions
     again name = chosen (is_name name) (λ is. (one name is).0)

@@ -103,12 +103,12 @@ grown g seed (l ∷ lines) (suc n) at =
           ∙ sym (append_assoc (reply_to g seed at (request_of l)) (replies g seed (sessions_with g seed at (request_of l)) (take n lines)) r.0),
     )
 
-keeps_now : (g : Story) (seed : Seed) (first : Sessions) (start : Option Name) (lines : Lines) (n : ℕ) (m : Standing) → n ≤ length lines →
+up_to_date_now : (g : Story) (seed : Seed) (first : Sessions) (start : Option Name) (lines : Lines) (n : ℕ) (m : Standing) → n ≤ length lines →
     m.attached ≡ attached_after start (take n lines) → AllLeft g (sessions_after g seed first (take n lines)) m →
     IsUpToDate g seed first lines n (replies g seed first (take n lines)) m
 unfolding sessions_after replies
-keeps_now g seed first start lines zero m there attached h = (refl, h)
-keeps_now g seed first start lines (suc n) m there attached h =
+up_to_date_now g seed first start lines zero m there attached h = (refl, h)
+up_to_date_now g seed first start lines (suc n) m there attached h =
     let last = last_line lines n there in
     let more = sessions_more g seed first lines n last.0 last.1 last.2 in (
       subst (λ q. EachLeft g seed (sessions_after g seed first (take n lines)) q m) (sym more)
@@ -127,7 +127,7 @@ at_prompt g seed first old now n s holds = record {
   asked = s.answered.asked;
   shown = s.answered.shown;
   attached = subst (AttachedIn old.attached (take n old.lines)) (sym s.answered.attached) (attached_now old.attached (take n old.lines));
-  keeps = keeps_now g seed first old.attached old.lines n now s.answered.there s.answered.attached
+  up_to_date = up_to_date_now g seed first old.attached old.lines n now s.answered.there s.answered.attached
       (all_left g (sessions_after g seed first (take n old.lines)) now s.answered.files s.settled holds);
   others = s.answered.others;
 }
@@ -191,7 +191,7 @@ module _ (g : Story) (seed : Seed) (first : Sessions) (old now mid : Standing) (
     there = there;
     asked = i.asked ∙ asked_more;
     shown = i.shown ∙ shown_same;
-    keeps = (subst (λ x. EachLeft g seed before x m) (sym after_is) i.left, inl refl);
+    up_to_date = (subst (λ x. EachLeft g seed before x m) (sym after_is) i.left, inl refl);
     attached = attached_in old.attached old.lines n line mid.lines m.attached at
         (subst (λ a. MayAttach (request_of line) a m.attached) attached_same i.attached);
     others = λ f h. i.files f (not_of_more old.lines n line mid.lines f at h).1 ∙ others_same f h;
@@ -241,7 +241,7 @@ module _ (g : Story) (seed : Seed) (first : Sessions) (old now mid : Standing) (
       asked = is.asked ∙ asked_more;
       shown = ap (λ x. x ++ take i.0 (reply_to g seed before (request_of line))) shown_before
           ∙ append_assoc old.shown (replies g seed first (take n old.lines)) (take i.0 (reply_to g seed before (request_of line)));
-      keeps = (
+      up_to_date = (
         subst (λ x. EachLeft g seed before x done) (sym after_is)
             (each_done g seed before (request_of line) done (with_attached (request_of line) mid.attached done.attached is.attached)
             (all_left g after done is.stores settled done_holds)),

@@ -96,15 +96,15 @@ AttachedIn before (line ∷ next ∷ lines) attached =
 abbrev pub IsNotOf : Lines → Name → Type 0
 IsNotOf lines file = AllByRecursion (λ line. (r : Request) → request_of line ≡ Some r → file ≢ store_name r.name) lines
 
--- A moment of the host. Since the call began lines were taken, and a text was shown, with which the files keep
--- up. The attached store is that of a line. No file has changed that isn't that of a name which these lines ask for.
+-- A moment of the host. Since the call began lines were taken and a text was shown, and the files are up to date with
+-- both. The attached store is that of a line. No file has changed that isn't that of a name which these lines ask for.
 pub record InHost (g : Story) (seed : Seed) (first : Sessions) (old m : Standing) : Type 0 where
   pub taken : ℕ
   pub text : Text
   pub there : taken ≤ length old.lines
   pub asked : m.asked ≡ old.asked + taken
   pub shown : m.shown ≡ old.shown ++ text
-  pub keeps : IsUpToDate g seed first old.lines taken text m
+  pub up_to_date : IsUpToDate g seed first old.lines taken text m
   pub attached : AttachedIn old.attached (take taken old.lines) m.attached
   pub others : (file : Name) → IsNotOf (take taken old.lines) file → m.files file ≡ old.files file
 
