@@ -213,7 +213,7 @@ fn names_and_texts_are_split_at_the_first_space(rt: HostRuntime) -> Result<(), F
 static EVE: [&[u8]; 2] = [b"eve", b"eve LOOK"];
 
 // Checks that her store has these bytes, and that none was written.
-fn is_kept(
+fn is_untouched(
     rt: &impl Abort,
     alloc: Global,
     stage: &mut MemoryStage,
@@ -225,7 +225,7 @@ fn is_kept(
     Ok(())
 }
 
-// Checks that a store with these bytes is refused, and keeps them.
+// Checks that a store with these bytes is refused, and left as it was.
 fn refuses(rt: &impl Abort, alloc: Global, bytes: &[u8]) -> Result<(), Fail> {
     let mut stage = stage_of(alloc, &EVE)?;
     stage.add_file("eve.paw", bytes)?;
@@ -234,7 +234,7 @@ fn refuses(rt: &impl Abort, alloc: Global, bytes: &[u8]) -> Result<(), Fail> {
         stage.shown(),
         b"[eve]\nrefused\n[eve]\nrefused\n".as_slice()
     );
-    is_kept(rt, alloc, &mut stage, bytes)
+    is_untouched(rt, alloc, &mut stage, bytes)
 }
 
 // The session of a player after these lines.
