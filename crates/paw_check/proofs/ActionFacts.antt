@@ -18,7 +18,7 @@ use Rattle.paw_effects.specs.ObjectWords.{spoken_words}
 use Rattle.paw_effects.specs.Referring.{object_referred}
 use Rattle.paw_effects.specs.ObjectSearch.{first_fitting}
 use Rattle.paw_effects.specs.ObjectActions.{first_that_holds, hindrances, outcome, action_tried, acted_on}
-use Rattle.paw_effects.specs.AutoActions.{looks_at, missing, acted_on_found, acted_by_name}
+use Rattle.paw_effects.specs.AutoActions.{looks_at, missing_reply, acted_on_found, acted_by_name}
 use Rattle.paw_effects.specs.Meanings.{Meaning, Tests, Acts, tests, doing, changing, mark}
 use Rattle.paw_effects.specs.Done.{plainly}
 use Rattle.paw_effects.specs.Effects.{Done}
@@ -246,7 +246,7 @@ module _ {code : ℕ} (a : Condact → _)
 
   -- On the object that the sentence names, by what is said where there is none too.
   pub by_name : ((g : GameLists) (d : Condact) (u : World)
-      → length (spoken_words g u (missing (a d))) ≤ most_of_action g)
+      → length (spoken_words g u (missing_reply (a d))) ≤ most_of_action g)
       → Facts code (λ g c. most_of_action g) (doing (λ g w d. acted_by_name g w (a d)))
   by_name misses =
       let found : World → Condact → Option ℕ = λ w c. first_fitting w (looks_at (a c)) in

@@ -17,7 +17,7 @@ use Rattle.paw_effects.specs.ObjectWords.{spoken_words}
 use Rattle.paw_effects.specs.Referring.{object_referred}
 use Rattle.paw_effects.specs.ObjectSearch.{some_fits}
 use Rattle.paw_effects.specs.ObjectActions.{destination, first_that_holds, hindrances, outcome, action_tried, acted_on}
-use Rattle.paw_effects.specs.AutoActions.{missing, acted_on_found}
+use Rattle.paw_effects.specs.AutoActions.{missing_reply, acted_on_found}
 use Rattle.paw_check.specs.Measures.{most_put}
 use Rattle.paw_check.specs.Prints.{said_of_objects, most_of_action}
 use Rattle.paw_check.specs.Verbs.{is_among}
@@ -84,9 +84,9 @@ module _ (g : GameLists) (a : _)
   either_most w true x y h k = h
   either_most w false x y h k = k
 
-  pub found_most : (w : World) (found : Option ℕ) → length (spoken_words g w (missing a)) ≤ most_of_action g
+  pub found_most : (w : World) (found : Option ℕ) → length (spoken_words g w (missing_reply a)) ≤ most_of_action g
       → length (acted_on_found g w a found).text ≤ most_of_action g
-  found_most w None misses = either_most w (some_fits w) (missing a) _ misses (said g IMPOSSIBLE_MESSAGE refl w)
+  found_most w None misses = either_most w (some_fits w) (missing_reply a) _ misses (said g IMPOSSIBLE_MESSAGE refl w)
   found_most w (Some o) misses = acted_most w o
 
 -- ---- what may be said against each action ----

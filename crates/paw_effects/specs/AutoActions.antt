@@ -25,17 +25,17 @@ looks_at (action.TakeOut l) = At l ∷ At CARRIED_PLACE ∷ At WORN_PLACE ∷ He
 looks_at _ = At CARRIED_PLACE ∷ At WORN_PLACE ∷ Here ∷ []  -- Drop, Wear, PutIn
 
 -- The message of an action whose object isn't found there.
-abbrev pub missing : Action → ObjectReply
-missing action.Get = Says NOT_HERE_MESSAGE
-missing action.Remove = Says NOT_WORN_MESSAGE
-missing (action.TakeOut l) = Names NOT_INSIDE_MESSAGE l
-missing _ = Says NOT_CARRIED_MESSAGE  -- Drop, Wear, PutIn
+abbrev pub missing_reply : Action → ObjectReply
+missing_reply action.Get = Says NOT_HERE_MESSAGE
+missing_reply action.Remove = Says NOT_WORN_MESSAGE
+missing_reply (action.TakeOut l) = Names NOT_INSIDE_MESSAGE l
+missing_reply _ = Says NOT_CARRIED_MESSAGE  -- Drop, Wear, PutIn
 
 -- The action on the object that was found. Where none was found it is refused: as impossible, if no object of the game
 -- fits.
 abbrev pub acted_on_found : GameLists → World → Action → Option ℕ → Done
 acted_on_found g w a (Some o) = acted_on g w o a
-acted_on_found g w a None = refuses g w (if some_fits w then missing a else Says IMPOSSIBLE_MESSAGE)
+acted_on_found g w a None = refuses g w (if some_fits w then missing_reply a else Says IMPOSSIBLE_MESSAGE)
 
 -- The action on the object that the sentence means.
 abbrev pub acted_by_name : GameLists → World → Action → Done

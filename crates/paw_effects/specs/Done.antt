@@ -17,8 +17,8 @@ abbrev pub plainly : Effect → Act
 plainly e = record { effect = e; drop_line = false; cancel_loop = false }
 
 -- The answer of an action after which reading goes on with this effect, with the rest of the line dropped.
-abbrev pub dropping : Effect → Act
-dropping e = record { effect = e; drop_line = true; cancel_loop = false }
+abbrev pub dropping_act : Effect → Act
+dropping_act e = record { effect = e; drop_line = true; cancel_loop = false }
 
 -- Prints this text, and reading goes on with this effect.
 abbrev pub prints_then : World → Text → Effect → Done

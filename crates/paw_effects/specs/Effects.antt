@@ -2,7 +2,7 @@
 use Rattle.std.specs.Option.{option_map_or}
 use Rattle.paw_base.specs.declared.parts.Condact.{Condact}
 use Rattle.paw_world.specs.World.{World}
-pub use Rattle.paw_effects.specs.Done.{Done, dropping, leads, prints, makes}
+pub use Rattle.paw_effects.specs.Done.{Done, dropping_act, leads, prints, makes}
 pub use Rattle.paw_effects.specs.inner.Done.{DoesAs, Does}
 use Rattle.paw_effects.specs.Story.{Story}
 pub use Rattle.paw_effects.specs.Referring.{object_referred}

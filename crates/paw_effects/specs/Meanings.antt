@@ -23,7 +23,7 @@ use Rattle.paw_effects.specs.declared.act.Prompt.TheVariants as prompt
 use Rattle.paw_effects.specs.declared.act.Effect.TheVariants as effect
 use Rattle.paw_effects.specs.declared.object_actions.Action.TheVariants as action
 use Rattle.paw_effects.specs.Story.{Story}
-use Rattle.paw_effects.specs.Done.{Done, dropping, prints_then, leads, prints, makes}
+use Rattle.paw_effects.specs.Done.{Done, dropping_act, prints_then, leads, prints, makes}
 use Rattle.paw_effects.specs.Tested.{Tested, answers, moves}
 use Rattle.paw_effects.specs.Chance.{percent_drawn}
 use Rattle.paw_effects.specs.Presence.{named_place}
@@ -157,7 +157,7 @@ meanings =
     doing (λ g w c. leads w (effect.Loop (named_place w c.a))) ∷  -- DOALL
     changing (λ w c. with_flag w PROMPT_FLAG c.a) ∷  -- PROMPT
     changing (λ w c. with_flag (with_flag w TIMEOUT_FLAG c.a) TIMED_OUT_FLAG c.b) ∷  -- TIME
-    doing (λ g w c. record { text = []; world = w; act = dropping effect.Go }) ∷  -- NEWTEXT
+    doing (λ g w c. record { text = []; world = w; act = dropping_act effect.Go }) ∷  -- NEWTEXT
     doing (λ g w c. leads (reset w c.a) effect.Redescribe) ∷  -- RESET
     Acts (λ s w c. makes (answered_by s.answers w c.a c.b)) ∷  -- EXTERN
     mark ∷ mark ∷ mark ∷ mark ∷  -- PICTURE, GRAPHIC, BEEP, CLS

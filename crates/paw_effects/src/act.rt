@@ -2,7 +2,7 @@
 
 ghost use Rattle.std.specs.Prelude.{◌≡◌, if◌then◌else◌};
 ghost use Rattle.paw_effects.specs.declared.act.Effect.TheVariants as effect;
-ghost use Rattle.paw_effects.specs.Done.{dropping, plainly};
+ghost use Rattle.paw_effects.specs.Done.{dropping_act, plainly};
 
 /// Where a game waits: for a line, for an answer to QUIT, for an answer to END, for a key; or where it is over.
 #[derive(Clone, Copy, Drop, PartialEq, Eq, Debug)]
@@ -58,8 +58,8 @@ pub(crate) fn plain_act(effect: Effect) -> Act
 }
 
 /// The answer of an action that goes on with this effect, with the rest of the line dropped and the loop as it is.
-pub(crate) fn dropping(effect: Effect) -> Act
-    ensures value { result ≡ dropping effect }
+pub(crate) fn dropping_act(effect: Effect) -> Act
+    ensures value { result ≡ dropping_act effect }
 {
     Act {
         drop_line: true,

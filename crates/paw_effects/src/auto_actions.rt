@@ -5,7 +5,7 @@ ghost use Rattle.paw_effects.specs.Worlds.{IsOf};
 ghost use Rattle.paw_effects.specs.inner.Done.{Does};
 ghost use Rattle.paw_effects.specs.declared.object_actions.Action.TheVariants as action;
 ghost use Rattle.paw_effects.specs.ObjectSearch.{first_fitting};
-ghost use Rattle.paw_effects.specs.AutoActions.{looks_at, missing, acted_by_name, referred_by_name};
+ghost use Rattle.paw_effects.specs.AutoActions.{looks_at, missing_reply, acted_by_name, referred_by_name};
 
 use crate::act::Act;
 use crate::object_actions::{Action, act_on, refuse};
@@ -41,8 +41,8 @@ fn found_carried_first(world: &World) -> Option<u8>
 }
 
 // The message where the object of an action isn't found.
-fn missing(action: Action) -> ObjectReply
-    ensures value { result ≡ missing action }
+fn missing_reply(action: Action) -> ObjectReply
+    ensures value { result ≡ missing_reply action }
 {
     match action {
         Action::Get => ObjectReply::NOT_HERE,
@@ -66,7 +66,7 @@ pub(crate) fn act_by_name<T: Tables>(
 {
     match object_looked_for(world, action) {
         Some(o) => act_on(tables, world, piece, o, action),
-        None if some_fits(world) => refuse(tables, world, piece, missing(action)),
+        None if some_fits(world) => refuse(tables, world, piece, missing_reply(action)),
         None => refuse(tables, world, piece, ObjectReply::NO_SUCH_OBJECT),
     }
 }

@@ -17,7 +17,7 @@ ghost use Rattle.paw_game.specs.Game.{GameLists};
 ghost use Rattle.paw_routines.specs.Routines.{AreAnswersOf, HaveAnswers};
 ghost use Rattle.paw_world.specs.World.{with_flag, drawn_on};
 
-use crate::act::{Act, Effect, Prompt, after, dropping, plain_act};
+use crate::act::{Act, Effect, Prompt, after, dropping_act, plain_act};
 use crate::auto_actions::{act_by_name, refer_by_name};
 use crate::chance::roll;
 pub use crate::conditions::{is_condition, test};
@@ -219,7 +219,7 @@ fn act_plain<T: Tables, F: Fn(u8, u8) -> u8>(
         codes::DOALL => plain_act(Effect::Loop(named_place(world, c.a))),
         codes::PROMPT => going_on(world.set_flag(PROMPT_FLAG, c.a)),
         codes::TIME => going_on(set_both(world, (TIMEOUT_FLAG, c.a), (TIMED_OUT_FLAG, c.b))),
-        codes::NEWTEXT => dropping(Effect::Go),
+        codes::NEWTEXT => dropping_act(Effect::Go),
         codes::RESET => {
             reset(world, c.a);
             plain_act(Effect::Redescribe)

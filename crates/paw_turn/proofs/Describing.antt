@@ -12,7 +12,7 @@ use Rattle.paw_reading.specs.declared.halt.Halt.TheVariants as halt
 use Rattle.paw_turn.specs.declared.phase.Next.{Next}
 use Rattle.paw_turn.specs.declared.turn.PlayState.{PlayState}
 use Rattle.paw_process.specs.inner.OpenTables.{HasRead}
-use Rattle.paw_turn.specs.inner.Phases.{run_now, GoesOnAs, ReadsTurn, having_read, in_world, with_piece, halting}
+use Rattle.paw_turn.specs.inner.Phases.{run_now, GoesOnAs, ReadsTurn, having_read, in_world, with_piece, halt_next}
 use Rattle.paw_turn.proofs.Says.{said, unsaid}
 
 -- Once the location is described table 1 is read.
@@ -43,7 +43,7 @@ described_reads g old mid new nx w world fits is reads past has =
 -- A description that doesn't fit.
 pub described_not : (g : Story) (old new : PlayState) (w : World) → w ≡ location_described old.surroundings.world
     → PIECE_LIMIT < length old.surroundings.piece + length (view_text g.game w) → new.machine ≡ old.machine
-    → ReadsTurn g (λ n r. turn g (suc n) AtDescribe r) old (halting (halt.Spent spent.Text)) new
+    → ReadsTurn g (λ n r. turn g (suc n) AtDescribe r) old (halt_next (halt.Spent spent.Text)) new
 unfolding turn
 described_not g old new w world past_fits same past has =
     let past_fits' = subst (λ v. PIECE_LIMIT < length old.surroundings.piece + length (view_text g.game v)) world

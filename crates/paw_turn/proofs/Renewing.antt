@@ -32,7 +32,7 @@ use Rattle.paw_turn.specs.declared.phase.Next.TheVariants as next
 use Rattle.paw_turn.specs.declared.turn.PlayState.{PlayState}
 use Rattle.paw_process.specs.inner.OpenTables.{ReadsNone}
 use Rattle.paw_process.proofs.Readings.{has_still}
-use Rattle.paw_turn.specs.inner.Phases.{Past, run_from, run_now, PlaysAs, from_prompt, ChangesFlags, halting, or_spent}
+use Rattle.paw_turn.specs.inner.Phases.{Past, run_from, run_now, PlaysAs, from_prompt, ChangesFlags, halt_next, or_spent}
 
 -- At no the game is over or the piece is spent, and else it starts anew.
 abbrev final : Bool → Bool → Run → Run → Run → Out
@@ -120,7 +120,7 @@ again_ends : (g : Story) (old new : PlayState) (line : Line) (w : World) → 0 <
     → new.surroundings.world ≡ w → new.surroundings.pending.bytes ≡ [] → new.surroundings.pending.earlier ≡ old.surroundings.pending.earlier →
     new.machine.turning ≡ None
     → ReadsNone old.machine new.machine
-    → PlaysAs g (from_prompt g prompt.Again old line) old (halting halt.Over) new
+    → PlaysAs g (from_prompt g prompt.Again old line) old (halt_next halt.Over) new
 again_ends g old new line w some hears declines world fit piece stays bytes earlier turning none past has =
     let fit' = subst (λ v. length old.surroundings.piece + length (say_text g.game v GOODBYE_MESSAGE) ≤ PIECE_LIMIT)
     world fit in
@@ -155,7 +155,7 @@ again_spends : (g : Story) (old new : PlayState) (line : Line) (w : World) → 0
     → w ≡ with_timeout (is_timeout line) old.surroundings.world
     → PIECE_LIMIT < length old.surroundings.piece + length (say_text g.game w GOODBYE_MESSAGE)
     → ReadsNone old.machine new.machine
-    → PlaysAs g (from_prompt g prompt.Again old line) old (halting (halt.Spent spent.Text)) new
+    → PlaysAs g (from_prompt g prompt.Again old line) old (halt_next (halt.Spent spent.Text)) new
 again_spends g old new line w some hears declines world full none past has =
     let full' = subst (λ v. PIECE_LIMIT < length old.surroundings.piece + length (say_text g.game v GOODBYE_MESSAGE))
     world full in
@@ -184,7 +184,7 @@ pub again_told : (g : Story) (old new : PlayState) (line : Line) (w : World) (to
     → new.surroundings.world ≡ w → new.surroundings.pending.bytes ≡ [] → new.surroundings.pending.earlier ≡ old.surroundings.pending.earlier →
     new.machine.turning ≡ None
     → ReadsNone old.machine new.machine
-    → PlaysAs g (from_prompt g prompt.Again old line) old (or_spent told (halting halt.Over)) new
+    → PlaysAs g (from_prompt g prompt.Again old line) old (or_spent told (halt_next halt.Over)) new
 again_told g old new line w true some hears declines world puts stays bytes earlier turning none =
     again_ends g old new line w some hears declines world puts.1 puts.0 stays bytes earlier turning none
 again_told g old new line w false some hears declines world puts stays bytes earlier turning none =

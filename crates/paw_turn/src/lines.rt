@@ -17,7 +17,7 @@ ghost use Rattle.paw_turn.specs.inner.Phases.{MayHear, MayAnswer, Stays, StaysIn
 
 use crate::flags;
 use crate::phase::{Next, Phase, TurnStop};
-use crate::turn::{PlayState, TurnRules, halting, or_spent};
+use crate::turn::{PlayState, TurnRules, halt_next, or_spent};
 use paw_base::flags::TIMEOUT_FLAG;
 use paw_base::messages::{GOODBYE_MESSAGE, TIMEOUT_MESSAGE};
 use paw_effects::act::Prompt;
@@ -106,7 +106,7 @@ impl PlayState {
             &mut self.surroundings.piece,
             GOODBYE_MESSAGE,
         );
-        or_spent(said, halting(Halt::Over))
+        or_spent(said, halt_next(Halt::Over))
     }
 }
 

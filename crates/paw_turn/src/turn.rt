@@ -25,7 +25,7 @@ ghost use Rattle.paw_turn.specs.inner.Phases.{ReadsTurn, Plays, MovesAfter};
 ghost use Rattle.paw_turn.specs.inner.Phases.{IsPlayable, MayGoOn, MayReadTables, Stays, StaysInGame};
 ghost use Rattle.paw_turn.specs.inner.Phases.{StopsInTable};
 ghost use Rattle.paw_turn.specs.inner.Phases.{with_piece, left_of, work, Falls};
-ghost use Rattle.paw_turn.specs.inner.Phases.{halting, or_spent, table_rank, FallsAfter, RunsAs, from_table, Uses};
+ghost use Rattle.paw_turn.specs.inner.Phases.{halt_next, or_spent, table_rank, FallsAfter, RunsAs, from_table, Uses};
 
 use crate::flags;
 use crate::phase::{Next, Phase, TurnStop};
@@ -62,8 +62,8 @@ pub(crate) struct TurnRules<'a, T: Tables, F: Fn(u8, u8) -> u8> {
 }
 
 /// Play has ended for this reason, and nothing goes on.
-pub(crate) fn halting(halt: Halt) -> Next
-    ensures value { result ≡ halting halt }
+pub(crate) fn halt_next(halt: Halt) -> Next
+    ensures value { result ≡ halt_next halt }
 {
     Next::Stop(TurnStop::Halted(halt))
 }
@@ -75,7 +75,7 @@ pub(crate) fn or_spent(shown: bool, next: Next) -> Next
     if shown {
         next
     } else {
-        halting(Halt::Spent(SpentKind::Text))
+        halt_next(Halt::Spent(SpentKind::Text))
     }
 }
 
@@ -236,7 +236,7 @@ impl PlayState {
         if self.show_prompt(tables) {
             Next::Stop(TurnStop::Waits(Prompt::Main))
         } else {
-            halting(Halt::Spent(SpentKind::Text))
+            halt_next(Halt::Spent(SpentKind::Text))
         }
     }
 
@@ -314,7 +314,7 @@ impl PlayState {
             Turned::Left(acted) => self.after_left(tables, table, acted),
             Turned::Redescribe => Next::Go(Phase::Describe),
             Turned::Waits(prompt) => Next::Stop(TurnStop::Waits(prompt)),
-            Turned::Halted(halt) => halting(halt),
+            Turned::Halted(halt) => halt_next(halt),
         }
     }
 
@@ -386,7 +386,7 @@ impl<T: Tables, F: Fn(u8, u8) -> u8> TurnRules<'_, T, F> {
         if state.show_view(self.tables) {
             self.read_table(state, DESCRIBED_TABLE)
         } else {
-            halting(Halt::Spent(SpentKind::Text))
+            halt_next(Halt::Spent(SpentKind::Text))
         }
     }
 

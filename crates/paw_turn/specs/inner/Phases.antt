@@ -257,12 +257,12 @@ pub record ChangesFlags (old new : World) : Type 0 where
 -- ---- texts ----
 
 -- Play has ended for this reason, and nothing goes on.
-abbrev pub halting : Halt → Next
-halting halt = next.Stop (stop.Halted halt)
+abbrev pub halt_next : Halt → Next
+halt_next halt = next.Stop (stop.Halted halt)
 
 -- How a turn goes on where a text was shown; where it wasn't, the piece is spent.
 abbrev pub or_spent : Bool → Next → Next
-or_spent shown n = if shown then n else halting (halt.Spent spent.Text)
+or_spent shown n = if shown then n else halt_next (halt.Spent spent.Text)
 
 -- ---- tables ----
 

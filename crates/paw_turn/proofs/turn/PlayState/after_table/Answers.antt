@@ -13,4 +13,4 @@ returns-in-Halted-clause-meaning g c X past n lines x comes =
     let r = run_now c.args.self.now past lines in
     let k : ComesTo game (turned.Halted c.in-Halted.halt) c.args.self.now.machine.frames r x =
     subst (λ (t : Turned). ComesTo game t c.args.self.now.machine.frames r x) c.in-Halted.is comes in
-    rw (c.halting.ensures.value, k.0) (k.1, ap (table_done game (turn game n) c.args.table) k.2, k.3)
+    rw (c.halt_next.ensures.value, k.0) (k.1, ap (table_done game (turn game n) c.args.table) k.2, k.3)

@@ -33,7 +33,7 @@ returns-then-not-begins_with-clause-stays g c =
 
 pub returns-clause-meaning : goal.returns-clause-meaning
 returns-clause-meaning g c X =
-    rw (c.or_spent.ensures.value, c.halting.ensures.value) (again_told (story_of (g.T.Tables.game c.args.tables.now) X) c.args.self.now
+    rw (c.or_spent.ensures.value, c.halt_next.ensures.value) (again_told (story_of (g.T.Tables.game c.args.tables.now) X) c.args.self.now
     (record {
       surroundings = record { world = c.set_timeout.new.world; pending = c.drop_line.new.self; piece = c.say-said.new.piece };
       machine = c.close.new.self;

@@ -4,5 +4,5 @@ use Rattle.paw_turn.proofs.turn.PlayState.prompt.Goals as goal
 
 pub returns-else-show_prompt-clause-meaning : goal.returns-else-show_prompt-clause-meaning
 returns-else-show_prompt-clause-meaning g c X =
-    rw c.halting.ensures.value
+    rw c.halt_next.ensures.value
     (prompt_unsaid (story_of (g.T.Tables.game c.args.tables.now) X) c.args.self.now c.show_prompt.new.self c.if-show_prompt.ensures.puts)

@@ -10,6 +10,6 @@ returns-then-show_view-clause-meaning g c X answers =
 
 pub returns-else-show_view-clause-meaning : goal.returns-else-show_view-clause-meaning
 returns-else-show_view-clause-meaning g c X answers =
-    rw c.halting.ensures.value
+    rw c.halt_next.ensures.value
     (described_not (story_of (g.T.Tables.game c.args.self.now.tables.now) X) c.args.state.now c.show_view.new.self
     c.describe.new.world c.describe.ensures.value c.if-show_view.ensures.puts (cc))
