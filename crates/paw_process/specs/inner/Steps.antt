@@ -30,7 +30,7 @@ pub record MayReadNext {F : Type 0} (calls : Shared F (ℕ × (ℕ × Unit {0}))
 -- This condact of a frame may be read: the budget isn't used up, and the world can make one draw more.
 pub record MayReadOne (g : GameLists) (f : Frame) (c : Condact) (m : OpenTables) (w : World) : Type 0 where
   pub ready : IsReady g m w
-  pub place : IsAtCondact f
+  pub at : IsAtCondact f
   pub left : 0 < m.left
   pub condact : is_right g c ≡ true
   pub draws : w.draws < 2 ^ 64 - 1
