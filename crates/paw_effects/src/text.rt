@@ -110,7 +110,7 @@ pub fn say<T: Tables>(tables: &T, world: &World, piece: &mut Piece, s: u8) -> bo
 
 /// Prints a location's text with a newline, where there is one that isn't empty. False exactly where the piece would
 /// pass its limit; it may then hold anything.
-pub fn place_text<T: Tables>(tables: &T, world: &World, piece: &mut Piece, location: u8) -> bool
+pub fn print_location<T: Tables>(tables: &T, world: &World, piece: &mut Piece, location: u8) -> bool
     ensures puts { Puts piece.old piece.new result (location_text (T.game tables.now) world.now location) }
 {
     let text = text_of(tables, GamePart::Locations, location);

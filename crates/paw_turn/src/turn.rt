@@ -39,7 +39,7 @@ use paw_base::tables::{DESCRIBED_TABLE, FRAME_TABLE, RESPONSE_TABLE};
 use paw_base::words::FIRST_PLAIN_VERB;
 use paw_effects::act::Prompt;
 use paw_effects::opening::opening_world;
-use paw_effects::text::{place_text, put, say};
+use paw_effects::text::{print_location, put, say};
 use paw_game::tables::Tables;
 use paw_phrase::{Found, Pending};
 use paw_process::{Machine, Surroundings, Turned, take_phrase};
@@ -195,7 +195,7 @@ impl PlayState {
         if flags::is_unlit(&self.surroundings.world) {
             self.put_message(tables, DARK_MESSAGE)
         } else {
-            place_text(
+            print_location(
                 tables,
                 &self.surroundings.world,
                 &mut self.surroundings.piece,
