@@ -35,11 +35,11 @@ use Rattle.paw_play.proofs.Going.{Settles, IsSettled}
 
 -- No line is left where no table is open.
 closed_line : (g : GameLists) (p : Prompt) (path : List Frame) (r : Run) → StandsRightly g p path r → IfNone (waiting_code p) (r.pending ≡ [])
-closed_line g p path r k = at (waiting_code p) k.places
+closed_line g p path r k = at (waiting_code p) k.frames
   where
     at : (code : Option ℕ) → AreOpenAt g code path r.turning → IfNone code (r.pending ≡ [])
-    at None places = k.line places.0
-    at (Some n) places = tt
+    at None frames = k.line frames.0
+    at (Some n) frames = tt
 
 -- The last piece is as short as each.
 last_short : (pieces : Texts) → All (λ piece. length piece ≤ PIECE_LIMIT) pieces
@@ -91,8 +91,8 @@ module _ (g : GameLists) (v : Valid g) (seed : Seed) (n : ℕ) (fits : seed < 2 
       places = (k.world.places, (saved_stands g r.world.saved k.world.saved, λ i d low. saved_stands g _ (k.world.kept i d low)));
       events = few;
       draws = drawn r bound count;
-      rows = eleven_frames g (waiting_code p) path r.turning k.places;
-      frames = places_fit g (waiting_code p) path r.turning k.places;
+      rows = eleven_frames g (waiting_code p) path r.turning k.frames;
+      frames = places_fit g (waiting_code p) path r.turning k.frames;
       line = k.pending.short;
       pending = closed_line g p path r k;
     });

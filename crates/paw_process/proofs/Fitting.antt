@@ -170,10 +170,10 @@ open_places g code k size h = go (count_fits (Some code) k.count) refl h
     go false e q = cc
 
 -- The other way round: kept frames that follow their rules are those of a run.
-pub kept_places : (g : GameLists) (p : Prompt) (k : Frames) → length k.rows ≡ MOST_FRAMES → frames_fault g p k ≡ None
+pub kept_frames_of_run : (g : GameLists) (p : Prompt) (k : Frames) → length k.rows ≡ MOST_FRAMES → frames_fault g p k ≡ None
     → AreFramesAndLoop g p (reverse (reverse (take k.count k.rows))) k.turning
-kept_places g prompt.Main k size h = let closed = none_open g k h in (ap (λ (s : List Frame). reverse s) closed.frames, closed.turning)
-kept_places g prompt.Quit k size h = rw (reverse-reverse (take k.count k.rows)) (open_places g QUIT k size h)
-kept_places g prompt.Again k size h = rw (reverse-reverse (take k.count k.rows)) (open_places g END k size h)
-kept_places g prompt.Key k size h = rw (reverse-reverse (take k.count k.rows)) (open_places g ANYKEY k size h)
-kept_places g prompt.Over k size h = let closed = none_open g k h in (ap (λ (s : List Frame). reverse s) closed.frames, closed.turning)
+kept_frames_of_run g prompt.Main k size h = let closed = none_open g k h in (ap (λ (s : List Frame). reverse s) closed.frames, closed.turning)
+kept_frames_of_run g prompt.Quit k size h = rw (reverse-reverse (take k.count k.rows)) (open_places g QUIT k size h)
+kept_frames_of_run g prompt.Again k size h = rw (reverse-reverse (take k.count k.rows)) (open_places g END k size h)
+kept_frames_of_run g prompt.Key k size h = rw (reverse-reverse (take k.count k.rows)) (open_places g ANYKEY k size h)
+kept_frames_of_run g prompt.Over k size h = let closed = none_open g k h in (ap (λ (s : List Frame). reverse s) closed.frames, closed.turning)

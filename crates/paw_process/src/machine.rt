@@ -200,7 +200,7 @@ impl Machine {
     ) -> Result<Machine, FrameFault>
         ensures value { IfOk result (λ m. m ≡ machine_restored kept.now (waiting_at prompt)) }
         ensures stands { IfOk result (λ m. WaitsAtPrompt prompt m) }
-        ensures places { IfOk result (λ m. AreFramesAndLoop (T.game tables.now) prompt (reverse m.frames) m.turning) }
+        ensures frames { IfOk result (λ m. AreFramesAndLoop (T.game tables.now) prompt (reverse m.frames) m.turning) }
         ensures again { IfOk result (λ m. kept_of m ≡ kept.now) }
         ensures sound { IfOk result (λ m. frames_fault (T.game tables.now) prompt kept.now ≡ None) }
         ensures fault { IfErr result (λ e. frames_fault (T.game tables.now) prompt kept.now ≡ Some e.depth) }

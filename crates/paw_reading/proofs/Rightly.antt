@@ -92,9 +92,9 @@ some_path g code (f ∷ path) r leads = λ e. cc
 
 -- ---- turns ----
 
--- What a run that stops leaves of its places and its line.
+-- What a run that stops leaves of its frames and its line.
 record IsPlacedRightly (g : GameLists) (p : Prompt) (path : List Frame) (r : Run) : Type 0 where
-  places : AreFramesAndLoop g p path r.turning
+  frames : AreFramesAndLoop g p path r.turning
   line : IsLineTaken path r
 
 abbrev StopsPlaced : GameLists → Ending → Type 0
@@ -141,10 +141,10 @@ module _ (g : Story) (v : Valid g.game) where
     table_done_rightly t low (Left a r) k = after_left_rightly t a r (between r k)
     table_done_rightly t low (Waits p path r) k =
         let rightly = waits_rightly g.game t k.code p path r low k.asks (omega (arith, k.few)) k.first k.leads k.sound in
-        (rightly.0, record { places = rightly.1; line = some_path g.game k.code path r k.leads })
+        (rightly.0, record { frames = rightly.1; line = some_path g.game k.code path r k.leads })
     table_done_rightly t low (Stopped Redescribes r) k = goes AtDescribe r (between r k)
     table_done_rightly t low (Stopped Restarts r) k = goes AtDescribe r (between r k)
-    table_done_rightly t low (Stopped (Halts halt.Over) r) k = record { places = (refl, k.0); line = λ e. k.1.0 }
+    table_done_rightly t low (Stopped (Halts halt.Over) r) k = record { frames = (refl, k.0); line = λ e. k.1.0 }
     table_done_rightly t low (Stopped (Halts _) r) k = tt
 
     read_rightly : (t : ℕ) → t ≤ FRAME_TABLE → GoRightly (λ r. table_done g go t (table_read g t r))
@@ -152,7 +152,7 @@ module _ (g : Story) (v : Valid g.game) where
 
     at_main_rightly : (r : Run) (lines : Lines) → IsBetween r → r.pending ≡ [] → IsRightly (at_main g go r lines)
     unfolding at_main
-    at_main_rightly r [] k empty = (λ e. cc, record { places = (refl, k.none); line = λ e. empty })
+    at_main_rightly r [] k empty = (λ e. cc, record { frames = (refl, k.none); line = λ e. empty })
     at_main_rightly r (line ∷ lines) k empty =
         let s : Run = record r { events = lines } in
         either IsRightly (is_ignored r.world line) _ _
@@ -198,21 +198,21 @@ module _ (g : Story) (v : Valid g.game) where
   goes_on_rightly : (n : ℕ) (p : Prompt) (path : List Frame) (r : Run) → IsPlaced g.game r.world → IsPlacedRightly g.game p path r →
       IsRightly (goes_on g n p path r)
   goes_on_rightly n prompt.Main path r of at =
-      at_main_rightly (turn g n) (turn_rightly n) r r.events (record { of = of; none = at.places.1 }) (at.line at.places.0)
-  goes_on_rightly n prompt.Quit path r of at = in_table_rightly n prompt.Quit QUIT path r of refl at.places
-  goes_on_rightly n prompt.Again path r of at = in_table_rightly n prompt.Again END path r of refl at.places
-  goes_on_rightly n prompt.Key path r of at = in_table_rightly n prompt.Key ANYKEY path r of refl at.places
-  goes_on_rightly n prompt.Over path r of at = record { places = (refl, at.places.1); line = λ e. at.line at.places.0 }
+      at_main_rightly (turn g n) (turn_rightly n) r r.events (record { of = of; none = at.frames.1 }) (at.line at.frames.0)
+  goes_on_rightly n prompt.Quit path r of at = in_table_rightly n prompt.Quit QUIT path r of refl at.frames
+  goes_on_rightly n prompt.Again path r of at = in_table_rightly n prompt.Again END path r of refl at.frames
+  goes_on_rightly n prompt.Key path r of at = in_table_rightly n prompt.Key ANYKEY path r of refl at.frames
+  goes_on_rightly n prompt.Over path r of at = record { frames = (refl, at.frames.1); line = λ e. at.line at.frames.0 }
 
 -- ---- all that holds ----
 
--- The places, the line, and what is sound stand rightly.
+-- The frames, the line, and what is sound stand rightly.
 stands : (g : Story) (valid : ValidStory g) (seed : Seed) (n : ℕ) (p : Prompt) (path : List Frame) (r : Run) → IsPlacedRightly g.game p path r →
     IsResting g.game seed n r
     → StandsRightly g.game p path r
 stands g valid seed n p path r at k = record {
   world = world_is g.game seed (n + READ_LIMIT * length r.pieces + length r.read) r.world k.sound.world;
-  places = at.places;
+  frames = at.frames;
   line = at.line;
   pending = k.sound.line;
   earlier = k.sound.earlier;
@@ -278,10 +278,10 @@ apart r = rw (append-nil r.pieces, append-nil r.traces) refl
 
 placed_past : (g : GameLists) (ps : Texts) (ts : List (List StepRow)) (e : Ending) → StopsRightly g e → StopsRightly g (ending_with_past ps ts e)
 placed_past g ps ts (WaitsAt p path r) k =
-    (k.0, record { world = k.1.world; places = k.1.places; line = k.1.line; pending = k.1.pending; earlier = k.1.earlier; piece = k.1.piece; read = k.1.read })
+    (k.0, record { world = k.1.world; frames = k.1.frames; line = k.1.line; pending = k.1.pending; earlier = k.1.earlier; piece = k.1.piece; read = k.1.read })
 placed_past g ps ts (Halted halt.Over r) k = record {
   world = k.world;
-  places = k.places;
+  frames = k.frames;
   line = k.line;
   pending = k.pending;
   earlier = k.earlier;
@@ -291,7 +291,7 @@ placed_past g ps ts (Halted halt.Over r) k = record {
 placed_past g ps ts _ k = tt
 
 alone : (g : GameLists) (p : Prompt) (path : List Frame) (r : Run) → StandsRightly g p path r → StandsRightly g p path (without_past r)
-alone g p path r k = record { world = k.world; places = k.places; line = k.line; pending = k.pending; earlier = k.earlier; piece = k.piece; read = k.read }
+alone g p path r k = record { world = k.world; frames = k.frames; line = k.line; pending = k.pending; earlier = k.earlier; piece = k.piece; read = k.read }
 
 pub going_on_stops_rightly : GoingOnStopsRightly
 going_on_stops_rightly g p path r valid lines k =
@@ -302,7 +302,7 @@ going_on_stops_rightly g p path r valid lines k =
     (record { seeded = refl; draws = omega arith; pieces = λ i d low. absurd (omega arith); traced = refl }) lines in
     let placed = goes_on_rightly g valid.game (phases_left s) p path s
     (k.world.of.facts, (k.world.of.locations, (k.world.places, (stands_in g.game r.world.saved k.world.saved, all_stand g.game r.world.kept k.world.kept))))
-    (record { places = at.places; line = at.line }) in
+    (record { frames = at.frames; line = at.line }) in
     let sounds = going_on_sounds g valid r.world.seed r.world.draws p path s resting in
     let rightly = stop_rightly g valid r.world.seed r.world.draws (going_on_from g p path s) placed sounds in
     subst (λ x. StopsRightly g.game (going_on_from g p path x)) (apart r)

@@ -38,7 +38,7 @@ use Rattle.paw_process.specs.declared.kept.Frames.{Frames}
 use Rattle.paw_process.proofs.Restored.{first_of, second, no_first}
 use Rattle.paw_process.proofs.OpenFrames.{table_of}
 use Rattle.paw_process.proofs.Again.{restored_again}
-use Rattle.paw_process.proofs.Fitting.{places_fit, kept_places}
+use Rattle.paw_process.proofs.Fitting.{places_fit, kept_frames_of_run}
 use Rattle.paw_turn.specs.declared.Step.{Step}
 use Rattle.paw_turn.specs.declared.Step.TheVariants as step
 use Rattle.paw_turn.specs.inner.Player.{PlayerView, WaitsIn, StandsClosed, StandRightly, IsSeated, IsNew, only_counting_player}
@@ -96,7 +96,7 @@ restored_fits g at k w m p world pending size is stands sound = record {
   machine = stands_again g at k m is stands sound;
   rightly = record {
     world = world;
-    places = subst (λ (n : OpenTables). AreFramesAndLoop g at (reverse n.frames) n.turning) (sym is) (kept_places g at k size sound);
+    frames = subst (λ (n : OpenTables). AreFramesAndLoop g at (reverse n.frames) n.turning) (sym is) (kept_frames_of_run g at k size sound);
     line = λ none. pending.taken (unreversed m.frames none);
     pending = pending.bytes;
     earlier = pending.earlier;
@@ -137,7 +137,7 @@ module _ {F : Type 0} (p : PlayerView F) (seated : IsSeated p) (standing : IsSta
   -- Its frames are never refused.
   pub places_kept : frames_fault p.game (prompt_at p.last) (machine_kept p.machine) ≡ None
   places_kept =
-      places_fit p.game (waiting_code (prompt_at p.last)) (reverse p.machine.frames) p.machine.turning (seated.rightly standing).places
+      places_fit p.game (waiting_code (prompt_at p.last)) (reverse p.machine.frames) p.machine.turning (seated.rightly standing).frames
 
   -- And a player that stands with them is the same but for the piece.
   pub same_seat : seat_at p.game p.routines p.world p.machine p.pending (prompt_at p.last) ≡ record p { piece = [] }
@@ -204,7 +204,7 @@ counting_seated p k =
   where
     same : StandRightly p.game (prompt_at p.last) p.world p.machine p.pending
         → StandRightly p.game (prompt_at p.last) p.world (only_counting p.machine) p.pending
-    same r = record { world = r.world; places = r.places; line = r.line; pending = r.pending; earlier = r.earlier; piece = r.piece; read = r.read }
+    same r = record { world = r.world; frames = r.frames; line = r.line; pending = r.pending; earlier = r.earlier; piece = r.piece; read = r.read }
 
 pub counting_new : {F : Type 0} (p : PlayerView F) (seed : Seed) → IsNew p seed → IsNew (only_counting_player p) seed
 counting_new p seed k = record { world = k.world; pending = k.pending; machine = ap (λ (m : OpenTables). only_counting m) k.machine; piece = k.piece }
@@ -220,7 +220,7 @@ taken_fits p m seated standing is =
     (sym (is ∙ restored_again (prompt_at p.last) p.machine (machine_stands p.last p.machine seated.machine standing)))
     (record {
       machine = machine_alike (prompt_at p.last) p.machine READ_LIMIT (no_steps STEP_LIMIT) fits.machine;
-      rightly = record { world = k.world; places = k.places; line = k.line; pending = k.pending; earlier = k.earlier; piece = refl; read = refl };
+      rightly = record { world = k.world; frames = k.frames; line = k.line; pending = k.pending; earlier = k.earlier; piece = refl; read = refl };
     })
 
 -- So do parts that are the same as its own.
@@ -241,7 +241,7 @@ begun p seed most valid world pending machine last = record {
   machine = rw (last, machine) (record { frames = refl; turning = refl; waiting = refl });
   rightly = λ standing. rw (last, world, pending, machine) (record {
     world = world_is p.game seed 0 (opening_world p.game seed) (start_so p.game valid seed);
-    places = (refl, refl);
+    frames = (refl, refl);
     line = λ none. refl;
     pending = record { short = omega arith; bytes = λ k d low. absurd (omega arith) };
     earlier = omega arith;

@@ -66,7 +66,7 @@ pub stands_alike : (g : GameLists) (at : Prompt) (path : List Frame) (w : World)
     (pieces pieces' : Texts) (traces traces' : List (List StepRow)) (lines lines' : Lines)
     → StandsRightly g at path (run_with w m p pieces traces lines) → StandsRightly g at path (run_with w m p pieces' traces' lines')
 stands_alike g at path w m p pieces pieces' traces traces' lines lines' k =
-    record { world = k.world; places = k.places; line = k.line; pending = k.pending; earlier = k.earlier; piece = refl; read = refl }
+    record { world = k.world; frames = k.frames; line = k.line; pending = k.pending; earlier = k.earlier; piece = refl; read = refl }
 
 -- At the end no table is open.
 stands_over : (g : GameLists) (w : World) (m : OpenTables) (p : PendingLine) (pieces : Texts) (traces : List (List StepRow)) → IsClosed m
@@ -74,7 +74,7 @@ stands_over : (g : GameLists) (w : World) (m : OpenTables) (p : PendingLine) (pi
 stands_over g w m p pieces traces closed k =
     record {
       world = k.world;
-      places = (reversed m.frames closed.frames, closed.turning);
+      frames = (reversed m.frames closed.frames, closed.turning);
       line = λ e. k.line refl;
       pending = k.pending;
       earlier = k.earlier;

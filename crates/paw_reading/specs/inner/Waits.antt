@@ -80,7 +80,7 @@ IsLineTaken path r = path ≡ [] → r.pending ≡ []
 -- with no table open nothing is left; the earlier verb is a byte; and the open piece is empty, with nothing read in it.
 pub record StandsRightly (g : GameLists) (p : Prompt) (path : List Frame) (r : Run) : Type 0 where
   pub world : IsWorldOf g r.world
-  pub places : AreFramesAndLoop g p path r.turning
+  pub frames : AreFramesAndLoop g p path r.turning
   pub line : IsLineTaken path r
   pub pending : IsLine r.pending
   pub earlier : r.earlier < 256

@@ -3,7 +3,7 @@ use Rattle.paw_base.specs.declared.limits.TheConstants.{READ_LIMIT}
 use Rattle.paw_base.specs.inner.Steps.{KeptSteps}
 use Rattle.paw_process.specs.inner.Kept.{waiting_at}
 use Rattle.paw_process.proofs.Again.{few_frames, restored_kept}
-use Rattle.paw_process.proofs.Fitting.{kept_places}
+use Rattle.paw_process.proofs.Fitting.{kept_frames_of_run}
 use Rattle.paw_process.proofs.Restored.{stands_at}
 use Rattle.paw_process.proofs.machine.Machine.restore.Goals as goal
 
@@ -25,6 +25,6 @@ returns-clause-again g c =
     restored_kept (g.T.Tables.game c.args.tables.now) c.args.prompt (waiting_at c.args.prompt) c.args.kept.now (omega arith)
     (sym c.frames_fault.ensures.value ∙ c.in_default.is)
 
-pub returns-clause-places : goal.returns-clause-places
-returns-clause-places g c =
-    kept_places (g.T.Tables.game c.args.tables.now) c.args.prompt c.args.kept.now (omega arith) (sym c.frames_fault.ensures.value ∙ c.in_default.is)
+pub returns-clause-frames : goal.returns-clause-frames
+returns-clause-frames g c =
+    kept_frames_of_run (g.T.Tables.game c.args.tables.now) c.args.prompt c.args.kept.now (omega arith) (sym c.frames_fault.ensures.value ∙ c.in_default.is)
