@@ -17,7 +17,7 @@ use Rattle.paw_game.specs.Tables.{table_at}
 use Rattle.paw_game.specs.Valid.{Valid, is_within, is_table}
 use Rattle.paw_game.proofs.ValidGames.{first_of_and, second_of_and}
 use Rattle.paw_check.specs.declared.own.Own.TheVariants as own
-use Rattle.paw_check.specs.declared.spots.Wanted.{Wanted}
+use Rattle.paw_check.specs.declared.spots.Sought.{Sought}
 use Rattle.paw_check.specs.declared.prints.Prints.{Prints}
 use Rattle.paw_check.specs.declared.verdict.Cause.TheVariants as cause
 use Rattle.paw_check.specs.declared.verdict.Verdict.TheVariants as verdict
@@ -29,7 +29,7 @@ use Rattle.paw_check.specs.Verdicts.{bounds, first_with, call_too_deep, circle_o
 use Rattle.paw_check.specs.inner.Capped.{in_32_bits}
 use Rattle.paw_check.specs.inner.Levels.{round_taken}
 use Rattle.paw_check.specs.inner.Own.{own_in}
-use Rattle.paw_check.specs.inner.Spots.{is_wanted, spot_wanted, entry_wanted, any_in_table}
+use Rattle.paw_check.specs.inner.Spots.{is_sought, spot_sought, entry_sought, any_in_table}
 use Rattle.paw_check.specs.inner.Texts.{ArePrints, most_outside, most_end}
 use Rattle.paw_check.specs.inner.Verdicts.{bound_or_cause}
 use Rattle.paw_check.proofs.Capped.{add_alike, product_alike, from_capped}
@@ -46,9 +46,9 @@ short_tables g v = λ i d low.
     (first_of_and (nat_le (length (get_or g.tables i d)) ENTRY_LIMIT) _
     (AllPass-from_list_all (is_table g) g.tables (second_of_and (is_within TABLE_LEAST TABLE_LIMIT (length g.tables)) _ v.tables) i d low))
 
-pub place_is : (g : GameLists) (w : Wanted) (ts : List ℕ) → spot_wanted w g.tables ts ≡ first_with g (is_wanted w) ts
+pub place_is : (g : GameLists) (w : Sought) (ts : List ℕ) → spot_sought w g.tables ts ≡ first_with g (is_sought w) ts
 place_is g w [] = refl
-place_is g w (t ∷ ts) = ap (option_map_or (λ e. Some (t, e)) (entry_wanted w (table_at g t))) (place_is g w ts)
+place_is g w (t ∷ ts) = ap (option_map_or (λ e. Some (t, e)) (entry_sought w (table_at g t))) (place_is g w ts)
 
 -- ---- condacts of tables ----
 
@@ -128,14 +128,14 @@ bounds_counted g h k = rw (h, k) refl
 
 -- ---- what the code found ----
 
-pub found_in : (g : GameLists) (w : Wanted) (tables : List (List Entry)) (numbers ts : List ℕ) (x : Option (ℕ × ℕ))
-    → x ≡ spot_wanted w tables numbers → tables ≡ g.tables → numbers ≡ ts → first_with g (is_wanted w) ts ≡ x
+pub found_in : (g : GameLists) (w : Sought) (tables : List (List Entry)) (numbers ts : List ℕ) (x : Option (ℕ × ℕ))
+    → x ≡ spot_sought w tables numbers → tables ≡ g.tables → numbers ≡ ts → first_with g (is_sought w) ts ≡ x
 found_in g w tables numbers ts x h same those =
-    sym (h ∙ ap (λ (us : List (List Entry)). spot_wanted w us numbers) same ∙ ap (spot_wanted w g.tables) those ∙ place_is g w ts)
+    sym (h ∙ ap (λ (us : List (List Entry)). spot_sought w us numbers) same ∙ ap (spot_sought w g.tables) those ∙ place_is g w ts)
 
-pub any_found : (g : GameLists) (w : Wanted) (tables : List (List Entry)) (numbers ts : List ℕ) (b : Bool)
-    → b ≡ list_any (any_in_table (is_wanted w) tables) numbers → tables ≡ g.tables → numbers ≡ ts
-    → b ≡ list_any (is_wanted w) (flat_map (table_condacts g) ts)
+pub any_found : (g : GameLists) (w : Sought) (tables : List (List Entry)) (numbers ts : List ℕ) (b : Bool)
+    → b ≡ list_any (any_in_table (is_sought w) tables) numbers → tables ≡ g.tables → numbers ≡ ts
+    → b ≡ list_any (is_sought w) (flat_map (table_condacts g) ts)
 any_found g w tables numbers ts b h same those =
-    h ∙ ap (λ (us : List (List Entry)). list_any (any_in_table (is_wanted w) us) numbers) same
-    ∙ ap (list_any (any_in_table (is_wanted w) g.tables)) those ∙ any_is g (is_wanted w) ts
+    h ∙ ap (λ (us : List (List Entry)). list_any (any_in_table (is_sought w) us) numbers) same
+    ∙ ap (list_any (any_in_table (is_sought w) g.tables)) those ∙ any_is g (is_sought w) ts

@@ -12,7 +12,7 @@ ghost use Rattle.paw_check.specs.inner.Verdicts.{bound_or_cause};
 use crate::costs::round_cost;
 use crate::own::Own;
 use crate::reached::reached_from;
-use crate::spots::Wanted;
+use crate::spots::Sought;
 use crate::texts::{most_end, most_outside, prints_of};
 use crate::verdict::{Cause, Verdict};
 use paw_base::fault::NoRoom;
@@ -102,7 +102,7 @@ pub fn check(alloc: Global, game: &Game) -> Result<Verdict, NoRoom>
         parts,
         &[RESPONSE_TABLE, DESCRIBED_TABLE, FRAME_TABLE],
     )?;
-    if let Some((table, entry)) = Wanted::Call.spot(tables, reached.deepest.as_slice()) {
+    if let Some((table, entry)) = Sought::Call.spot(tables, reached.deepest.as_slice()) {
         return Ok(Verdict::Unknown {
             cause: Cause::Calls,
             table,
@@ -110,13 +110,13 @@ pub fn check(alloc: Global, game: &Game) -> Result<Verdict, NoRoom>
         });
     }
     let described = reached_from(alloc, parts, &[DESCRIBED_TABLE, FRAME_TABLE])?;
-    if let Some((table, entry)) = Wanted::Description.spot(tables, described.all.as_slice()) {
+    if let Some((table, entry)) = Sought::Description.spot(tables, described.all.as_slice()) {
         return Ok(Verdict::Unknown {
             cause: Cause::Redescribe,
             table,
             entry,
         });
     }
-    let changing = Wanted::VerbWriter.is_in(tables, reached.all.as_slice());
+    let changing = Sought::VerbWriter.is_in(tables, reached.all.as_slice());
     bound_or_cause(alloc, parts, reached.levels, changing)
 }

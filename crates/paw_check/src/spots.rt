@@ -6,7 +6,7 @@ ghost use Rattle.std.specs.Option.{unwrap_or};
 ghost use Rattle.paw_base.specs.declared.limits.TheConstants.{ENTRY_LIMIT};
 ghost use Rattle.paw_check.specs.Verbs.{may_write_verb};
 ghost use Rattle.paw_check.specs.Verdicts.{redescribes};
-ghost use Rattle.paw_check.specs.inner.Spots.{is_wanted, entry_wanted, spot_wanted, any_in_entries, any_in_table};
+ghost use Rattle.paw_check.specs.inner.Spots.{is_sought, entry_sought, spot_sought, any_in_entries, any_in_table};
 
 use crate::prints::{is_indirect, plain_code};
 use crate::sets::entries_of;
@@ -59,34 +59,34 @@ fn redescribes(condact: &Condact) -> bool
 
 /// A kind of condact that is looked for.
 #[derive(Clone, Copy, Drop, PartialEq, Eq, Debug)]
-pub(crate) enum Wanted {
+pub(crate) enum Sought {
     Call,
     Description,
     VerbWriter,
 }
 
-impl Wanted {
+impl Sought {
     // Whether a condact is of this kind.
     fn is(self, condact: &Condact) -> bool
-        ensures value { result ≡ is_wanted self condact.now }
+        ensures value { result ≡ is_sought self condact.now }
     {
         match self {
-            Wanted::Call => condact.code == codes::PROCESS,
-            Wanted::Description => redescribes(condact),
-            Wanted::VerbWriter => may_write_verb(condact),
+            Sought::Call => condact.code == codes::PROCESS,
+            Sought::Description => redescribes(condact),
+            Sought::VerbWriter => may_write_verb(condact),
         }
     }
 
     // Whether one of these condacts is of this kind.
     fn is_one_of(self, condacts: &[Condact]) -> bool
-        ensures value { result ≡ list_any (is_wanted self) condacts.now }
+        ensures value { result ≡ list_any (is_sought self) condacts.now }
     {
         condacts.iter().any(|condact| self.is(condact))
     }
 
     // The first entry with a condact of this kind.
     fn entry(self, entries: &[Entry]) -> Option<usize>
-        ensures value { result ≡ entry_wanted self entries.now }
+        ensures value { result ≡ entry_sought self entries.now }
         ensures within { IfSome result (λ entry. entry ≤ length entries.now) }
     {
         entries
@@ -97,7 +97,7 @@ impl Wanted {
     // The first entry with a condact of this kind of the table with this number.
     fn entry_of(self, tables: &[Table], number: u8) -> Option<usize>
         requires short { All (λ table. length table ≤ ENTRY_LIMIT) tables.now }
-        ensures value { result ≡ entry_wanted self (unwrap_or (slice_get tables.now number) []) }
+        ensures value { result ≡ entry_sought self (unwrap_or (slice_get tables.now number) []) }
         ensures within { IfSome result (λ entry. entry ≤ ENTRY_LIMIT) }
     {
         self.entry(entries_of(tables, number))
@@ -106,7 +106,7 @@ impl Wanted {
     /// The first of the tables with these numbers that has a condact of this kind, and its first entry with one.
     pub(crate) fn spot(self, tables: &[Table], numbers: &[u8]) -> Option<(u8, u16)>
         requires short { All (λ table. length table ≤ ENTRY_LIMIT) tables.now }
-        ensures value { result ≡ spot_wanted self tables.now numbers.now }
+        ensures value { result ≡ spot_sought self tables.now numbers.now }
     {
         for number in numbers {
             if let Some(entry) = self.entry_of(tables, *number) {
@@ -118,7 +118,7 @@ impl Wanted {
 
     // Whether one of these entries has a condact of this kind.
     fn is_in_entries(self, entries: &[Entry]) -> bool
-        ensures value { result ≡ any_in_entries (is_wanted self) entries.now }
+        ensures value { result ≡ any_in_entries (is_sought self) entries.now }
     {
         entries
             .iter()
@@ -127,14 +127,14 @@ impl Wanted {
 
     // Whether the table with this number has a condact of this kind.
     fn is_in_table(self, tables: &[Table], number: u8) -> bool
-        ensures value { result ≡ any_in_table (is_wanted self) tables.now number }
+        ensures value { result ≡ any_in_table (is_sought self) tables.now number }
     {
         self.is_in_entries(entries_of(tables, number))
     }
 
     /// Whether one of the tables with these numbers has a condact of this kind.
     pub(crate) fn is_in(self, tables: &[Table], numbers: &[u8]) -> bool
-        ensures value { result ≡ list_any (any_in_table (is_wanted self) tables.now) numbers.now }
+        ensures value { result ≡ list_any (any_in_table (is_sought self) tables.now) numbers.now }
     {
         numbers
             .iter()

@@ -1,5 +1,5 @@
 use Rattle.paw_check.proofs.SpotLaws.{spot_more, spot_found}
-use Rattle.paw_check.proofs.spots.Wanted.spot.Goals as goal
+use Rattle.paw_check.proofs.spots.Sought.spot.Goals as goal
 
 pub loop-number-preserved : goal.loop-number-preserved
 loop-number-preserved c =
