@@ -65,15 +65,15 @@ bytes_are g bytes v n b h =
     sym (state_same (state_in g (fields_at bytes))
     ∙ (ap field_bytes (state_back g (fields_at bytes) v (sized_at bytes n b) (sound_at g bytes n b h)) ∙ fields_join bytes n b))
 
-pub state_kept : (g : GameLists) (bytes : Bytes) → Valid g → STATE_LENGTH ≤ length bytes → AreBytes bytes → unfit g bytes ≡ None
+pub state_right : (g : GameLists) (bytes : Bytes) → Valid g → STATE_LENGTH ≤ length bytes → AreBytes bytes → unfit g bytes ≡ None
     → IsValidState g (state_in g (fields_at bytes))
-state_kept g bytes v n b h =
+state_right g bytes v n b h =
     valid_of g (state_in g (fields_at bytes)) (follows_in g (fields_at bytes) v (sized_at bytes n b) (sound_at g bytes n b h))
 
 pub none_is_fit : (g : GameLists) (bytes : Bytes) → Valid g → STATE_LENGTH ≤ length bytes → AreBytes bytes → unfit g bytes ≡ None → Fit g bytes
 none_is_fit g bytes v n b h = record {
   state = state_in g (fields_at bytes);
-  valid = state_kept g bytes v n b h;
+  valid = state_right g bytes v n b h;
   fits = fits_at g bytes n b;
   are = bytes_are g bytes v n b h;
 }
@@ -111,7 +111,7 @@ pub is_read : (g : GameLists) (bytes : Bytes) (r : Restored) → Valid g → STA
     IsRead g bytes r
 is_read g bytes r v n b h e machine at = record {
   are = bytes_are g bytes v n b h ∙ ap state_bytes (sym e);
-  valid = subst (IsValidState g) (sym e) (state_kept g bytes v n b h);
+  valid = subst (IsValidState g) (sym e) (state_right g bytes v n b h);
   fits = subst FitsFields (sym e) (fits_at g bytes n b);
   machine = machine;
   stands = at;

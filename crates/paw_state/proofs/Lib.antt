@@ -11,7 +11,7 @@ pub mod Scans
 pub mod Frames
 pub mod Loops
 pub mod Back
-pub mod Keeping
+pub mod Following
 pub mod Sizes
 pub mod Ruled
 pub mod Lawful

@@ -30,9 +30,9 @@ use Rattle.paw_state.proofs.Firsts.{nothing_left, or_none, free, frames_faults, 
 use Rattle.paw_state.proofs.Firsts.{places_same, kept_faults, line_same, all_hold}
 use Rattle.paw_state.proofs.Found.{take_filled, all_so, drop_filled, two, filled_take, none_in_zeros, length-filled}
 use Rattle.paw_state.proofs.Found.{no_first, two_none, none_first}
-use Rattle.paw_state.proofs.Keeping.{objects_length, kept_kept, no_machine_fault, machine_sound, line_kept, saved_sized}
-use Rattle.paw_state.proofs.Keeping.{places_sound, kept_sound, kept_from, saved_from, line_sound, code_low, held_sound}
-use Rattle.paw_state.proofs.Keeping.{places_from, held_kept}
+use Rattle.paw_state.proofs.Following.{objects_length, kept_right, no_machine_fault, machine_sound, line_right, saved_sized}
+use Rattle.paw_state.proofs.Following.{places_sound, kept_sound, kept_from, saved_from, line_sound, code_low, held_sound}
+use Rattle.paw_state.proofs.Following.{places_from, held_right}
 use Rattle.paw_state.proofs.Listed.{each_bytes, pending_same, frames_same, looping_same, held_same}
 use Rattle.paw_state.proofs.Loops.{turning_rest, loop_counted, looping_low, presence_back, loop_sound, turning_back}
 use Rattle.paw_state.proofs.Loops.{loop_found}
@@ -239,8 +239,8 @@ fields_back g s k =
 
 -- ---- a state follows its rules where its fields have no fault ----
 
-pub frames_kept : (g : GameLists) (f : Fields) → AreSound g f → fault_at g (waiting_code (prompt_of f.prompt)) (frames_in f) ≡ None
-frames_kept g f s =
+pub frames_right : (g : GameLists) (f : Fields) → AreSound g f → fault_at g (waiting_code (prompt_of f.prompt)) (frames_in f) ≡ None
+frames_right g f s =
     no_machine_fault g (waiting_code (prompt_of f.prompt)) (frames_in f) s.count
     (frame_fields_sound g (unwrap_or (waiting_code (prompt_of f.prompt)) 0) None f.count FRAMES 0 f.rows s.frames) (loop_sound g f s.turning)
 
@@ -255,10 +255,10 @@ sound_in g f v z s =
       objects = omega (arith, each, few_objects g v);
       facts = length-map g.objects (λ (o : ObjectRow). o.facts) ∙ each;
       flags = z.flags;
-      saved = alike (position_in (length g.objects) f.saved) (held_kept g SAVED f.saved v z.saved s.saved);
+      saved = alike (position_in (length g.objects) f.saved) (held_right g SAVED f.saved v z.saved s.saved);
       kept = record {
         four = length-map f.kept (position_in (length g.objects)) ∙ z.four;
-        each = λ i d low. alike (get_or kept i d) (kept_kept g KEPT f.kept v z.kept s.kept i d low);
+        each = λ i d low. alike (get_or kept i d) (kept_right g KEPT f.kept v z.kept s.kept i d low);
       };
     }
 
@@ -269,16 +269,16 @@ follows_in g f v z s = record {
   places = (
     all_so (is_place (length g.locations)) PLACES (take (length g.objects) f.places) (objects_stand g PLACES f.places s.places),
     (
-      held_placed g (position_in (length g.objects) f.saved) (held_kept g SAVED f.saved v z.saved s.saved),
-      λ i d low. held_placed g (get_or (map (position_in (length g.objects)) f.kept) i d) (kept_kept g KEPT f.kept v z.kept s.kept i d low),
+      held_placed g (position_in (length g.objects) f.saved) (held_right g SAVED f.saved v z.saved s.saved),
+      λ i d low. held_placed g (get_or (map (position_in (length g.objects)) f.kept) i d) (kept_right g KEPT f.kept v z.kept s.kept i d low),
     ),
   );
   events = leb-true f.events EVENT_LIMIT s.events;
   draws = leb-true f.draws (READ_LIMIT * (f.events + 1)) s.draws;
   rows = length-map f.rows frame_in ∙ z.rows;
-  frames = frames_kept g f s;
+  frames = frames_right g f s;
   line = omega (arith, length-take f.pending f.line, z.line);
-  pending = line_kept (waiting_code (prompt_of f.prompt)) f.pending f.line s.pending;
+  pending = line_right (waiting_code (prompt_of f.prompt)) f.pending f.line s.pending;
 }
 
 pub sound_fields : (g : GameLists) (s : State) → FollowsEachRule g s → AreSound g (fields_of s)
@@ -337,12 +337,12 @@ each_of g s k =
       draws = leb-true s.world.draws (READ_LIMIT * (s.events + 1)) sound.draws;
       rows = k.rows;
       frames = subst (λ (x : Frames). fault_at g (waiting_code s.prompt) x ≡ None) frames
-          (subst (λ (p : Prompt). fault_at g (waiting_code p) (frames_in f) ≡ None) (prompt_again s.prompt) (frames_kept g f sound));
+          (subst (λ (p : Prompt). fault_at g (waiting_code p) (frames_in f) ≡ None) (prompt_again s.prompt) (frames_right g f sound));
       line = k.line;
       pending = subst (λ (l : Bytes). IfNone (waiting_code s.prompt) (l ≡ [])) (take_filled (length s.pending.bytes) s.pending.bytes refl)
           (subst (λ (p : Prompt). IfNone (waiting_code p) (take (length s.pending.bytes) (filled_with_zeros LINE_LIMIT s.pending.bytes) ≡ []))
           (prompt_again s.prompt)
-          (line_kept (waiting_code (prompt_of f.prompt)) (length s.pending.bytes) (filled_with_zeros LINE_LIMIT s.pending.bytes) sound.pending));
+          (line_right (waiting_code (prompt_of f.prompt)) (length s.pending.bytes) (filled_with_zeros LINE_LIMIT s.pending.bytes) sound.pending));
     }
 
 -- ---- to fields ----

@@ -1,8 +1,8 @@
-use Rattle.paw_state.proofs.Ruled.{sound_of, frames_kept}
+use Rattle.paw_state.proofs.Ruled.{sound_of, frames_right}
 use Rattle.paw_state.proofs.parts.restore_fields.Goals as goal
 
 pub machine_in-requires : goal.machine_in-requires
 machine_in-requires g c = record {
   sound = rw c.prompt_of-prompt.ensures.value
-      (frames_kept (g.T.Tables.game c.args.tables.now) c.args.fields.now (sound_of (g.T.Tables.game c.args.tables.now) c.args.fields.now c.requires.sound));
+      (frames_right (g.T.Tables.game c.args.tables.now) c.args.fields.now (sound_of (g.T.Tables.game c.args.tables.now) c.args.fields.now c.requires.sound));
 }

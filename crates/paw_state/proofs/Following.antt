@@ -60,8 +60,8 @@ machine_sound g code k h = go (count_fits code k.count) refl h
 pub objects_length : (g : GameLists) (places : ObjectPlaces) → Valid g → length places ≡ OBJECT_LIMIT → length (take (length g.objects) places) ≡ length g.objects
 objects_length g places v size = omega (arith, length-take (length g.objects) places, few_objects g v)
 
-pub held_kept : (g : GameLists) (at : ℕ) (h : PositionField) → Valid g → IsSizedPosition h → position_fault g at h ≡ None → IsHeldOf g (position_in (length g.objects) h)
-held_kept g at h v z q = go (h.there == 0)
+pub held_right : (g : GameLists) (at : ℕ) (h : PositionField) → Valid g → IsSizedPosition h → position_fault g at h ≡ None → IsHeldOf g (position_in (length g.objects) h)
+held_right g at h v z q = go (h.there == 0)
     (two (rule at (nat_le h.there 1)) (if h.there == 0 then absent_fault at h else places_fault g (at + POSITION_PLACES) h.places) q).1
   where
     go : (b : Bool) → (if b then absent_fault at h else places_fault g (at + POSITION_PLACES) h.places) ≡ None
@@ -74,18 +74,18 @@ held_kept g at h v z q = go (h.there == 0)
           (objects_stand g (at + POSITION_PLACES) h.places k);
     }
 
-pub kept_kept : (g : GameLists) (at : ℕ) (kept : List PositionField) → Valid g → All IsSizedPosition kept → kept_fault g at kept ≡ None
+pub kept_right : (g : GameLists) (at : ℕ) (kept : List PositionField) → Valid g → All IsSizedPosition kept → kept_fault g at kept ≡ None
     → All (IsHeldOf g) (map (position_in (length g.objects)) kept)
 unfolding kept_fault
-kept_kept g at [] v z h = λ k d low. absurd (omega (arith, low))
-kept_kept g at (k ∷ ks) v z h =
+kept_right g at [] v z h = λ k d low. absurd (omega (arith, low))
+kept_right g at (k ∷ ks) v z h =
     let p = no_first (position_fault g at k) (kept_fault g (at + POSITION_LENGTH) ks) h in
-    All-cons (IsHeldOf g) (position_in (length g.objects) k) (map (position_in (length g.objects)) ks) (held_kept g at k v (z 0 k (omega arith)) p.0)
-    (kept_kept g (at + POSITION_LENGTH) ks v (λ i d low. z (suc i) d (omega (arith, low))) p.1)
+    All-cons (IsHeldOf g) (position_in (length g.objects) k) (map (position_in (length g.objects)) ks) (held_right g at k v (z 0 k (omega arith)) p.0)
+    (kept_right g (at + POSITION_LENGTH) ks v (λ i d low. z (suc i) d (omega (arith, low))) p.1)
 
-pub line_kept : (code : Option ℕ) (n : ℕ) (line : Line) → (is_some code || (n == 0)) ≡ true → IfNone code (take n line ≡ [])
-line_kept None n line h = let z : n ≡ 0 = eqb-true n 0 h in rw z refl
-line_kept (Some code) n line h = tt
+pub line_right : (code : Option ℕ) (n : ℕ) (line : Line) → (is_some code || (n == 0)) ≡ true → IfNone code (take n line ≡ [])
+line_right None n line h = let z : n ≡ 0 = eqb-true n 0 h in rw z refl
+line_right (Some code) n line h = tt
 
 -- ---- the fields of a state that follows its rules have no fault ----
 
