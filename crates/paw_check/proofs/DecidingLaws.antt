@@ -37,7 +37,7 @@ use Rattle.paw_check.proofs.LevelLaws.{round_alike}
 use Rattle.paw_check.proofs.SetLaws.{any_of_flat}
 use Rattle.paw_check.proofs.TextLaws.{text_alike}
 
--- ---- places ----
+-- ---- spots ----
 
 -- The tables of a valid game have at most 4,000 entries.
 pub short_tables : (g : GameLists) → Valid g → All (λ table. length table ≤ ENTRY_LIMIT) g.tables
@@ -46,9 +46,9 @@ short_tables g v = λ i d low.
     (first_of_and (nat_le (length (get_or g.tables i d)) ENTRY_LIMIT) _
     (AllPass-from_list_all (is_table g) g.tables (second_of_and (is_within TABLE_LEAST TABLE_LIMIT (length g.tables)) _ v.tables) i d low))
 
-pub place_is : (g : GameLists) (w : Sought) (ts : List ℕ) → spot_sought w g.tables ts ≡ first_with g (is_sought w) ts
-place_is g w [] = refl
-place_is g w (t ∷ ts) = ap (option_map_or (λ e. Some (t, e)) (entry_sought w (table_at g t))) (place_is g w ts)
+pub spot_is : (g : GameLists) (w : Sought) (ts : List ℕ) → spot_sought w g.tables ts ≡ first_with g (is_sought w) ts
+spot_is g w [] = refl
+spot_is g w (t ∷ ts) = ap (option_map_or (λ e. Some (t, e)) (entry_sought w (table_at g t))) (spot_is g w ts)
 
 -- ---- condacts of tables ----
 
@@ -131,7 +131,7 @@ bounds_counted g h k = rw (h, k) refl
 pub found_in : (g : GameLists) (w : Sought) (tables : List (List Entry)) (numbers ts : List ℕ) (x : Option (ℕ × ℕ))
     → x ≡ spot_sought w tables numbers → tables ≡ g.tables → numbers ≡ ts → first_with g (is_sought w) ts ≡ x
 found_in g w tables numbers ts x h same those =
-    sym (h ∙ ap (λ (us : List (List Entry)). spot_sought w us numbers) same ∙ ap (spot_sought w g.tables) those ∙ place_is g w ts)
+    sym (h ∙ ap (λ (us : List (List Entry)). spot_sought w us numbers) same ∙ ap (spot_sought w g.tables) those ∙ spot_is g w ts)
 
 pub any_found : (g : GameLists) (w : Sought) (tables : List (List Entry)) (numbers ts : List ℕ) (b : Bool)
     → b ≡ list_any (any_in_table (is_sought w) tables) numbers → tables ≡ g.tables → numbers ≡ ts

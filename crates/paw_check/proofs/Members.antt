@@ -85,16 +85,16 @@ any_weaker p q h (x ∷ xs) k =
 
 -- ---- what passes a test, and ranges ----
 
-kept_by : (b : Bool) (u v : ℕ) (vs : List ℕ) → In u vs → In u (cond b (v ∷ vs) vs)
-kept_by true u v vs h = or_right (v == u) (is_among vs u) h
-kept_by false u v vs h = h
+in_passed : (b : Bool) (u v : ℕ) (vs : List ℕ) → In u vs → In u (cond b (v ∷ vs) vs)
+in_passed true u v vs h = or_right (v == u) (is_among vs u) h
+in_passed false u v vs h = h
 
 pub in_filtered : (q : ℕ → Bool) (us : List ℕ) (u : ℕ) → q u ≡ true → In u us → In u (filter q us)
 in_filtered q [] u pass at = cc
 in_filtered q (v ∷ vs) u pass at =
     elim (or_cases (v == u) (is_among vs u) at) [
       | inl here ↦ first here (subst (λ w. q w ≡ true) (sym (eqb-true v u here)) pass)
-      | inr later ↦ kept_by (q v) u v (filter q vs) (in_filtered q vs u pass later)
+      | inr later ↦ in_passed (q v) u v (filter q vs) (in_filtered q vs u pass later)
     ]
   where
     first : (v == u) ≡ true → q v ≡ true → In u (cond (q v) (v ∷ filter q vs) (filter q vs))

@@ -80,22 +80,22 @@ any_entry is_so (en ∷ es) h =
     ]
 
 -- Neither here nor later.
-record NoPlace (t : ℕ) (here : Option ℕ) (later : Option (ℕ × ℕ)) : Type 0 where
+record NoSpot (t : ℕ) (here : Option ℕ) (later : Option (ℕ × ℕ)) : Type 0 where
   none_here : here ≡ None
   none_later : later ≡ None
 
-no_place : (t : ℕ) (here : Option ℕ) (later : Option (ℕ × ℕ)) →
-    ◌≡◌ {A = Option (ℕ × ℕ)} (option_map_or (λ (e : ℕ). Some (t, e)) here later) None → NoPlace t here later
-no_place t None later h = record { none_here = refl; none_later = h }
-no_place t (Some e) later h = cc
+no_spot : (t : ℕ) (here : Option ℕ) (later : Option (ℕ × ℕ)) →
+    ◌≡◌ {A = Option (ℕ × ℕ)} (option_map_or (λ (e : ℕ). Some (t, e)) here later) None → NoSpot t here later
+no_spot t None later h = record { none_here = refl; none_later = h }
+no_spot t (Some e) later h = cc
 
--- Where there is no place none of these tables has such a condact.
+-- Where there is no spot none of these tables has such a condact.
 pub no_first : (g : GameLists) (is_so : Condact → Bool) (ts : List ℕ) → first_with g is_so ts ≡ None → (t : ℕ) → In t ts →
     list_any is_so (table_condacts g t) ≡ true → ⊥
 no_first g is_so [] none t at h = cc
 no_first g is_so (u ∷ us) none t at h =
-    let k : NoPlace u (entry_with is_so (table_at g u)) (first_with g is_so us) =
-    no_place u (entry_with is_so (table_at g u)) (first_with g is_so us) none in
+    let k : NoSpot u (entry_with is_so (table_at g u)) (first_with g is_so us) =
+    no_spot u (entry_with is_so (table_at g u)) (first_with g is_so us) none in
     elim (or_cases (u == t) (is_among us t) at) [
       | inl here ↦
           no_position (λ (e : Entry). list_any is_so e.condacts) (table_at g u) k.none_here

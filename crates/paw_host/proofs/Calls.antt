@@ -32,9 +32,9 @@ pub attaches_answer : (c : StageCall) → IsOneOf (call.Attach ∷ []) c → IsO
 attaches_answer c (inl e) = inl e
 attaches_answer c (inr h) = absurd h
 
-pub reads_kept : (c : StageCall) → IsOneOf (call.Read ∷ []) c → IsOneOf (call.Read ∷ writing_calls) c
-reads_kept c (inl e) = inl e
-reads_kept c (inr h) = absurd h
+pub reads_among : (c : StageCall) → IsOneOf (call.Read ∷ []) c → IsOneOf (call.Read ∷ writing_calls) c
+reads_among c (inl e) = inl e
+reads_among c (inr h) = absurd h
 
-pub writes_kept : (c : StageCall) → IsOneOf writing_calls c → IsOneOf (call.Read ∷ writing_calls) c
-writes_kept c h = inr h
+pub writes_among : (c : StageCall) → IsOneOf writing_calls c → IsOneOf (call.Read ∷ writing_calls) c
+writes_among c h = inr h

@@ -16,7 +16,7 @@ use Rattle.paw_journal.proofs.Moved.{beside_none, beside_same}
 use Rattle.paw_journal.proofs.Serving.{serves_among, serves_none, serves_then}
 use Rattle.paw_host.specs.inner.Answers.{IsAside, answer_calls}
 use Rattle.paw_host.specs.inner.Store.{IsAttachedStable, LeavesStage}
-use Rattle.paw_host.proofs.Calls.{reads_kept}
+use Rattle.paw_host.proofs.Calls.{reads_among}
 use Rattle.paw_host.proofs.Reaching.{attached_still, aside_beside}
 
 -- Where nothing is called, the store is left as it was.
@@ -29,7 +29,7 @@ pub leaves_read : {S : Type 0} (g : Ghosts S) (failed : Option StageCall) (Left 
     ReadsStore g failed old new → (g.Tells old → Left (g.standing old) (g.standing new)) →
     LeavesStage g (call.Read ∷ writing_calls) failed ChangesStoreOnly Left old new
 leaves_read g failed Left old new reads left = record {
-  serves = serves_among g (call.Read ∷ []) (call.Read ∷ writing_calls) failed old new reads_kept reads.serves;
+  serves = serves_among g (call.Read ∷ []) (call.Read ∷ writing_calls) failed old new reads_among reads.serves;
   beside = λ tells. beside_same (g.standing old) (g.standing new) (reads.still tells);
   left = left;
 }

@@ -22,11 +22,11 @@ decimal_digits = numerals_by_value (λ ds. list_all is_ascii_digit ds ≡ true) 
   more = λ c cs k h. and_from (is_ascii_digit c) _ (and_from (leb 48 c) (leb c 57) (le-leb 48 c k.0) (le-leb c 57 k.1)) h;
 })
 
--- What a parse of this many digits gives, where a number below the limit is kept.
-kept_below : {E : Type 0} (limit n count : ℕ) (r : Result ℕ E) → OkIff r ((0 < count) × (n < limit)) n
+-- What a parse of this many digits gives, where a number below the limit is taken.
+parsed_below : {E : Type 0} (limit n count : ℕ) (r : Result ℕ E) → OkIff r ((0 < count) × (n < limit)) n
     → result_ok r ≡ option_and_then (λ m. cond (ltb m limit) (Some m) None) (cond (ltb 0 count) (Some n) None)
-kept_below limit n count (Ok x) h = rw (h.1, lt-ltb 0 count h.0.0, lt-ltb n limit h.0.1) refl
-kept_below limit n count (Err e) h =
+parsed_below limit n count (Ok x) h = rw (h.1, lt-ltb 0 count h.0.0, lt-ltb n limit h.0.1) refl
+parsed_below limit n count (Err e) h =
     elim (ltb 0 count) as (λ a. ltb 0 count ≡ a →
     ◌≡◌ {A = Option ℕ} None (option_and_then (λ m. cond (ltb m limit) (Some m) None) (cond a (Some n) None))) [
       | true ↦ λ s. elim (ltb n limit) as (λ b. ltb n limit ≡ b → ◌≡◌ {A = Option ℕ} None (cond b (Some n) None)) [
@@ -43,7 +43,7 @@ pub number_is : {E : Type 0} (bits most : ℕ) (word : Bytes) (r : Result ℕ E)
 number_is bits most word r t h =
     let both = and_parts (leb (length word) most) _ t in
     rw (both.0, both.1, and-true (ltb 0 (length word)))
-    (kept_below (2 ^ bits) (digits_value 10 word) (length word) r (parse_digits decimal_digits bits word r h both.1))
+    (parsed_below (2 ^ bits) (digits_value 10 word) (length word) r (parse_digits decimal_digits bits word r h both.1))
 
 -- A seed is parsed so.
 pub seed_is : {E : Type 0} (word : Bytes) (r : Result ℕ E) → (leb (length word) 20 && list_all is_ascii_digit word) ≡ true

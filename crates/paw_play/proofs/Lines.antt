@@ -77,8 +77,8 @@ answer_short : (yes : Bool) → length (answer_text yes) ≤ 5
 answer_short true = omega arith
 answer_short false = omega arith
 
-pub place_short : (table entry at : ℕ) → table < 2 ^ 8 → entry < 2 ^ 16 → at < 2 ^ 8 → length (step_address table entry at) ≤ 13
-place_short table entry at low few under =
+pub address_short : (table entry at : ℕ) → table < 2 ^ 8 → entry < 2 ^ 16 → at < 2 ^ 8 → length (step_address table entry at) ≤ 13
+address_short table entry at low few under =
     let t : length (decimal table) ≤ 3 = length-decimal-le 3 table (omega arith) (omega (arith, low)) (omega (arith, low)) in
     let e : length (decimal entry) ≤ 5 = length-decimal-le 5 entry (omega arith) (omega (arith, few)) (omega (arith, few)) in
     let a : length (decimal at) ≤ 3 = length-decimal-le 3 at (omega arith) (omega (arith, under)) (omega (arith, under)) in

@@ -10,11 +10,11 @@ set-last : {A : Type 0} (xs : List A) (y z : A) → set (xs ++ y ∷ []) (length
 set-last [] y z = refl
 set-last {A} (x ∷ xs) y z = ap (λ (ys : List A). x ∷ ys) (set-last xs y z)
 
-last_place : {A : Type 0} (xs : List A) (y : A) → length (xs ++ y ∷ []) - 1 ≡ length xs
-last_place xs y = omega (arith, length-append xs (y ∷ []))
+last_index : {A : Type 0} (xs : List A) (y : A) → length (xs ++ y ∷ []) - 1 ≡ length xs
+last_index xs y = omega (arith, length-append xs (y ∷ []))
 
 pub last_or-push : {A : Type 0} (other : A) (xs : List A) (y : A) → last_or other (xs ++ y ∷ []) ≡ y
-last_or-push {A} other xs y = ap (λ n. get_or (xs ++ y ∷ []) n other) (last_place xs y) ∙ get_or-last xs y other
+last_or-push {A} other xs y = ap (λ n. get_or (xs ++ y ∷ []) n other) (last_index xs y) ∙ get_or-last xs y other
 
 pub with_last-push : {A : Type 0} (z : A) (xs : List A) (y : A) → with_last z (xs ++ y ∷ []) ≡ xs ++ z ∷ []
-with_last-push {A} z xs y = ap (λ n. set (xs ++ y ∷ []) n z) (last_place xs y) ∙ set-last xs y z
+with_last-push {A} z xs y = ap (λ n. set (xs ++ y ∷ []) n z) (last_index xs y) ∙ set-last xs y z

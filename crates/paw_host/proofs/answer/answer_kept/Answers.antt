@@ -14,7 +14,7 @@ use Rattle.paw_play.specs.Stands.{Stands}
 use Rattle.paw_host.specs.Replies.{NamedSession, At, answer_taking, answer}
 use Rattle.paw_host.specs.Promise.{Stores}
 use Rattle.paw_host.specs.inner.Answers.{SitsAt, Answers, InFile, StoresEither}
-use Rattle.paw_host.proofs.Calls.{writes_kept}
+use Rattle.paw_host.proofs.Calls.{writes_among}
 use Rattle.paw_host.proofs.Keeping.{kept_refused, kept_told, kept_each, still_in_file}
 use Rattle.paw_host.proofs.Leaving.{leaves_read}
 use Rattle.paw_host.proofs.Staying.{stays_on}
@@ -83,7 +83,7 @@ pub returns-in-Some-clause-leaves : goal.returns-in-Some-clause-leaves
 returns-in-Some-clause-leaves g c = record {
   serves =
       serves_then g.S.Stage _ _ (failed_stage_call c.take_text.result) _ _ _ c.in-Ok-Some.ensures.reads.serves
-      (serves_among g.S.Stage _ _ (failed_stage_call c.take_text.result) _ _ writes_kept c.take_text.ensures.leaves.serves);
+      (serves_among g.S.Stage _ _ (failed_stage_call c.take_text.result) _ _ writes_among c.take_text.ensures.leaves.serves);
   beside = λ tells.
       subst (λ q. ChangesStoreOnly q (g.S.Stage.standing c.take_text.new.stage)) (c.resume_player.ensures.reads.still tells)
       (c.take_text.ensures.leaves.beside (c.resume_player.ensures.reads.serves.tells.0 tells));
