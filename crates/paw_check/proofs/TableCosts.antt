@@ -14,7 +14,7 @@ use Rattle.paw_game.specs.Game.{GameLists}
 use Rattle.paw_game.specs.Tables.{table_at}
 use Rattle.paw_check.specs.Measures.{greatest}
 use Rattle.paw_check.specs.Costs.{counting, with_call, passed_over, cost, most_cost, verb_may_change}
-use Rattle.paw_check.proofs.Tables.{turned}
+use Rattle.paw_check.proofs.Tables.{in_all_passes}
 
 -- A condact opens a loop.
 abbrev pub opens : Condact → Bool
@@ -39,9 +39,9 @@ passes_cost : (o d s : ℕ) → (1 + o * d) * s ≡ s + d * (o * s)
 passes_cost o d s = rw (add-mul 1 (o * d) s, one-mul s, mul_comm o d, mul_assoc d o s) refl
 
 -- A loop over n objects whose passes take at most s.
-pub turned_most : (s once more n : ℕ) → once ≤ s → turned once more n ≤ n * s + more
-turned_most s once more zero h = omega arith
-turned_most s once more (suc n) h = omega (arith, h, turned_most s once more n h, suc-mul n s)
+pub in_all_passes_most : (s once more n : ℕ) → once ≤ s → in_all_passes once more n ≤ n * s + more
+in_all_passes_most s once more zero h = omega arith
+in_all_passes_most s once more (suc n) h = omega (arith, h, in_all_passes_most s once more n h, suc-mul n s)
 
 counted_if : (k : ℕ) (b : Bool) (n : ℕ) → (if b then k else 0) + n * k ≡ (cond b 1 0 + n) * k
 counted_if k true n = rw (add-mul 1 n k, one-mul k) refl

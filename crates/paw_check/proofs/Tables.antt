@@ -91,13 +91,13 @@ allowed_above None n a b h k = k
 allowed_above (Some l) n a b h k = h
 
 -- The most that a loop takes over this number of objects: a pass for each, and what follows the last.
-abbrev pub turned : ℕ → ℕ → ℕ → ℕ
-turned once more zero = more
-turned once more (suc n) = once + turned once more n
+abbrev pub in_all_passes : ℕ → ℕ → ℕ → ℕ
+in_all_passes once more zero = more
+in_all_passes once more (suc n) = once + in_all_passes once more n
 
-more_turned : (once more n : ℕ) → more ≤ turned once more n
-more_turned once more zero = omega arith
-more_turned once more (suc n) = omega (arith, more_turned once more n)
+more_in_all_passes : (once more n : ℕ) → more ≤ in_all_passes once more n
+more_in_all_passes once more zero = omega arith
+more_in_all_passes once more (suc n) = omega (arith, more_in_all_passes once more n)
 
 all_left : {A : Type 0} (xs : List A) → drop 0 xs ≡ xs
 all_left [] = refl
@@ -334,22 +334,22 @@ module _ (g : Story) (valid : ValidStory g) (kind : SpentKind) (limit pending : 
     again_ends next a b d h goes (Stopped stop r) k = stops_up (Inside lv a b) (Outside lv d) b d h stop r k
 
     turns_end : (l : OpenLoop) (body : Run → Out) (once more : ℕ) → l.level ≡ lv → Takes once more body → (n : ℕ) → n ≤ length g.game.objects →
-        (m : ℕ) (r : Run) → Is lv r → used kind r ≤ m → m + turned once more n ≤ limit →
-        Ends (Outside lv (m + turned once more n)) (m + turned once more n) (over_objects g lv l body n r)
+        (m : ℕ) (r : Run) → Is lv r → used kind r ≤ m → m + in_all_passes once more n ≤ limit →
+        Ends (Outside lv (m + in_all_passes once more n)) (m + in_all_passes once more n) (over_objects g lv l body n r)
     unfolding over_objects
     turns_end l body once more own takes zero few m r k u fits = (no_loop lv r k, (refl, omega (arith, u)))
     turns_end l body once more own takes (suc n) few m r k u fits =
         let o : ℕ = length g.game.objects - suc n in
         let small : o < 256 = omega (arith, few_objects g.game valid.game) in
         let s : Run = object_taken g.game l o r in
-        let some : more ≤ turned once more n = more_turned once more n in
-        let most : ℕ = m + turned once more (suc n) in
+        let some : more ≤ in_all_passes once more n = more_in_all_passes once more n in
+        let most : ℕ = m + in_all_passes once more (suc n) in
         either (Ends (Outside lv most) most) (is_taken g.game r.world l o) _ _
         (again_ends (λ _. over_objects g lv l body n) (m + once) (m + (once + more)) most (omega (arith, some))
-        (λ q j is v. outside_up lv (m + once + turned once more n) most (omega arith) (over_objects g lv l body n j)
+        (λ q j is v. outside_up lv (m + once + in_all_passes once more n) most (omega arith) (over_objects g lv l body n j)
         (turns_end l body once more own takes n (omega (arith, few)) (m + once) j is v (omega (arith, fits))))
         (body s) (takes m s (taken_is lv l o r own small k) u (omega (arith, fits, some))))
-        (outside_up lv (m + turned once more n) most (omega arith) (over_objects g lv l body n r)
+        (outside_up lv (m + in_all_passes once more n) most (omega arith) (over_objects g lv l body n r)
         (turns_end l body once more own takes n (omega (arith, few)) m r k u (omega (arith, fits))))
 
     after_call_ends : (once more : ℕ) (f : Frame) (go : Bool → Run → Out) → Goes once more go → (m : ℕ) → m + (once + more) ≤ limit → (x : Out) →
@@ -413,7 +413,7 @@ module _ (g : Story) (valid : ValidStory g) (kind : SpentKind) (limit pending : 
         (quiet : (c : Condact) → Has c → changing ≡ false → may_write_verb c ≡ false)
         (takes extra : Condact → ℕ) (own_takes : (c : Condact) → own_of kind g.game c ≤ takes c)
         (all loop_cost : ℕ) (loops : (c : Condact) → c.code ≡ DOALL → extra c ≡ loop_cost)
-        (wide : (once more : ℕ) → once ≤ all → turned once more (length g.game.objects) ≤ loop_cost + more)
+        (wide : (once more : ℕ) → once ≤ all → in_all_passes once more (length g.game.objects) ≤ loop_cost + more)
         (sub : ℕ → Run → Out)
         (calls : (c : Condact) → Has c → c.code ≡ PROCESS → (m : ℕ) (r : Run) → Is lv r → used kind r ≤ m + own_of kind g.game c →
         m + takes c ≤ limit → Ends (Anyhow lv (m + takes c)) (m + takes c) (sub c.a r)) where
@@ -473,9 +473,9 @@ module _ (g : Story) (valid : ValidStory g) (kind : SpentKind) (limit pending : 
             behind (after_call f go (sub t r)) (after_call_ends once more f go goes_go (m + takes c) (omega (arith, fits)) (sub t r) same)
         after_action_ends (effect.Loop p) w leads kept parses r k speaks u =
             let n : ℕ = length g.game.objects in
-            let room : turned once more n ≤ loop_cost + more = wide once more short in
+            let room : in_all_passes once more n ≤ loop_cost + more = wide once more short in
             let own : extra c ≡ loop_cost = loops c leads.0 in
-            outside_inside lv (m + (takes c + once)) (m + takes c + turned once more n) (m + ((takes c + once) + (extra c + more)))
+            outside_inside lv (m + (takes c + once)) (m + takes c + in_all_passes once more n) (m + ((takes c + once) + (extra c + more)))
             (omega (arith, room, own)) (over_objects g lv (loop_of lv f p) (go true) n r)
             (turns_end (loop_of lv f p) (go true) once more refl (goes_go true) n (omega arith) (m + takes c) r (loose lv r k (speaks (λ e. cc)))
             (omega (arith, u, own_takes c)) (omega (arith, room, own, fits)))

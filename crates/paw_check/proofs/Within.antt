@@ -39,7 +39,7 @@ use Rattle.paw_check.proofs.Reaching.{Member, each_of_table, calls_below, of_gam
 use Rattle.paw_check.proofs.Levels.{some_tables, one_of_three, in_three}
 use Rattle.paw_check.proofs.Uses.{of_kind, used, own_of, Closed}
 use Rattle.paw_check.proofs.Tables.{Steady, Is, Ends, Outside, Anyhow, ends_up, reads_end}
-use Rattle.paw_check.proofs.TableCosts.{if_opens, takes_at, own_takes, turned_most, cost_is, verb_most}
+use Rattle.paw_check.proofs.TableCosts.{if_opens, takes_at, own_takes, in_all_passes_most, cost_is, verb_most}
 
 -- ---- loops and levels ----
 
@@ -135,7 +135,7 @@ module _ (g : Story) (valid : ValidStory g) (flat : call_too_deep g.game ≡ Non
       reads_end g valid kind limit pending changing verb low bye lv (Stands t)
       (λ c stands. stands.1) (quiet lv t few at) (takes_at g.game own count n) (if_opens (length g.game.objects * all))
       (own_takes g.game own count n) all (length g.game.objects * all) (loops_take (length g.game.objects * all))
-      (λ once more h. turned_most all once more (length g.game.objects) h) (table_called g n lv) calls (called_leaves_loop g n lv) t
+      (λ once more h. in_all_passes_most all once more (length g.game.objects) h) (table_called g n lv) calls (called_leaves_loop g n lv) t
       (each_of_table g.game valid.game t (Stands t) (λ c member kept. (member, kept))) (omega arith) m r k none u (omega (arith, is, fits)) in
       subst (λ x. EndsSo (Shut lv (m + x)) (m + x) (read_at_level g (table_called g n lv) lv t 0 0 false r)) (sym is) ends
 

@@ -70,15 +70,15 @@ again_counts lv next h v (Left a r) k = open_or_not (Counts v) (λ l. next l r) 
 again_counts lv next h v (Waits p path r) k = k
 again_counts lv next h v (Stopped stop r) k = k
 
-turns_count : (g : Story) (lv : ℕ) (l : OpenLoop) (body : Run → Out) → IsCounting body → (n : ℕ) → IsCounting (over_objects g lv l body n)
+passes_count : (g : Story) (lv : ℕ) (l : OpenLoop) (body : Run → Out) → IsCounting body → (n : ℕ) → IsCounting (over_objects g lv l body n)
 unfolding over_objects
-turns_count g lv l body h zero v r k = k
-turns_count g lv l body h (suc n) v r k =
+passes_count g lv l body h zero v r k = k
+passes_count g lv l body h (suc n) v r k =
     let o : ℕ = length g.game.objects - suc n in
     either (Counts v) (is_taken g.game r.world l o) _ _
-    (again_counts lv (λ _. over_objects g lv l body n) (λ m. turns_count g lv l body h n) v (body (object_taken g.game l o r))
+    (again_counts lv (λ _. over_objects g lv l body n) (λ m. passes_count g lv l body h n) v (body (object_taken g.game l o r))
     (h v (object_taken g.game l o r) k))
-    (turns_count g lv l body h n v r k)
+    (passes_count g lv l body h n v r k)
 
 after_call_counts : (f : Frame) (go : Bool → Run → Out) → AreCounting go → (v : ℕ) (x : Out) → Counts v x → Counts v (after_call f go x)
 after_call_counts f go h v (Left b r) k = h (f.acted || b) v r k
@@ -134,7 +134,7 @@ module _ (g : Story) (sub : ℕ → Run → Out) (lv : ℕ) (calls : CallsCounti
   after_action_counts f next go hn hg (effect.Exit a) v r k = k
   after_action_counts f next go hn hg effect.Redescribe v r k = k
   after_action_counts f next go hn hg (effect.Call u) v r k = after_call_counts f go hg v (sub u r) (calls u v r k)
-  after_action_counts f next go hn hg (effect.Loop p) v r k = turns_count g lv (loop_of lv f p) (go true) (hg true) (length g.game.objects) v r k
+  after_action_counts f next go hn hg (effect.Loop p) v r k = passes_count g lv (loop_of lv f p) (go true) (hg true) (length g.game.objects) v r k
   after_action_counts f next go hn hg (effect.Ask p) v r k = waits_counts g p f go hg v r k
   after_action_counts f next go hn hg effect.Parse v r k =
       after_parse_counts f next go hn hg (coming_phrase g r) v r k
@@ -161,7 +161,7 @@ module _ (g : Story) (sub : ℕ → Run → Out) (lv : ℕ) (calls : CallsCounti
       e k a r v h
 
   looped_counts : (l : OpenLoop) → IsCounting (rest_of_loop g sub lv l)
-  looped_counts l = turns_count g lv (record l { last = 0 }) _ (plain_counts l.table l.entry (suc l.at) true) (length g.game.objects - suc l.last)
+  looped_counts l = passes_count g lv (record l { last = 0 }) _ (plain_counts l.table l.entry (suc l.at) true) (length g.game.objects - suc l.last)
 
   reads_count : (t e k : ℕ) → AreCounting (read_at_level g sub lv t e k)
   reads_count t e k a v r h = again_counts lv (rest_of_loop g sub lv) looped_counts v _ (plain_counts t e k a v r h)

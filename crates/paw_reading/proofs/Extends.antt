@@ -35,7 +35,7 @@ use Rattle.paw_reading.specs.Reading.{rest_of_entry, from_condact, rest_of_loop,
 use Rattle.paw_reading.specs.Reading.{rest_of_table, coming_phrase, game_over}
 use Rattle.paw_reading.specs.inner.Parts.{goodbye, quit_question}
 use Rattle.paw_reading.specs.GoingOn.{on_path}
-use Rattle.paw_reading.proofs.LeavesLoop.{LeavesLoop, at_level_own, at_level_is, turns_closes, plain_leaves_loop, looped_closes}
+use Rattle.paw_reading.proofs.LeavesLoop.{LeavesLoop, at_level_own, at_level_is, passes_closes, plain_leaves_loop, looped_closes}
 use Rattle.paw_reading.proofs.LeavesLoop.{deeper_leaves_loop}
 use Rattle.paw_reading.proofs.Rules.{inside_end, inside_condact, again_closed, again_again, after_call_again}
 use Rattle.paw_reading.proofs.Rules.{deeper_rest, deeper_none}
@@ -169,7 +169,7 @@ module _ (g : Story) (ps : Texts) (ts : List (List StepRow)) (lines : Lines) whe
             let q : at_level lv s.turning ≡ Some (record l { last = o }) = rw k (at_level_own lv (record l { last = o }) own) in
             rw (q, e)
             (sym (again_closed g (deeper g lv) lv (rest_of_loop g (deeper g lv) lv) (more (around ps ts lines s))
-            (turns_closes g lv (record l { last = 0 }) body own (plain_leaves_loop g (deeper g lv) lv (deeper_leaves_loop g lv) l.table l.entry (suc l.at) true) n
+            (passes_closes g lv (record l { last = 0 }) body own (plain_leaves_loop g (deeper g lv) lv (deeper_leaves_loop g lv) l.table l.entry (suc l.at) true) n
             (around ps ts lines s)))
             ∙ ih s)
         after o e ih (Left a s) (inr k) = rw k refl

@@ -101,16 +101,16 @@ again_closes lv l next own h (Left a r) k =
 again_closes lv l next own h (Waits p path r) k = tt
 again_closes lv l next own h (Stopped stop r) k = tt
 
-pub turns_closes : (g : Story) (lv : ℕ) (l : OpenLoop) (body : Run → Out) → l.level ≡ lv → ((r : Run) → LeavesLoop r.turning (body r)) → (n : ℕ) (r : Run) →
+pub passes_closes : (g : Story) (lv : ℕ) (l : OpenLoop) (body : Run → Out) → l.level ≡ lv → ((r : Run) → LeavesLoop r.turning (body r)) → (n : ℕ) (r : Run) →
     LeavesLoop None (over_objects g lv l body n r)
 unfolding over_objects
-turns_closes g lv l body own h zero r = inr refl
-turns_closes g lv l body own h (suc n) r =
+passes_closes g lv l body own h zero r = inr refl
+passes_closes g lv l body own h (suc n) r =
     let o : ℕ = length g.game.objects - suc n in
     either (LeavesLoop None) _ _ _
-    (again_closes lv (record l { last = o }) _ own (λ m s. turns_closes g lv l body own h n s) (body (object_taken g.game l o r))
+    (again_closes lv (record l { last = o }) _ own (λ m s. passes_closes g lv l body own h n s) (body (object_taken g.game l o r))
     (h (object_taken g.game l o r)))
-    (turns_closes g lv l body own h n r)
+    (passes_closes g lv l body own h n r)
 
 -- ---- calls, prompts, phrases ----
 
@@ -159,7 +159,7 @@ module _ (g : Story) (sub : ℕ → Run → Out) (lv : ℕ) (calls : CallsLeavin
   after_action_leaves_loop f next go hn hg effect.Redescribe r = tt
   after_action_leaves_loop f next go hn hg (effect.Call u) r = after_call_leaves_loop f go hg r.turning (sub u r) (calls u r)
   after_action_leaves_loop f next go hn hg (effect.Loop p) r =
-      LeavesLoop_none r.turning _ (turns_closes g lv (loop_of lv f p) (go true) refl (hg true) (length g.game.objects) r)
+      LeavesLoop_none r.turning _ (passes_closes g lv (loop_of lv f p) (go true) refl (hg true) (length g.game.objects) r)
   after_action_leaves_loop f next go hn hg (effect.Ask p) r = asked_leaves_loop g p f go hg (piece_closed r) r.events
   after_action_leaves_loop f next go hn hg effect.Parse r = after_parse_leaves_loop f next go hn hg r _
   after_action_leaves_loop f next go hn hg effect.Spent r = tt
@@ -191,7 +191,7 @@ module _ (g : Story) (sub : ℕ → Run → Out) (lv : ℕ) (calls : CallsLeavin
 
   pub looped_closes : (l : OpenLoop) (r : Run) → l.level ≡ lv → LeavesLoop None (rest_of_loop g sub lv l r)
   looped_closes l r own =
-      turns_closes g lv (record l { last = 0 }) _ own (plain_leaves_loop l.table l.entry (suc l.at) true) (length g.game.objects - suc l.last) r
+      passes_closes g lv (record l { last = 0 }) _ own (plain_leaves_loop l.table l.entry (suc l.at) true) (length g.game.objects - suc l.last) r
 
   again_leaves_loop : (o : Option OpenLoop) (x : Out) → LeavesLoop o x → LeavesLoop o (next_object_or lv (rest_of_loop g sub lv) x)
   again_leaves_loop o (Left a r) k =

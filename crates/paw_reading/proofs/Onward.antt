@@ -21,7 +21,7 @@ use Rattle.paw_reading.specs.inner.Rules.{past, at_frame, leaves, looks, goes, M
 use Rattle.paw_reading.specs.inner.Rules.{FollowsActions}
 use Rattle.paw_reading.specs.inner.Rules.{LoopRules, AnswersPrompts, ReadingOn}
 use Rattle.paw_reading.proofs.Lists.{drop_none, drop_some}
-use Rattle.paw_reading.proofs.LeavesLoop.{LeavesLoop, prints, at_level_own, turns_closes, plain_leaves_loop, deeper_leaves_loop}
+use Rattle.paw_reading.proofs.LeavesLoop.{LeavesLoop, prints, at_level_own, passes_closes, plain_leaves_loop, deeper_leaves_loop}
 use Rattle.paw_reading.proofs.Rules.{within_budget, within_none, inside_end, inside_condact, again_closed}
 use Rattle.paw_reading.proofs.Rules.{after_call_again, deeper_rest, deeper_none}
 
@@ -90,7 +90,7 @@ module _ (g : Story) (lv : ℕ) where
   begins f p r =
       let all : length g.game.objects - 0 ≡ length g.game.objects = omega arith in
       rw all (again_closed g (deeper g lv) lv _ _
-      (turns_closes g lv (loop_of lv f p) _ refl (plain_leaves_loop g (deeper g lv) lv (deeper_leaves_loop g lv) f.table f.entry (suc f.at) true)
+      (passes_closes g lv (loop_of lv f p) _ refl (plain_leaves_loop g (deeper g lv) lv (deeper_leaves_loop g lv) f.table f.entry (suc f.at) true)
       (length g.game.objects) r))
 
   follows_actions : FollowsActions g lv

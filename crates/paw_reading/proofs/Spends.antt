@@ -79,15 +79,15 @@ again_spends lv next h v (Left a r) k =
 again_spends lv next h v (Waits p path r) k = tt
 again_spends lv next h v (Stopped stop r) k = k
 
-turns_spend : (g : Story) (lv : ℕ) (l : OpenLoop) (body : Run → Out) → IsSpending body → (n : ℕ) → IsSpending (over_objects g lv l body n)
+passes_spend : (g : Story) (lv : ℕ) (l : OpenLoop) (body : Run → Out) → IsSpending body → (n : ℕ) → IsSpending (over_objects g lv l body n)
 unfolding over_objects
-turns_spend g lv l body h zero r = omega arith
-turns_spend g lv l body h (suc n) r =
+passes_spend g lv l body h zero r = omega arith
+passes_spend g lv l body h (suc n) r =
     let o : ℕ = length g.game.objects - suc n in
     either (Spends (left_to_read r)) (is_taken g.game r.world l o) _ _
-    (again_spends lv (λ _. over_objects g lv l body n) (λ m s. turns_spend g lv l body h n s) (left_to_read r) (body (object_taken g.game l o r))
+    (again_spends lv (λ _. over_objects g lv l body n) (λ m s. passes_spend g lv l body h n s) (left_to_read r) (body (object_taken g.game l o r))
     (h (object_taken g.game l o r)))
-    (turns_spend g lv l body h n r)
+    (passes_spend g lv l body h n r)
 
 after_call_spends : (f : Frame) (go : Bool → Run → Out) → AreSpending go → (v : ℕ) (x : Out) → Spends v x → Spends v (after_call f go x)
 after_call_spends f go h v (Left b r) k = Spends_up (left_to_read r) v k (go (f.acted || b) r) (h (f.acted || b) r)
@@ -147,7 +147,7 @@ module _ (g : Story) (sub : ℕ → Run → Out) (lv : ℕ) (calls : CallsSpendi
   after_action_spends f next go hn hg (effect.Call u) r =
       Spends_up (left_to_read r) _ (omega arith) _ (after_call_spends f go hg (left_to_read r) (sub u r) (calls u r))
   after_action_spends f next go hn hg (effect.Loop p) r =
-      Spends_up (left_to_read r) _ (omega arith) _ (turns_spend g lv (loop_of lv f p) (go true) (hg true) (length g.game.objects) r)
+      Spends_up (left_to_read r) _ (omega arith) _ (passes_spend g lv (loop_of lv f p) (go true) (hg true) (length g.game.objects) r)
   after_action_spends f next go hn hg (effect.Ask p) r =
       Spends_up (length r.pending + brought r.events) _ (omega arith) _ (asked_spends g p f go hg (piece_closed r) r.events)
   after_action_spends f next go hn hg effect.Parse r =
@@ -187,7 +187,7 @@ module _ (g : Story) (sub : ℕ → Run → Out) (lv : ℕ) (calls : CallsSpendi
       (λ e k a next go hn hg c r few. reads_one_spends (record { table = t; entry = e; at = k; acted = a }) next go hn hg c r few)
 
   looped_spends : (l : OpenLoop) → IsSpending (rest_of_loop g sub lv l)
-  looped_spends l r = turns_spend g lv (record l { last = 0 }) _ (plain_spends l.table l.entry (suc l.at) true) (length g.game.objects - suc l.last) r
+  looped_spends l r = passes_spend g lv (record l { last = 0 }) _ (plain_spends l.table l.entry (suc l.at) true) (length g.game.objects - suc l.last) r
 
   pub again_looped_spends : (v : ℕ) (x : Out) → Spends v x → Spends v (next_object_or lv (rest_of_loop g sub lv) x)
   again_looped_spends v x k = again_spends lv (rest_of_loop g sub lv) looped_spends v x k

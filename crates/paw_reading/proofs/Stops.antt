@@ -56,14 +56,14 @@ again_stops lv next h (Left a r) k = open_or_not Stops (λ l. next l r) (Left a 
 again_stops lv next h (Waits p path r) k = k
 again_stops lv next h (Stopped stop r) k = k
 
-turns_stop : (g : Story) (lv : ℕ) (l : OpenLoop) (body : Run → Out) → ((r : Run) → Stops (body r)) → (n : ℕ) (r : Run) → Stops (over_objects g lv l body n r)
+passes_stop : (g : Story) (lv : ℕ) (l : OpenLoop) (body : Run → Out) → ((r : Run) → Stops (body r)) → (n : ℕ) (r : Run) → Stops (over_objects g lv l body n r)
 unfolding over_objects
-turns_stop g lv l body h zero r = tt
-turns_stop g lv l body h (suc n) r =
+passes_stop g lv l body h zero r = tt
+passes_stop g lv l body h (suc n) r =
     let o : ℕ = length g.game.objects - suc n in
     either Stops (is_taken g.game r.world l o) _ _
-    (again_stops lv (λ _. over_objects g lv l body n) (λ m s. turns_stop g lv l body h n s) (body (object_taken g.game l o r)) (h (object_taken g.game l o r)))
-    (turns_stop g lv l body h n r)
+    (again_stops lv (λ _. over_objects g lv l body n) (λ m s. passes_stop g lv l body h n s) (body (object_taken g.game l o r)) (h (object_taken g.game l o r)))
+    (passes_stop g lv l body h n r)
 
 pub after_call_stops : (f : Frame) (go : Bool → Run → Out) → AreStopping go → (x : Out) → Stops x → Stops (after_call f go x)
 after_call_stops f go h (Left b r) k = h (f.acted || b) r
@@ -109,7 +109,7 @@ module _ (g : Story) (sub : ℕ → Run → Out) (lv : ℕ) (calls : CallsStoppi
   after_action_stops f next go hn hg (effect.Exit a) r = tt
   after_action_stops f next go hn hg effect.Redescribe r = refl
   after_action_stops f next go hn hg (effect.Call u) r = after_call_stops f go hg (sub u r) (calls u r)
-  after_action_stops f next go hn hg (effect.Loop p) r = turns_stop g lv (loop_of lv f p) (go true) (hg true) (length g.game.objects) r
+  after_action_stops f next go hn hg (effect.Loop p) r = passes_stop g lv (loop_of lv f p) (go true) (hg true) (length g.game.objects) r
   after_action_stops f next go hn hg (effect.Ask p) r = asked_stops g p f go hg (piece_closed r) r.events
   after_action_stops f next go hn hg effect.Parse r = after_parse_stops f next go hn hg r _
   after_action_stops f next go hn hg effect.Spent r = tt
@@ -134,7 +134,7 @@ module _ (g : Story) (sub : ℕ → Run → Out) (lv : ℕ) (calls : CallsStoppi
       (λ e k a next go hn hg c r few. reads_one_stops (record { table = t; entry = e; at = k; acted = a }) next go hn hg c r)
 
   looped_stops : (l : OpenLoop) (r : Run) → Stops (rest_of_loop g sub lv l r)
-  looped_stops l r = turns_stop g lv (record l { last = 0 }) _ (plain_stops l.table l.entry (suc l.at) true) (length g.game.objects - suc l.last) r
+  looped_stops l r = passes_stop g lv (record l { last = 0 }) _ (plain_stops l.table l.entry (suc l.at) true) (length g.game.objects - suc l.last) r
 
   again_looped_stops : (x : Out) → Stops x → Stops (next_object_or lv (rest_of_loop g sub lv) x)
   again_looped_stops x k = again_stops lv (rest_of_loop g sub lv) looped_stops x k
