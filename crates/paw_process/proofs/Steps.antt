@@ -22,7 +22,7 @@ use Rattle.paw_reading.specs.Reading.{rest_of_table, reads_one}
 use Rattle.paw_reading.specs.GoingOn.{on_path}
 use Rattle.paw_reading.specs.inner.GoingOn.{along}
 use Rattle.paw_reading.proofs.Onward.{taken_again}
-use Rattle.paw_reading.proofs.LeavesLoop.{at_level_own, plain_leaves_loop, turns_closes, deeper_leaves_loop}
+use Rattle.paw_reading.proofs.LeavesLoop.{at_level_own, plain_leaves_loop, passes_closes, deeper_leaves_loop}
 use Rattle.paw_reading.proofs.Rules.{within_budget, within_none, inside_end, inside_condact, plain_left}
 use Rattle.paw_reading.proofs.Rules.{plain_match, plain_inside, again_closed, after_call_again}
 use Rattle.paw_reading.proofs.Along.{along_stopped, on_path_reverse}
@@ -110,7 +110,7 @@ pub acted_loop : (g : Story) (fs : List Frame) (f : Frame) (p : ℕ) (r : Run)
 acted_loop g fs f p r =
     let sub : ℕ → Run → Out = deeper g (length fs) in
     ap (along g fs) (again_closed g sub (length fs) (rest_of_loop g sub (length fs)) _
-    (turns_closes g (length fs) (loop_of (length fs) f p) (past_of g fs f true) refl
+    (passes_closes g (length fs) (loop_of (length fs) f p) (past_of g fs f true) refl
     (plain_leaves_loop g sub (length fs) (deeper_leaves_loop g (length fs)) f.table f.entry (suc f.at) true) (length g.game.objects) r))
 
 pub acted_redescribes : (g : Story) (fs : List Frame) (f : Frame) (r : Run) →
