@@ -93,17 +93,17 @@ module _ (g : Story) (Describes : Type 0) (lv : ℕ) where
       (x y : Out) → Same x y → Same (next_object_or lv next x) (next_object_or lv on y)
   again_alike next on h x y k = subst (λ z. Same (next_object_or lv next x) (next_object_or lv on z)) k.0 (again_itself next on h x k.1)
 
-  turns_alike : (l : OpenLoop) (body on : Run → Out) → l.level ≤ lv → ((r : Run) → AtMost lv r.turning → Same (body r) (on r)) →
+  passes_alike : (l : OpenLoop) (body on : Run → Out) → l.level ≤ lv → ((r : Run) → AtMost lv r.turning → Same (body r) (on r)) →
       (n : ℕ) (r : Run) → Same (over_objects g lv l body n r) (over_objects g lv l on n r)
   unfolding over_objects
-  turns_alike l body on low h zero r = itself (Left true (without_loop r)) tt
-  turns_alike l body on low h (suc n) r =
+  passes_alike l body on low h zero r = itself (Left true (without_loop r)) tt
+  passes_alike l body on low h (suc n) r =
       let o : ℕ = length g.game.objects - suc n in
       both Same (is_taken g.game r.world l o) _ _ _ _
-      (again_alike (λ _. over_objects g lv l body n) (λ _. over_objects g lv l on n) (λ m s j. turns_alike l body on low h n s)
+      (again_alike (λ _. over_objects g lv l body n) (λ _. over_objects g lv l on n) (λ m s j. passes_alike l body on low h n s)
       (body (object_taken g.game l o r))
       (on (object_taken g.game l o r)) (h (object_taken g.game l o r) low))
-      (turns_alike l body on low h n r)
+      (passes_alike l body on low h n r)
 
   -- ---- calls and prompts ----
 
@@ -181,7 +181,7 @@ module _ (g : Story) (Describes : Type 0) (lv : ℕ) where
     after_action_alike f w effect.Redescribe r l k = itself (Stopped Redescribes (without_loop r)) l
     after_action_alike f w (effect.Call u) r l k = after_call_alike f w.go w.on_go w.goes (sub u r) (over_sub u r) (calls u l r k)
     after_action_alike f w (effect.Loop p) r l k =
-        turns_alike (loop_of lv f p) (w.go true) (w.on_go true) (omega arith) (w.goes true) (length g.game.objects) r
+        passes_alike (loop_of lv f p) (w.go true) (w.on_go true) (omega arith) (w.goes true) (length g.game.objects) r
     after_action_alike f w (effect.Ask p) r l k = waits_alike p f w.go w.on_go w.goes r k
     after_action_alike f w effect.Parse r l k = after_parse_alike f w r (coming_phrase g r) k
     after_action_alike f w effect.Spent r l k = itself (halts (halt.Spent spent.Text) r) tt

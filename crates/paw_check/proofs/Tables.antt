@@ -333,12 +333,12 @@ module _ (g : Story) (valid : ValidStory g) (kind : SpentKind) (limit pending : 
     again_ends next a b d h goes (Waits p path r) k = k
     again_ends next a b d h goes (Stopped stop r) k = stops_up (Inside lv a b) (Outside lv d) b d h stop r k
 
-    turns_end : (l : OpenLoop) (body : Run → Out) (once more : ℕ) → l.level ≡ lv → Takes once more body → (n : ℕ) → n ≤ length g.game.objects →
+    passes_end : (l : OpenLoop) (body : Run → Out) (once more : ℕ) → l.level ≡ lv → Takes once more body → (n : ℕ) → n ≤ length g.game.objects →
         (m : ℕ) (r : Run) → Is lv r → used kind r ≤ m → m + in_all_passes once more n ≤ limit →
         Ends (Outside lv (m + in_all_passes once more n)) (m + in_all_passes once more n) (over_objects g lv l body n r)
     unfolding over_objects
-    turns_end l body once more own takes zero few m r k u fits = (no_loop lv r k, (refl, omega (arith, u)))
-    turns_end l body once more own takes (suc n) few m r k u fits =
+    passes_end l body once more own takes zero few m r k u fits = (no_loop lv r k, (refl, omega (arith, u)))
+    passes_end l body once more own takes (suc n) few m r k u fits =
         let o : ℕ = length g.game.objects - suc n in
         let small : o < 256 = omega (arith, few_objects g.game valid.game) in
         let s : Run = object_taken g.game l o r in
@@ -347,10 +347,10 @@ module _ (g : Story) (valid : ValidStory g) (kind : SpentKind) (limit pending : 
         either (Ends (Outside lv most) most) (is_taken g.game r.world l o) _ _
         (again_ends (λ _. over_objects g lv l body n) (m + once) (m + (once + more)) most (omega (arith, some))
         (λ q j is v. outside_up lv (m + once + in_all_passes once more n) most (omega arith) (over_objects g lv l body n j)
-        (turns_end l body once more own takes n (omega (arith, few)) (m + once) j is v (omega (arith, fits))))
+        (passes_end l body once more own takes n (omega (arith, few)) (m + once) j is v (omega (arith, fits))))
         (body s) (takes m s (taken_is lv l o r own small k) u (omega (arith, fits, some))))
         (outside_up lv (m + in_all_passes once more n) most (omega arith) (over_objects g lv l body n r)
-        (turns_end l body once more own takes n (omega (arith, few)) m r k u (omega (arith, fits))))
+        (passes_end l body once more own takes n (omega (arith, few)) m r k u (omega (arith, fits))))
 
     after_call_ends : (once more : ℕ) (f : Frame) (go : Bool → Run → Out) → Goes once more go → (m : ℕ) → m + (once + more) ≤ limit → (x : Out) →
         Ends (Anyhow lv m) m x → Ends (Inside lv (m + once) (m + (once + more))) (m + (once + more)) (after_call f go x)
@@ -477,7 +477,7 @@ module _ (g : Story) (valid : ValidStory g) (kind : SpentKind) (limit pending : 
             let own : extra c ≡ loop_cost = loops c leads.0 in
             outside_inside lv (m + (takes c + once)) (m + takes c + in_all_passes once more n) (m + ((takes c + once) + (extra c + more)))
             (omega (arith, room, own)) (over_objects g lv (loop_of lv f p) (go true) n r)
-            (turns_end (loop_of lv f p) (go true) once more refl (goes_go true) n (omega arith) (m + takes c) r (loose lv r k (speaks (λ e. cc)))
+            (passes_end (loop_of lv f p) (go true) once more refl (goes_go true) n (omega arith) (m + takes c) r (loose lv r k (speaks (λ e. cc)))
             (omega (arith, u, own_takes c)) (omega (arith, room, own, fits)))
         after_action_ends (effect.Ask p) w leads kept parses r k speaks u =
             behind (waits g p f go r)

@@ -42,10 +42,10 @@ module _ (g : Story) (lv : ℕ) (l : OpenLoop) (body : Run → Out) where
   taking o n r = next_object_or lv (λ _. over n) (body (object_taken g.game l o r))
 
   -- No object is left.
-  turns_none : (n : ℕ) (r : Run) → least_taken g.game r.world l.place n ≡ None → over n r ≡ Left true (without_loop r)
+  passes_none : (n : ℕ) (r : Run) → least_taken g.game r.world l.place n ≡ None → over n r ≡ Left true (without_loop r)
   unfolding over_objects least_taken
-  turns_none zero r h = refl
-  turns_none (suc n) r h = go (turns_none n r) (is_next g.game r.world l.place (length g.game.objects - suc n)) h
+  passes_none zero r h = refl
+  passes_none (suc n) r h = go (passes_none n r) (is_next g.game r.world l.place (length g.game.objects - suc n)) h
     where
       go : (least_taken g.game r.world l.place n ≡ None → over n r ≡ Left true (without_loop r)) → (b : Bool)
           → ◌≡◌ {A = Option ℕ} (if b then Some (length g.game.objects - suc n) else least_taken g.game r.world l.place n) None
@@ -54,11 +54,11 @@ module _ (g : Story) (lv : ℕ) (l : OpenLoop) (body : Run → Out) where
       go later false q = later q
 
   -- The next object.
-  turns_some : (n : ℕ) (r : Run) (o : ℕ) → n ≤ length g.game.objects → least_taken g.game r.world l.place n ≡ Some o
+  passes_some : (n : ℕ) (r : Run) (o : ℕ) → n ≤ length g.game.objects → least_taken g.game r.world l.place n ≡ Some o
       → over n r ≡ taking o (length g.game.objects - suc o) r
   unfolding over_objects least_taken
-  turns_some zero r o low h = cc
-  turns_some (suc n) r o low h = go (turns_some n r o (omega arith)) (is_next g.game r.world l.place (length g.game.objects - suc n)) h
+  passes_some zero r o low h = cc
+  passes_some (suc n) r o low h = go (passes_some n r o (omega arith)) (is_next g.game r.world l.place (length g.game.objects - suc n)) h
     where
       here : (j : ℕ) → j ≡ length g.game.objects - suc n → taking j n r ≡ taking j (length g.game.objects - suc j) r
       here j q = let m : length g.game.objects - suc j ≡ n = omega arith in rw m refl
@@ -72,14 +72,14 @@ module _ (g : Story) (lv : ℕ) (l : OpenLoop) (body : Run → Out) where
 -- A loop with no object left.
 pub turning_none : (g : Story) (fs : List Frame) (l : OpenLoop) (n : ℕ) (r : Run) → least_taken g.game r.world l.place n ≡ None
     → loop_at_frames g fs l n r ≡ along g fs (Left true (without_loop r))
-turning_none g fs l n r h = ap (along g fs) (turns_none g (length fs) l _ n r h)
+turning_none g fs l n r h = ap (along g fs) (passes_none g (length fs) l _ n r h)
 
 -- A loop takes the next object.
 pub turning_some : (g : Story) (fs : List Frame) (l : OpenLoop) (n : ℕ) (r : Run) (o : ℕ) → l.level ≡ length fs → n ≤ length g.game.objects
     → least_taken g.game r.world l.place n ≡ Some o
     → loop_at_frames g fs l n r ≡ along g fs (rest_of_table g (length fs) l.table l.entry (suc l.at) true (object_taken g.game l o r))
 turning_some g fs l n r o own low h =
-    ap (along g fs) (turns_some g (length fs) l _ n r o low h
+    ap (along g fs) (passes_some g (length fs) l _ n r o low h
     ∙ taken_again g (deeper g (length fs)) (length fs) l o _ own
     (plain_leaves_loop g (deeper g (length fs)) (length fs) (deeper_leaves_loop g (length fs)) l.table l.entry (suc l.at) true (object_taken g.game l o r)))
 

@@ -186,17 +186,17 @@ module _ (g : Story) (v : Valid g.game) (ts : List ℕ) (lv : ℕ) (deep : lengt
   again_held next h (Waits p path r) k = k
   again_held next h (Stopped stop r) k = k
 
-  turns_held : (l : OpenLoop) (body : Run → Out) → ((o : ℕ) → o < length g.game.objects → IsLoopIn g.game (ts ++ u ∷ []) (record l { last = o }))
+  passes_held : (l : OpenLoop) (body : Run → Out) → ((o : ℕ) → o < length g.game.objects → IsLoopIn g.game (ts ++ u ∷ []) (record l { last = o }))
       → ((r : Run) → IsSound r → Inside (body r)) → (n : ℕ) → n ≤ length g.game.objects → (r : Run) → IsPlaced g.game r.world
       → Held g.game ts ts u (over_objects g lv l body n r)
   unfolding over_objects
-  turns_held l body at h zero few r of = record { of = of; loop = tt }
-  turns_held l body at h (suc n) few r of =
+  passes_held l body at h zero few r of = record { of = of; loop = tt }
+  passes_held l body at h (suc n) few r of =
       let o : ℕ = length g.game.objects - suc n in
       either (Held g.game ts ts u) (is_taken g.game r.world l o) _ _
-      (again_held (λ _. over_objects g lv l body n) (λ m s e k. turns_held l body at h n (omega arith) s k.of) (body (object_taken g.game l o r))
+      (again_held (λ _. over_objects g lv l body n) (λ m s e k. passes_held l body at h n (omega arith) s k.of) (body (object_taken g.game l o r))
       (h (object_taken g.game l o r) (record { of = taken_placed g.game l o r of; loop = at o (omega arith) })))
-      (turns_held l body at h n (omega arith) r of)
+      (passes_held l body at h n (omega arith) r of)
 
   -- ---- calls, prompts, phrases ----
 
@@ -284,7 +284,7 @@ module _ (g : Story) (v : Valid g.game) (ts : List ℕ) (lv : ℕ) (deep : lengt
         after_call_held (ts ++ u ∷ []) f go c t own at leads.0 leads.1 hg (sub t r) (calls t r k)
     after_action_held f next go c own at hn hg (effect.Loop p) leads r k =
         left_wider g.game ts u _
-        (turns_held (loop_of lv f p) (go true)
+        (passes_held (loop_of lv f p) (go true)
         (λ o few. record {
           level = subst (λ n. slice_get (ts ++ u ∷ []) n ≡ Some f.table) deep (get_last ts u ∙ ap Some (sym own));
           doall = record { condact = c; stands = at; is = leads.0 };
@@ -348,7 +348,7 @@ module _ (g : Story) (v : Valid g.game) (ts : List ℕ) (lv : ℕ) (deep : lengt
         let at = at_level_is lv r.turning l e in
         let is : IsLoopIn g.game (ts ++ u ∷ []) l = subst (λ o. IfSome o (IsLoopIn g.game (ts ++ u ∷ []))) at.1 h.loop in
         let own : u ≡ l.table = same_Some u l.table (sym (get_last ts u) ∙ subst (λ n. slice_get (ts ++ u ∷ []) n ≡ Some l.table) (at.0 ∙ sym deep) is.level) in
-        turns_held (record l { last = 0 }) (from_condact g sub lv l.table l.entry (suc l.at) true)
+        passes_held (record l { last = 0 }) (from_condact g sub lv l.table l.entry (suc l.at) true)
         (λ o few. record { level = is.level; doall = is.doall; place = is.place; last = few })
         (subst (λ t. (s : Run) → IsSound s → Inside (from_condact g sub lv t l.entry (suc l.at) true s)) own (plain_held l.entry (suc l.at) true))
         (length g.game.objects - suc l.last) (omega arith) r h.of

@@ -87,16 +87,16 @@ module _ (g : Story) (never : NeverSaves g.game) (ks : List (Option Position)) w
   again_keeps lv next h (Waits p path r) k = k
   again_keeps lv next h (Stopped stop r) k = k
 
-  turns_keep : (lv : ℕ) (l : OpenLoop) (body : Run → Out) → ((r : Run) → Is r → Keeps (body r)) → (n : ℕ) (r : Run) → Is r →
+  passes_keep : (lv : ℕ) (l : OpenLoop) (body : Run → Out) → ((r : Run) → Is r → Keeps (body r)) → (n : ℕ) (r : Run) → Is r →
       Keeps (over_objects g lv l body n r)
   unfolding over_objects
-  turns_keep lv l body h zero r k = k
-  turns_keep lv l body h (suc n) r k =
+  passes_keep lv l body h zero r k = k
+  passes_keep lv l body h (suc n) r k =
       let o : ℕ = length g.game.objects - suc n in
       either Keeps (is_taken g.game r.world l o) _ _
-      (again_keeps lv (λ _. over_objects g lv l body n) (λ m s. turns_keep lv l body h n s) (body (object_taken g.game l o r))
+      (again_keeps lv (λ _. over_objects g lv l body n) (λ m s. passes_keep lv l body h n s) (body (object_taken g.game l o r))
       (h (object_taken g.game l o r) (taken_kept l o r k)))
-      (turns_keep lv l body h n r k)
+      (passes_keep lv l body h n r k)
 
   after_call_keeps : (f : Frame) (go : Bool → Run → Out) → GoesKeeping go → (x : Out) → Keeps x → Keeps (after_call f go x)
   after_call_keeps f go h (Left b r) k = h (f.acted || b) r k
@@ -143,7 +143,7 @@ module _ (g : Story) (never : NeverSaves g.game) (ks : List (Option Position)) w
     after_action_keeps f next go hn hg (effect.Exit a) r k = k
     after_action_keeps f next go hn hg effect.Redescribe r k = k
     after_action_keeps f next go hn hg (effect.Call u) r k = after_call_keeps f go hg (sub u r) (calls u r k)
-    after_action_keeps f next go hn hg (effect.Loop p) r k = turns_keep lv (loop_of lv f p) (go true) (hg true) (length g.game.objects) r k
+    after_action_keeps f next go hn hg (effect.Loop p) r k = passes_keep lv (loop_of lv f p) (go true) (hg true) (length g.game.objects) r k
     after_action_keeps f next go hn hg (effect.Ask p) r k = asked_keeps p f go hg (piece_closed r) r.events k
     after_action_keeps f next go hn hg effect.Parse r k = after_parse_keeps f next go hn hg r _ k
     after_action_keeps f next go hn hg effect.Spent r k = k
@@ -192,7 +192,7 @@ module _ (g : Story) (never : NeverSaves g.game) (ks : List (Option Position)) w
 
     looped_keeps : (l : OpenLoop) (r : Run) → Is r → Keeps (rest_of_loop g sub lv l r)
     looped_keeps l r =
-        turns_keep lv (record l { last = 0 }) (from_condact g sub lv l.table l.entry (suc l.at) true) (plain_keeps l.table l.entry (suc l.at) true)
+        passes_keep lv (record l { last = 0 }) (from_condact g sub lv l.table l.entry (suc l.at) true) (plain_keeps l.table l.entry (suc l.at) true)
         (length g.game.objects - suc l.last) r
 
     reads_keep : (t e k : ℕ) → GoesKeeping (read_at_level g sub lv t e k)

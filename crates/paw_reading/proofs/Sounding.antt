@@ -285,17 +285,17 @@ module _ (g : Story) (valid : ValidStory g) (seed : Seed) (base : ℕ) where
   again_sounds lv next h (Waits p path r) k = k
   again_sounds lv next h (Stopped stop r) k = k
 
-  turns_sound : (lv : ℕ) (l : OpenLoop) (body : Run → Out) → ((r : Run) → Is r → Sounds (body r)) → (n : ℕ) (r : Run) → Is r →
+  passes_sound : (lv : ℕ) (l : OpenLoop) (body : Run → Out) → ((r : Run) → Is r → Sounds (body r)) → (n : ℕ) (r : Run) → Is r →
       Sounds (over_objects g lv l body n r)
   unfolding over_objects
-  turns_sound lv l body h zero r k = no_loop r k None
-  turns_sound lv l body h (suc n) r k =
+  passes_sound lv l body h zero r k = no_loop r k None
+  passes_sound lv l body h (suc n) r k =
       let o : ℕ = length g.game.objects - suc n in
       let small : o < 256 = omega (arith, few_objects g.game v) in
       either Sounds (is_taken g.game r.world l o) _ _
-      (again_sounds lv (λ _. over_objects g lv l body n) (λ m s j. turns_sound lv l body h n s j) (body (object_taken g.game l o r))
+      (again_sounds lv (λ _. over_objects g lv l body n) (λ m s j. passes_sound lv l body h n s j) (body (object_taken g.game l o r))
       (h (object_taken g.game l o r) (taken_so l o r small k)))
-      (turns_sound lv l body h n r k)
+      (passes_sound lv l body h n r k)
 
   after_call_sounds : (f : Frame) (go : Bool → Run → Out) → GoesSound go → (x : Out) → Sounds x → Sounds (after_call f go x)
   after_call_sounds f go h (Left b r) k = h (f.acted || b) r k
@@ -362,7 +362,7 @@ module _ (g : Story) (valid : ValidStory g) (seed : Seed) (base : ℕ) where
     after_action_sounds f next go hn hg (effect.Exit a) r k = k
     after_action_sounds f next go hn hg effect.Redescribe r k = no_loop r k None
     after_action_sounds f next go hn hg (effect.Call u) r k = after_call_sounds f go hg (sub u r) (calls u r k)
-    after_action_sounds f next go hn hg (effect.Loop p) r k = turns_sound lv (loop_of lv f p) (go true) (hg true) (length g.game.objects) r k
+    after_action_sounds f next go hn hg (effect.Loop p) r k = passes_sound lv (loop_of lv f p) (go true) (hg true) (length g.game.objects) r k
     after_action_sounds f next go hn hg (effect.Ask p) r k = waits_sounds p f go hg r k
     after_action_sounds f next go hn hg effect.Parse r k =
         after_parse_sounds f next go hn hg r k (coming_phrase g r) refl
@@ -437,7 +437,7 @@ module _ (g : Story) (valid : ValidStory g) (seed : Seed) (base : ℕ) where
         (all_condacts (entry_at g.game t e) (λ en q. entry_follows g.game v t e en q))) a r h
 
     looped_sounds : (l : OpenLoop) (r : Run) → Is r → Sounds (rest_of_loop g sub lv l r)
-    looped_sounds l r h = turns_sound lv (record l { last = 0 }) _ (plain_sounds l.table l.entry (suc l.at) true) (length g.game.objects - suc l.last) r h
+    looped_sounds l r h = passes_sound lv (record l { last = 0 }) _ (plain_sounds l.table l.entry (suc l.at) true) (length g.game.objects - suc l.last) r h
 
     reads_sound : (t e k : ℕ) → GoesSound (read_at_level g sub lv t e k)
     reads_sound t e k a r h = again_sounds lv (rest_of_loop g sub lv) looped_sounds _ (plain_sounds t e k a r h)

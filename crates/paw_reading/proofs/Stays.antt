@@ -69,15 +69,15 @@ module _ (t : ℕ) where
   again_stays lv next h (Waits p path r) k = k
   again_stays lv next h (Stopped stop r) k = tt
 
-  turns_stays : (g : Story) (lv : ℕ) (l : OpenLoop) (body : Run → Out) → IsOwn l.level l.table → ((r : Run) → IsLoopOf t r.turning → Stays t lv (body r))
+  passes_stays : (g : Story) (lv : ℕ) (l : OpenLoop) (body : Run → Out) → IsOwn l.level l.table → ((r : Run) → IsLoopOf t r.turning → Stays t lv (body r))
       → (n : ℕ) (r : Run) → Stays t lv (over_objects g lv l body n r)
   unfolding over_objects
-  turns_stays g lv l body own h zero r = tt
-  turns_stays g lv l body own h (suc n) r =
+  passes_stays g lv l body own h zero r = tt
+  passes_stays g lv l body own h (suc n) r =
       let o : ℕ = length g.game.objects - suc n in
       either (Stays t lv) (is_taken g.game r.world l o) _ _
-      (again_stays lv _ (λ m s e k. turns_stays g lv l body own h n s) (body (object_taken g.game l o r)) (h (object_taken g.game l o r) own))
-      (turns_stays g lv l body own h n r)
+      (again_stays lv _ (λ m s e k. passes_stays g lv l body own h n s) (body (object_taken g.game l o r)) (h (object_taken g.game l o r) own))
+      (passes_stays g lv l body own h n r)
 
   -- ---- calls, prompts, phrases ----
 
@@ -134,7 +134,7 @@ module _ (t : ℕ) where
     after_action_stays f next go own hn hg (effect.Exit a) asks r k = k
     after_action_stays f next go own hn hg effect.Redescribe asks r k = tt
     after_action_stays f next go own hn hg (effect.Call u) asks r k = after_call_stays lv f go own hg (sub u r) (calls u r k)
-    after_action_stays f next go own hn hg (effect.Loop p) asks r k = turns_stays g lv (loop_of lv f p) (go true) own (hg true) (length g.game.objects) r
+    after_action_stays f next go own hn hg (effect.Loop p) asks r k = passes_stays g lv (loop_of lv f p) (go true) own (hg true) (length g.game.objects) r
     after_action_stays f next go own hn hg (effect.Ask p) asks r k = asked_stays g p lv f go asks own hg (piece_closed r) r.events k
     after_action_stays f next go own hn hg effect.Parse asks r k = after_parse_stays lv f next go hn hg r _ k
     after_action_stays f next go own hn hg effect.Spent asks r k = tt
@@ -165,7 +165,7 @@ module _ (t : ℕ) where
     looped_stays l r e h =
         let at = at_level_is lv r.turning l e in
         let own : IsOwn l.level l.table = subst (IsLoopOf t) at.1 h in
-        turns_stays g lv (record l { last = 0 }) _ own
+        passes_stays g lv (record l { last = 0 }) _ own
         (plain_stays l.table l.entry (suc l.at) (λ z. own (at.0 ∙ z)) true) (length g.game.objects - suc l.last) r
 
     reads_stay : (u e k : ℕ) → IsOwn lv u → GoesStaying lv (read_at_level g sub lv u e k)
