@@ -15,7 +15,7 @@ use Rattle.paw_grammar.specs.GrammarState.{Spelt}
 use Rattle.paw_grammar.specs.GrammarHeads.{item_in, slash_line}
 use Rattle.paw_play.proofs.Digits.{decimal_digits}
 use Rattle.paw_print.specs.Lines.{item_token}
-use Rattle.paw_top.proofs.Rows.{all_weaker, is_clean, is_plain, slash_step}
+use Rattle.paw_top.proofs.Rows.{all_weaker, is_clean, is_plain, slash_next}
 
 digit_clean : (d : ℕ) → is_ascii_digit d ≡ true → is_clean d ≡ true
 digit_clean d h =
@@ -56,7 +56,7 @@ plain-flag n h = decimal_clean n h
 pub item_begins : (p : ℕ) (d : Spelt) (n : ℕ) → n ≤ 65535 → after_line p d (item_token n) ≡ item_in d.section d n
 item_begins p d n h =
     ap (after_line p d) (sym (append-nil (item_token n)))
-    ∙ slash_step p d (decimal n) [] (rw (plain-item n h) refl)
+    ∙ slash_next p d (decimal n) [] (rw (plain-item n h) refl)
     ∙ ap (λ x. slash_line d (47 ∷ decimal n) x []) (number-decimal n h)
 
 -- A printed number that follows a rule.

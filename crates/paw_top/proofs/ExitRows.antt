@@ -22,7 +22,7 @@ use Rattle.paw_grammar.specs.GrammarRows.{exit_row, con_row, row_in}
 use Rattle.paw_print.specs.Lines.{verb_token, item_token, tokens_spaced}
 use Rattle.paw_print.specs.Canonical.{numbered_lines, location_lines}
 use Rattle.paw_top.proofs.After.{LineReads, Reads, reads_none, reads_line, reads_append}
-use Rattle.paw_top.proofs.Rows.{is_plain, row_step, plain_printed, printed-spaced}
+use Rattle.paw_top.proofs.Rows.{is_plain, row_next, plain_printed, printed-spaced}
 use Rattle.paw_top.proofs.Digits.{number-decimal, plain-decimal, plain-item, item_begins}
 use Rattle.paw_top.proofs.Lasts.{last_or-push, with_last-push}
 use Rattle.paw_top.proofs.KnownWords.{Words, ReadsBack, verb_word_back}
@@ -79,16 +79,16 @@ con_row-is d before done x r =
     rw (some, last_or-push [] before done, exit_row-is d.words (length d.locations) done x r)
     (ap (λ (es : List (List Exit)). Ok (record d { exits = es })) (with_last-push (done ++ x ∷ []) before done))
 
-exit_step : (p : ℕ) (d : Spelt) (before : List (List Exit)) (done : List Exit) (x : Exit) → d.section ≡ section.Con →
+exit_next : (p : ℕ) (d : Spelt) (before : List (List Exit)) (done : List Exit) (x : Exit) → d.section ≡ section.Con →
     ExitRow d.words (length d.locations) done x
     → LineReads p (record d { exits = before ++ done ∷ [] }) (tokens_spaced (exit_tokens d.words x)) (record d { exits = before ++ (done ++ x ∷ []) ∷ [] })
-exit_step p d before done x at r =
+exit_next p d before done x at r =
     let e : Spelt = record d { exits = before ++ done ∷ [] } in
     let out : is_in_text e ≡ false = rw at refl in
     let plain : list_all is_plain (exit_tokens d.words x) ≡ true = rw (r.verb.plain, plain-decimal x.to r.small) refl in
     record {
       is =
-          row_step p e (verb_token d.words x.verb) (decimal x.to ∷ []) plain r.verb.slash out
+          row_next p e (verb_token d.words x.verb) (decimal x.to ∷ []) plain r.verb.slash out
           ∙ ap (λ s. row_in s p e false (exit_tokens d.words x)) at
           ∙ con_row-is d before done x r;
       printed = printed-spaced (verb_token d.words x.verb) (decimal x.to ∷ []) plain;
@@ -122,7 +122,7 @@ exits_rows p d before done (x ∷ xs) at scene h fresh =
     } in
     let same : (done ++ x ∷ []) ++ xs ≡ done ++ x ∷ xs = append_assoc done (x ∷ []) xs in
     let rest = exits_rows p d before (done ++ x ∷ []) xs at scene here.1 (fresh_more done x xs new.1 (not-true _ to.1)) in
-    reads_line p _ _ _ _ _ (exit_step p d before done x at row) (rw same at rest)
+    reads_line p _ _ _ _ _ (exit_next p d before done x at row) (rw same at rest)
 
 -- ---- all locations ----
 
@@ -150,9 +150,9 @@ filled_some all n xs is =
     let none : List Exit = [] in
     record { short = omega (arith, long); is = ap (λ k. (all ++ xs ∷ []) ++ replicate k none) left ∙ append-nil (all ++ xs ∷ []) }
 
-con_item_step : (p : ℕ) (d : Spelt) (es all : List (List Exit)) (n : ℕ) → d.section ≡ section.Con → Scene d → Filled es n all → n < length d.locations
+con_item_next : (p : ℕ) (d : Spelt) (es all : List (List Exit)) (n : ℕ) → d.section ≡ section.Con → Scene d → Filled es n all → n < length d.locations
     → LineReads p (record d { exits = es }) (item_token n) (record d { exits = all ++ [] ∷ [] })
-con_item_step p d es all n at scene f below =
+con_item_next p d es all n at scene f below =
     let e : Spelt = record d { exits = es } in
     let small : n ≤ 65535 = omega (arith, scene.few) in
     let new : ltb n (length es) ≡ false = le-ltb n (length es) f.short in
@@ -193,7 +193,7 @@ locations_read p d es all n m ((x ∷ xs) ∷ xss) at scene f is end within h =
     let these = and_parts (leb (length (x ∷ xs)) EXIT_LIMIT)
     (are_exits d.words (length d.locations) (x ∷ xs)) both.0 in
     let next : suc n ≡ length (all ++ (x ∷ xs) ∷ []) = omega (arith, length-append all ((x ∷ xs) ∷ [])) in
-    let item = con_item_step p d es all n at scene f (omega arith) in
+    let item = con_item_next p d es all n at scene f (omega arith) in
     let rows = exits_rows p d all [] (x ∷ xs) at scene these.1 (fresh_at_first (x ∷ xs)) in
     let rest = locations_read p d (all ++ (x ∷ xs) ∷ []) (all ++ (x ∷ xs) ∷ []) (suc n) m xss at scene
     (filled_some all n (x ∷ xs) is) next (omega arith) within both.1 in

@@ -24,7 +24,7 @@ use Rattle.paw_grammar.specs.GrammarRows.{object_row, row_in}
 use Rattle.paw_print.specs.Lines.{kind_token, value_token, object_tokens, tokens_spaced}
 use Rattle.paw_print.specs.Canonical.{numbered_lines}
 use Rattle.paw_top.proofs.After.{LineReads, Reads, reads_none, reads_line}
-use Rattle.paw_top.proofs.Rows.{is_plain, row_step, printed-spaced}
+use Rattle.paw_top.proofs.Rows.{is_plain, row_next, printed-spaced}
 use Rattle.paw_top.proofs.Digits.{number-decimal, plain-decimal, decimal-slash}
 use Rattle.paw_top.proofs.KnownWords.{Words, ReadsBack, word_or_none_back}
 use Rattle.paw_top.proofs.ExitRows.{Scene}
@@ -106,10 +106,10 @@ plain_facts ws locations n count f r =
       r.adjective.plain,
     ) refl
 
-object_step : (p : ℕ) (d : Spelt) (fs : List ObjectFacts) (f : ObjectFacts) → d.section ≡ section.Obj →
+object_next : (p : ℕ) (d : Spelt) (fs : List ObjectFacts) (f : ObjectFacts) → d.section ≡ section.Obj →
     FactsRow d.words (length d.locations) (length fs) (length d.names) f
     → LineReads p (record d { facts = fs }) (tokens_spaced (object_tokens d.words (length fs) f)) (record d { facts = fs ++ f ∷ [] })
-object_step p d fs f at r =
+object_next p d fs f at r =
     let e : Spelt = record d { facts = fs } in
     let ts : Tokens = object_tokens d.words (length fs) f in
     let out : is_in_text e ≡ false = rw at refl in
@@ -118,7 +118,7 @@ object_step p d fs f at r =
     let plain = plain_facts d.words (length d.locations) (length fs) (length d.names) f r in
     record {
       is =
-          row_step p e (decimal (length fs)) others plain (decimal-slash (length fs) r.small) out
+          row_next p e (decimal (length fs)) others plain (decimal-slash (length fs) r.small) out
           ∙ ap (λ s. row_in s p e false ts) at
           ∙ ap (λ (x : Result ObjectFacts SourceKind). x >>= λ g. Ok (record d { facts = fs ++ g ∷ [] }))
           (object_row-is d.words (length d.locations) (length fs) (length d.names) f r);
@@ -139,7 +139,7 @@ objects_read p d fs n (o ∷ os) at scene is room most h =
     let long = length-append fs (o.facts ∷ []) in
     let same : (fs ++ o.facts ∷ []) ++ map (λ x. x.facts) os ≡ fs ++ o.facts ∷ map (λ x. x.facts) os = append_assoc fs (o.facts ∷ []) (map (λ x. x.facts) os) in
     let rest = objects_read p d (fs ++ o.facts ∷ []) (suc n) os at scene (omega (arith, long)) (omega (arith, long)) most both.1 in
-    rw is (reads_line p _ _ _ _ _ (object_step p d fs o.facts at row) (rw (same, is) at rest))
+    rw is (reads_line p _ _ _ _ _ (object_next p d fs o.facts at row) (rw (same, is) at rest))
 
 -- Texts and facts together are the objects.
 pub objects_of-map : (os : List ObjectRow) → objects_of (map (λ o. o.text) os) (map (λ o. o.facts) os) ≡ os

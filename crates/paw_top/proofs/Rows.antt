@@ -109,11 +109,11 @@ no_forbidden_byte text l h = and_right (not (is_comment l)) _ (none_forbidden te
 -- ---- one line ----
 
 -- A line of tokens, of which the first has no stroke.
-pub row_step : (p : ℕ) (d : Spelt) (t : Token) (ts : Tokens) → list_all is_plain (t ∷ ts) ≡ true → begins_with_slash t ≡ false → is_in_text d ≡ false
+pub row_next : (p : ℕ) (d : Spelt) (t : Token) (ts : Tokens) → list_all is_plain (t ∷ ts) ≡ true → begins_with_slash t ≡ false → is_in_text d ≡ false
     → after_line p d (tokens_spaced (t ∷ ts)) ≡ row_in d.section p d false (t ∷ ts)
 unfolding after_line
-row_step p d [] ts h slash out = absurd cc
-row_step p d (b ∷ bs) ts h slash out =
+row_next p d [] ts h slash out = absurd cc
+row_next p d (b ∷ bs) ts h slash out =
     let all = and_parts (is_plain (b ∷ bs)) (list_all is_plain ts) h in
     let c = clean b (and_parts (is_clean b) (list_all is_clean bs) all.0).0 in
     let text : is_text_line d (tokens_spaced ((b ∷ bs) ∷ ts)) ≡ false = rw out refl in
@@ -128,27 +128,27 @@ row_step p d (b ∷ bs) ts h slash out =
     ) refl
 
 -- A line of tokens after spaces.
-pub more_step : (p : ℕ) (d : Spelt) (t : Token) (ts : Tokens) → list_all is_plain (t ∷ ts) ≡ true → is_in_text d ≡ false
+pub more_next : (p : ℕ) (d : Spelt) (t : Token) (ts : Tokens) → list_all is_plain (t ∷ ts) ≡ true → is_in_text d ≡ false
     → after_line p d (after_spaces (t ∷ ts)) ≡ row_in d.section p d true (t ∷ ts)
 unfolding after_line
-more_step p d t ts h out =
+more_next p d t ts h out =
     let l : Line = after_spaces (t ∷ ts) in
     let text : is_text_line d l ≡ false = rw out refl in
     rw (no_forbidden_byte (is_text_line d l) l (printed-behind (t ∷ ts) h), text, tokens_of-behind t ts h) refl
 
 -- A line of tokens, of which the first begins with a stroke.
-pub slash_step : (p : ℕ) (d : Spelt) (bs : Bytes) (ts : Tokens) → list_all is_plain ((47 ∷ bs) ∷ ts) ≡ true
+pub slash_next : (p : ℕ) (d : Spelt) (bs : Bytes) (ts : Tokens) → list_all is_plain ((47 ∷ bs) ∷ ts) ≡ true
     → after_line p d (tokens_spaced ((47 ∷ bs) ∷ ts)) ≡ slash_line d (47 ∷ bs) (number bs) ts
 unfolding after_line
-slash_step p d bs ts h =
+slash_next p d bs ts h =
     let l : Line = tokens_spaced ((47 ∷ bs) ∷ ts) in
     let text : is_text_line d l ≡ false = and_right (is_in_text d) false refl in
     rw (no_forbidden_byte (is_text_line d l) l (printed-spaced (47 ∷ bs) ts h), text, tokens_of-spaced (47 ∷ bs) ts h) refl
 
 -- A line of a text: printed bytes, of which the first is neither `/` nor `;`.
-pub text_step : (p : ℕ) (d : Spelt) (l : Line) → list_all is_printed_byte l ≡ true → begins_with_slash l ≡ false → is_comment l ≡ false → is_in_text d ≡ true
+pub text_next : (p : ℕ) (d : Spelt) (l : Line) → list_all is_printed_byte l ≡ true → begins_with_slash l ≡ false → is_comment l ≡ false → is_in_text d ≡ true
     → after_line p d l ≡ text_added d l
 unfolding after_line
-text_step p d l h slash comment text =
+text_next p d l h slash comment text =
     let in_text : is_text_line d l ≡ true = rw (text, slash) refl in
     rw (comment, none_forbidden (is_text_line d l) l h, in_text) refl

@@ -27,7 +27,7 @@ use Rattle.paw_grammar.specs.GrammarRows.{entry_row, no_entry, more_row}
 use Rattle.paw_print.specs.Lines.{verb_token, value_token, condact_line, tokens_spaced}
 use Rattle.paw_print.specs.Canonical.{numbered_lines, entry_lines, table_lines}
 use Rattle.paw_top.proofs.After.{LineReads, Reads, reads_none, reads_line, reads_append}
-use Rattle.paw_top.proofs.Rows.{is_plain, row_step, more_step, slash_step, printed-spaced, printed-behind}
+use Rattle.paw_top.proofs.Rows.{is_plain, row_next, more_next, slash_next, printed-spaced, printed-behind}
 use Rattle.paw_top.proofs.Digits.{number-decimal, plain-decimal}
 use Rattle.paw_top.proofs.Lasts.{last_or-push, with_last-push}
 use Rattle.paw_top.proofs.KnownWords.{ReadsBack, entry_verb_back, entry_noun_back}
@@ -64,17 +64,17 @@ more_row-is p g es e done c back few =
     (ap (λ (r : Result (List Condact) SourceKind). r >>= λ cs. Ok (with_last (with_condacts e cs) (es ++ now ∷ []))) (more_condacts-is p g done c back few)
     ∙ ap (λ (xs : List Entry). Ok xs) (with_last-push (with_condacts e (done ++ c ∷ [])) es now))
 
-condact_step : (p : ℕ) (g : GameLists) (exits : List (List Exit)) (ts : List (List Entry)) (es : List Entry) (e : Entry)
+condact_next : (p : ℕ) (g : GameLists) (exits : List (List Exit)) (ts : List (List Entry)) (es : List Entry) (e : Entry)
     (done : List Condact) (c : Condact) → CondactBack p g c → length done < CONDACT_LIMIT
     → LineReads p (spelt_of g exits (ts ++ (es ++ with_condacts e done ∷ []) ∷ [])) (condact_line g.words c)
     (spelt_of g exits (ts ++ (es ++ with_condacts e (done ++ c ∷ []) ∷ []) ∷ []))
-condact_step p g exits ts es e done c back few =
+condact_next p g exits ts es e done c back few =
     let last : List Entry = es ++ with_condacts e done ∷ [] in
     let d : Spelt = spelt_of g exits (ts ++ last ∷ []) in
     record {
       printed = printed-behind (condact_tokens g.words c) back.plain;
       is =
-          more_step p d _ _ back.plain refl
+          more_next p d _ _ back.plain refl
           ∙ ap (λ (xs : List Entry). more_row (bounds p g) g.words xs (condact_tokens g.words c) >>= λ us. Ok
           (spelt_of g exits (with_last us (ts ++ last ∷ [])))) (last_or-push [] ts last)
           ∙ ap (λ (r : Result (List Entry) SourceKind). r >>= λ us. Ok
@@ -92,7 +92,7 @@ condacts_read p g exits ts es e done (c ∷ cs) s few h =
     let room : length done < CONDACT_LIMIT = omega (arith, length-append done (c ∷ cs), few) in
     let same : (done ++ c ∷ []) ++ cs ≡ done ++ c ∷ cs = append_assoc done (c ∷ []) cs in
     let rest = condacts_read p g exits ts es e (done ++ c ∷ []) cs s (rw same few) both.1 in
-    reads_line p _ _ _ _ _ (condact_step p g exits ts es e done c (condact_back p g c s both.0) room) (rw same at rest)
+    reads_line p _ _ _ _ _ (condact_next p g exits ts es e done c (condact_back p g c s both.0) room) (rw same at rest)
 
 -- ---- an entry ----
 
@@ -113,16 +113,16 @@ entry_row-is p g es e r room =
     let few : ltb CONDACT_LIMIT 0 ≡ false = refl in
     rw (r.verb.is (value_token g.words NOUN_CLASS e.noun ∷ []), r.noun.is []) (rw below refl)
 
-entry_step : (p : ℕ) (g : GameLists) (exits : List (List Exit)) (ts : List (List Entry)) (es : List Entry) (e : Entry) →
+entry_next : (p : ℕ) (g : GameLists) (exits : List (List Exit)) (ts : List (List Entry)) (es : List Entry) (e : Entry) →
     EntryRow g.words e → length es < ENTRY_LIMIT
     → LineReads p (spelt_of g exits (ts ++ es ∷ [])) (tokens_spaced (entry_tokens g.words e)) (spelt_of g exits (ts ++ (es ++ with_condacts e [] ∷ []) ∷ []))
-entry_step p g exits ts es e r room =
+entry_next p g exits ts es e r room =
     let d : Spelt = spelt_of g exits (ts ++ es ∷ []) in
     let plain : list_all is_plain (entry_tokens g.words e) ≡ true = rw (r.verb.plain, r.noun.plain) refl in
     record {
       printed = printed-spaced (verb_token g.words e.verb) (value_token g.words NOUN_CLASS e.noun ∷ []) plain;
       is =
-          row_step p d (verb_token g.words e.verb) (value_token g.words NOUN_CLASS e.noun ∷ []) plain r.verb.slash refl
+          row_next p d (verb_token g.words e.verb) (value_token g.words NOUN_CLASS e.noun ∷ []) plain r.verb.slash refl
           ∙ ap (λ (xs : List Entry). entry_row (bounds p g) g.words xs (entry_tokens g.words e) >>= λ us. Ok
           (spelt_of g exits (with_last us (ts ++ es ∷ [])))) (last_or-push [] ts es)
           ∙ ap (λ (x : Result (List Entry) SourceKind). x >>= λ us. Ok (spelt_of g exits (with_last us (ts ++ es ∷ [])))) (entry_row-is p g es e r room)
@@ -144,7 +144,7 @@ entries_read p g exits ts done (e ∷ es) s few h =
     let rows = condacts_read p g exits ts done e [] e.condacts s
     (leb-true (length e.condacts) CONDACT_LIMIT cs.0) cs.1 in
     let rest = entries_read p g exits ts (done ++ e ∷ []) es s (rw same few) both.1 in
-    reads_append p _ _ _ (entry_lines g.words e) _ (reads_line p _ _ _ _ _ (entry_step p g exits ts done e row room) rows) (rw same at rest)
+    reads_append p _ _ _ (entry_lines g.words e) _ (reads_line p _ _ _ _ _ (entry_next p g exits ts done e row room) rows) (rw same at rest)
 
 -- ---- a table ----
 
@@ -152,15 +152,15 @@ entries_read p g exits ts done (e ∷ es) s few h =
 abbrev table_begun : Spelt → Spelt
 table_begun d = record (section_opened section.Pro d) { tables = d.tables ++ [] ∷ [] }
 
-header_step : (p : ℕ) (d : Spelt) (n : ℕ) → next_header d.section ≡ (codes "/PRO", section.Pro) → n ≡ length d.tables → n ≤ 255 →
+header_next : (p : ℕ) (d : Spelt) (n : ℕ) → next_header d.section ≡ (codes "/PRO", section.Pro) → n ≡ length d.tables → n ≤ 255 →
     lacks_rows d ≡ false → LineReads p d (tokens_spaced (codes "/PRO" ∷ decimal n ∷ [])) (table_begun d)
-header_step p d n at is few rows =
+header_next p d n at is few rows =
     let small : n ≤ 65535 = omega arith in
     let within : ltb n TABLE_LIMIT ≡ true = lt-ltb n TABLE_LIMIT (omega arith) in
     let next : eqb n (length d.tables) ≡ true = eq-eqb n (length d.tables) is in
     let plain : list_all is_plain (codes "/PRO" ∷ decimal n ∷ []) ≡ true = rw (plain-decimal n small) refl in
     record {
-      is = slash_step p d (codes "PRO") (decimal n ∷ []) plain ∙ rw at (rw (number-decimal n small, within, next, rows) refl);
+      is = slash_next p d (codes "PRO") (decimal n ∷ []) plain ∙ rw at (rw (number-decimal n small, within, next, rows) refl);
       printed = printed-spaced (codes "/PRO") (decimal n ∷ []) plain;
     }
 
@@ -170,7 +170,7 @@ pub table_read : (p : ℕ) (g : GameLists) (exits : List (List Exit)) (d : Spelt
     is_table g es ≡ true → Reads p d (table_lines g.words n es) (spelt_of g exits (ts ++ es ∷ []))
 table_read p g exits d ts n es s begun at is few rows h =
     let both = and_parts (leb (length es) ENTRY_LIMIT) (list_all (is_entry g) es) h in
-    reads_line p _ _ _ _ _ (rw begun at (header_step p d n at is few rows)) (entries_read p g exits ts [] es s (leb-true (length es) ENTRY_LIMIT both.0) both.1)
+    reads_line p _ _ _ _ _ (rw begun at (header_next p d n at is few rows)) (entries_read p g exits ts [] es s (leb-true (length es) ENTRY_LIMIT both.0) both.1)
 
 no_row_lacks : (g : GameLists) (exits : List (List Exit)) (ts : List (List Entry)) → 0 < length ts → lacks_rows (spelt_of g exits ts) ≡ false
 no_row_lacks g exits ts some =

@@ -19,7 +19,7 @@ use Rattle.paw_grammar.specs.GrammarHeads.{new_text, item_in}
 use Rattle.paw_print.specs.Lines.{item_token, lines_of_text, text_lines}
 use Rattle.paw_print.specs.Canonical.{numbered_lines}
 use Rattle.paw_top.proofs.After.{LineReads, Reads, reads_none, reads_line, reads_append}
-use Rattle.paw_top.proofs.Rows.{text_step, plain_printed}
+use Rattle.paw_top.proofs.Rows.{text_next, plain_printed}
 use Rattle.paw_top.proofs.Digits.{plain-item, item_begins}
 use Rattle.paw_top.proofs.Lasts.{last_or-push, with_last-push}
 use Rattle.paw_top.proofs.Split.{HasLine, has_line, split, split_some, rejoined, rejoined-split, is_line}
@@ -104,17 +104,17 @@ line_joined b before t l short =
     let within : ltb TEXT_LIMIT (length (with_line b t l)) ≡ false = le-ltb TEXT_LIMIT (length (with_line b t l)) short in
     rw (last_or-push [] before t, within, with_last-push (with_line b t l) before t) refl
 
-line_step : (p : ℕ) (s : Section) (b : Bool) (d : Spelt) (before : Texts) (t : Text) (l : Line) → d.section ≡ s →
+line_next : (p : ℕ) (s : Section) (b : Bool) (d : Spelt) (before : Texts) (t : Text) (l : Line) → d.section ≡ s →
     is_text_section s ≡ true → TextLine l → length (with_line b t l) ≤ TEXT_LIMIT
     → LineReads p (with_texts s b (before ++ t ∷ []) d) l (with_texts s true (before ++ with_line b t l ∷ []) d)
-line_step p s b d before t l at text line short =
+line_next p s b d before t l at text line short =
     let ts : Texts = before ++ t ∷ [] in
     let e : Spelt = with_texts s b ts d in
     let here : e.section ≡ s = section-with s b ts d ∙ at in
     record {
       printed = line.printed;
       is =
-          text_step p e l line.printed line.slash line.comment (in_text s b before t d at text)
+          text_next p e l line.printed line.slash line.comment (in_text s b before t d at text)
           ∙ ap (λ x. text_line e.begun l (texts_of x e) >>= λ us. Ok (with_texts x true us e)) here
           ∙ ap (λ x. text_line x l (texts_of s e) >>= λ us. Ok (with_texts s true us e)) (texts-with s b ts d text).1
           ∙ ap (λ (us : Texts). text_line b l us >>= λ vs. Ok (with_texts s true vs e)) (texts-with s b ts d text).0
@@ -134,7 +134,7 @@ more_lines p s d before t (l ∷ ls) at text lines short =
     let same : (t ++ 10 ∷ l) ++ more ≡ t ++ (10 ∷ l ++ more) = append_assoc t (10 ∷ l) more in
     let whole : length ((t ++ 10 ∷ l) ++ more) ≤ TEXT_LIMIT = rw same short in
     let first : length (t ++ 10 ∷ l) ≤ TEXT_LIMIT = omega (arith, length-append (t ++ 10 ∷ l) more, whole) in
-    reads_line p _ _ _ l ls (line_step p s true d before t l at text (text_line_is l both.0) first)
+    reads_line p _ _ _ l ls (line_next p s true d before t l at text (text_line_is l both.0) first)
     (rw same at (more_lines p s d before (t ++ 10 ∷ l) ls at text both.1 whole))
 
 -- A state in which the texts are these.
@@ -151,7 +151,7 @@ whole_text p s d before t ls at text (has_line l ms are) lines is short =
     let first : length l ≤ TEXT_LIMIT = omega (arith, length-append l (flat_map (λ m. 10 ∷ m) ms), whole) in
     rw are (
       true,
-      reads_line p _ _ _ l ms (line_step p s false d before [] l at text (text_line_is l both.0) first)
+      reads_line p _ _ _ l ms (line_next p s false d before [] l at text (text_line_is l both.0) first)
           (rw same at (more_lines p s d before l ms at text both.1 whole)),
     )
 
@@ -165,10 +165,10 @@ text_read p s d before (b ∷ bs) at text h =
 
 -- ---- items ----
 
-item_step : (p : ℕ) (s : Section) (b : Bool) (d : Spelt) (before : Texts) (n : ℕ) → d.section ≡ s →
+item_next : (p : ℕ) (s : Section) (b : Bool) (d : Spelt) (before : Texts) (n : ℕ) → d.section ≡ s →
     is_text_section s ≡ true → n ≡ length before → n < text_limit s
     → LineReads p (with_texts s b before d) (item_token n) (with_texts s false (before ++ [] ∷ []) d)
-item_step p s b d before n at text is room =
+item_next p s b d before n at text is room =
     let e : Spelt = with_texts s b before d in
     let small : n ≤ 65535 = omega (arith, small_limit s) in
     let here : e.section ≡ s = section-with s b before d ∙ at in
@@ -197,4 +197,4 @@ items_read p s b d before n (t ∷ ts) at text is room all =
     let below : n < text_limit s = omega (arith, length-append before (t ∷ ts), room) in
     let first = text_read p s d before t at text both.0 in
     let rest = rw same at (items_read p s first.0 d (before ++ t ∷ []) (suc n) ts at text next (rw same room) both.1) in
-    (rest.0, reads_line p _ _ _ _ _ (item_step p s b d before n at text is below) (reads_append p _ _ _ _ _ first.1 rest.1))
+    (rest.0, reads_line p _ _ _ _ _ (item_next p s b d before n at text is below) (reads_append p _ _ _ _ _ first.1 rest.1))

@@ -25,7 +25,7 @@ use Rattle.paw_grammar.specs.GrammarState.{Spelt}
 use Rattle.paw_grammar.specs.GrammarTexts.{is_in_text}
 use Rattle.paw_grammar.specs.GrammarRows.{voc_row}
 use Rattle.paw_print.specs.Lines.{spelled_letters, class_name, tokens_spaced}
-use Rattle.paw_top.proofs.Rows.{is_plain, row_step, printed-spaced}
+use Rattle.paw_top.proofs.Rows.{is_plain, row_next, printed-spaced}
 use Rattle.paw_top.proofs.Digits.{number-decimal, plain-decimal}
 use Rattle.paw_top.proofs.Letters.{Spelling, spelling}
 use Rattle.paw_top.proofs.KnownWords.{Less-from_is_lt, rest_rises}
@@ -102,16 +102,16 @@ voc_row-is vs w ws r rise few =
 
 -- ---- all rows ----
 
-word_step : (p : ℕ) (d : Spelt) (vs : List Word) (w : Word) (ws : List Word) → d.section ≡ section.Voc →
+word_next : (p : ℕ) (d : Spelt) (vs : List Word) (w : Word) (ws : List Word) → d.section ≡ section.Voc →
     is_word w ≡ true → words_rise (vs ++ w ∷ ws) ≡ true → length vs < WORD_LIMIT
     → LineReads p (record d { words = vs }) (tokens_spaced (word_tokens w)) (record d { words = vs ++ w ∷ [] })
-word_step p d vs w ws at h rise few =
+word_next p d vs w ws at h rise few =
     let r = word_row w h in
     let e : Spelt = record d { words = vs } in
     let out : is_in_text e ≡ false = rw at refl in
     record {
       is =
-          row_step p e (spelled_letters w) (decimal w.value ∷ class_name w.class ∷ []) (plain_row w r) r.spelled.slash out
+          row_next p e (spelled_letters w) (decimal w.value ∷ class_name w.class ∷ []) (plain_row w r) r.spelled.slash out
           ∙ rw at (ap (λ (x : Result (List Word) SourceKind). x >>= λ us. Ok (record d { section = section.Voc; words = us })) (voc_row-is vs w ws r rise few));
       printed = printed-spaced (spelled_letters w) (decimal w.value ∷ class_name w.class ∷ []) (plain_row w r);
     }
@@ -126,4 +126,4 @@ words_read p d vs (w ∷ ws) at all rise few =
     let room : length vs < WORD_LIMIT = omega (arith, length-append vs (w ∷ ws), few) in
     let same : (vs ++ w ∷ []) ++ ws ≡ vs ++ w ∷ ws = append_assoc vs (w ∷ []) ws in
     let rest = words_read p d (vs ++ w ∷ []) ws at both.1 (ap words_rise same ∙ rise) (rw same few) in
-    reads_line p _ _ _ _ _ (word_step p d vs w ws at both.0 rise room) (rw same at rest)
+    reads_line p _ _ _ _ _ (word_next p d vs w ws at both.0 rise room) (rw same at rest)
