@@ -83,7 +83,7 @@ pub record AreFew (c : Counts) : Type 0 where
   pub locations : is_within LOCATION_LEAST LOCATION_LIMIT c.locations ≡ true
   pub tables : is_within TABLE_LEAST TABLE_LIMIT c.tables ≡ true
 
--- What follows from a number that kept its limits.
+-- What follows from a number within its limits.
 within_then : {B : Type 0} (P : Type 0) (least most : ℕ) (bytes : Bytes) (f : ℕ × Bytes → Result B ℕ) (y : B)
     → IsBytes bytes → (checked_number least most bytes >>= f) ≡ Ok y
     → ((x : ℕ × Bytes) → Takes bytes (two_bytes x.0) x.1 → is_within least most x.0 ≡ true → f x ≡ Ok y → P) → P

@@ -23,9 +23,9 @@ letters_of-suc n bytes h =
 letter_at : (run filling : Bytes) (letter x : ℕ) → (run ++ letter ∷ []) ++ filling ≡ set (run ++ x ∷ filling) (length run) letter
 letter_at run filling letter x = append_assoc run (letter ∷ []) filling ∙ sym (set_at run x filling letter (length run) refl)
 
--- A letter among the first five is kept.
-five_letters-kept : (run : Token) (letter : ℕ) → length run < WORD_LENGTH → five_letters (run ++ letter ∷ []) ≡ set (five_letters run) (length run) letter
-five_letters-kept run letter h =
+-- A letter among the first five is copied.
+five_letters-copied : (run : Token) (letter : ℕ) → length run < WORD_LENGTH → five_letters (run ++ letter ∷ []) ≡ set (five_letters run) (length run) letter
+five_letters-copied run letter h =
     let whole : take WORD_LENGTH (run ++ letter ∷ []) ≡ run ++ letter ∷ [] =
     take_all WORD_LENGTH (run ++ letter ∷ []) (omega (arith, length-append run (letter ∷ []))) in
     let short : take WORD_LENGTH run ≡ run = take_all WORD_LENGTH run (omega arith) in
@@ -46,8 +46,8 @@ letter_copied bytes n h five =
     let run = letters_of n bytes in
     let letter = to_ascii_uppercase (get_or bytes n 0) in
     let long : length run ≡ n = length-letters_of n bytes (omega arith) in
-    let kept : five_letters (run ++ letter ∷ []) ≡ set (five_letters run) (length run) letter = five_letters-kept run letter (omega arith) in
-    rw add-one (sym (ap five_letters (letters_of-suc n bytes h) ∙ kept ∙ ap (λ k. set (five_letters run) k letter) long))
+    let copied : five_letters (run ++ letter ∷ []) ≡ set (five_letters run) (length run) letter = five_letters-copied run letter (omega arith) in
+    rw add-one (sym (ap five_letters (letters_of-suc n bytes h) ∙ copied ∙ ap (λ k. set (five_letters run) k letter) long))
 
 pub letter_cut : (bytes : Bytes) (n : ℕ) → n < length bytes → WORD_LENGTH ≤ n → five_letters (letters_of n bytes) ≡ five_letters (letters_of (n + 1) bytes)
 letter_cut bytes n h five =

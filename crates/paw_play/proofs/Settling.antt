@@ -30,7 +30,7 @@ use Rattle.paw_state.specs.State.{last_piece, state_at}
 use Rattle.paw_state.specs.State.{HoldsBytes}
 use Rattle.paw_state.proofs.Ruled.{valid_of}
 use Rattle.paw_play.specs.Stands.{IsPlayedWith}
-use Rattle.paw_process.proofs.Fitting.{places_fit, eleven_frames}
+use Rattle.paw_process.proofs.Fitting.{frames_fit, eleven_frames}
 use Rattle.paw_play.proofs.Going.{Settles, IsSettled}
 
 -- No line is left where no table is open.
@@ -92,7 +92,7 @@ module _ (g : GameLists) (v : Valid g) (seed : Seed) (n : ℕ) (fits : seed < 2 
       events = few;
       draws = drawn r bound count;
       rows = eleven_frames g (waiting_code p) path r.turning k.frames;
-      frames = places_fit g (waiting_code p) path r.turning k.frames;
+      frames = frames_fit g (waiting_code p) path r.turning k.frames;
       line = k.pending.short;
       pending = closed_line g p path r k;
     });

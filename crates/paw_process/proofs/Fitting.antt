@@ -38,11 +38,11 @@ some_table : (g : GameLists) (code : ℕ) (path : List Frame) → LeadsTo g code
 some_table g code [] leads = absurd leads
 some_table g code (f ∷ path) leads = omega arith
 
-pub places_fit : (g : GameLists) (code : Option ℕ) (path : List Frame) (turning : Option OpenLoop) → AreOpenAt g code path turning
+pub frames_fit : (g : GameLists) (code : Option ℕ) (path : List Frame) (turning : Option OpenLoop) → AreOpenAt g code path turning
     → fault_at g code (frames_at path turning) ≡ None
-places_fit g None path turning at =
+frames_fit g None path turning at =
     rw (at.0, at.1) (both_none (first_frame_fault g 0 None 0 0 (replicate MOST_FRAMES blank_frame)) None (unused_stand g 0 None 0 MOST_FRAMES) refl)
-places_fit g (Some code) path turning at =
+frames_fit g (Some code) path turning at =
     let fits : count_fits (Some code) (length path) ≡ true = let few = at.few in let some = some_table g code path at.leads in grind (arith, nat_tests) in
     let opens : may_open None (first_table path) ≡ true = let low = at.outermost in grind (arith, nat_tests) in
     rw fits
@@ -145,9 +145,9 @@ loop_in g k (Some l) h = go (loop_stands g k l) refl h
         }
     go false e q = cc
 
-open_places : (g : GameLists) (code : ℕ) (k : Frames) → length k.rows ≡ MOST_FRAMES → fault_at g (Some code) k ≡ None
+open_frames : (g : GameLists) (code : ℕ) (k : Frames) → length k.rows ≡ MOST_FRAMES → fault_at g (Some code) k ≡ None
     → AreOpenTo g code (take k.count k.rows) k.turning
-open_places g code k size h = go (count_fits (Some code) k.count) refl h
+open_frames g code k size h = go (count_fits (Some code) k.count) refl h
   where
     at : (n : ℕ) → 0 < n → n ≤ MOST_FRAMES → n ≡ k.count → first_frame_fault g code None n 0 k.rows ≡ None → loop_fault g k k.turning ≡ None
         → AreOpenTo g code (take k.count k.rows) k.turning
@@ -173,7 +173,7 @@ open_places g code k size h = go (count_fits (Some code) k.count) refl h
 pub kept_frames_of_run : (g : GameLists) (p : Prompt) (k : Frames) → length k.rows ≡ MOST_FRAMES → frames_fault g p k ≡ None
     → AreFramesAndLoop g p (reverse (reverse (take k.count k.rows))) k.turning
 kept_frames_of_run g prompt.Main k size h = let closed = none_open g k h in (ap (λ (s : List Frame). reverse s) closed.frames, closed.turning)
-kept_frames_of_run g prompt.Quit k size h = rw (reverse-reverse (take k.count k.rows)) (open_places g QUIT k size h)
-kept_frames_of_run g prompt.Again k size h = rw (reverse-reverse (take k.count k.rows)) (open_places g END k size h)
-kept_frames_of_run g prompt.Key k size h = rw (reverse-reverse (take k.count k.rows)) (open_places g ANYKEY k size h)
+kept_frames_of_run g prompt.Quit k size h = rw (reverse-reverse (take k.count k.rows)) (open_frames g QUIT k size h)
+kept_frames_of_run g prompt.Again k size h = rw (reverse-reverse (take k.count k.rows)) (open_frames g END k size h)
+kept_frames_of_run g prompt.Key k size h = rw (reverse-reverse (take k.count k.rows)) (open_frames g ANYKEY k size h)
 kept_frames_of_run g prompt.Over k size h = let closed = none_open g k h in (ap (λ (s : List Frame). reverse s) closed.frames, closed.turning)

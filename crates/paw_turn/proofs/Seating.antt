@@ -38,7 +38,7 @@ use Rattle.paw_process.specs.declared.kept.Frames.{Frames}
 use Rattle.paw_process.proofs.Restored.{first_of, second, no_first}
 use Rattle.paw_process.proofs.OpenFrames.{table_of}
 use Rattle.paw_process.proofs.Again.{restored_again}
-use Rattle.paw_process.proofs.Fitting.{places_fit, kept_frames_of_run}
+use Rattle.paw_process.proofs.Fitting.{frames_fit, kept_frames_of_run}
 use Rattle.paw_turn.specs.declared.Step.{Step}
 use Rattle.paw_turn.specs.declared.Step.TheVariants as step
 use Rattle.paw_turn.specs.inner.Player.{PlayerView, WaitsIn, StandsClosed, StandRightly, IsSeated, IsNew, only_counting_player}
@@ -135,9 +135,9 @@ module _ {F : Type 0} (p : PlayerView F) (seated : IsSeated p) (standing : IsSta
   }
 
   -- Its frames are never refused.
-  pub places_kept : frames_fault p.game (prompt_at p.last) (machine_kept p.machine) ≡ None
-  places_kept =
-      places_fit p.game (waiting_code (prompt_at p.last)) (reverse p.machine.frames) p.machine.turning (seated.rightly standing).frames
+  pub frames_accepted : frames_fault p.game (prompt_at p.last) (machine_kept p.machine) ≡ None
+  frames_accepted =
+      frames_fit p.game (waiting_code (prompt_at p.last)) (reverse p.machine.frames) p.machine.turning (seated.rightly standing).frames
 
   -- And a player that stands with them is the same but for the piece.
   pub same_seat : seat_at p.game p.routines p.world p.machine p.pending (prompt_at p.last) ≡ record p { piece = [] }

@@ -17,9 +17,9 @@ loop-preserved g c =
     record {
       left = each_goes_on pass c.args.count c.loop.counter c.loop.rest.now _ c.in_ok-rest.rest.now c.loop-test.true
           c.in_ok-rest.ensures.gives c.loop.invariant.left;
-      kept = rw (c.in_ok-push.ensures.items, c.saturating_sub.ensures)
+      goes_on = rw (c.in_ok-push.ensures.items, c.saturating_sub.ensures)
           (begins_go_on pass c.args.total c.loop.offsets.items c.args.count c.loop.counter c.loop.rest.now _
-          c.in_ok-rest.rest.now c.loop-test.true c.in_ok-rest.ensures.gives c.loop.invariant.kept);
+          c.in_ok-rest.rest.now c.loop-test.true c.in_ok-rest.ensures.gives c.loop.invariant.goes_on);
       many = ap length c.in_ok-push.ensures.items ∙ omega (arith, length-append c.loop.offsets.items (c.saturating_sub.result ∷ []), c.loop.invariant.many);
     }
 
@@ -31,4 +31,4 @@ returns-clause-gives g c =
 pub returns-clause-offsets : goal.returns-clause-offsets
 returns-clause-offsets g c =
     begins_are_done (g.R.InPlace.passing c.args.rules.now) c.args.total c.loop.offsets.items c.args.count
-    c.loop.counter c.loop.rest.now _ c.loop-test.false c.loop.invariant.kept
+    c.loop.counter c.loop.rest.now _ c.loop-test.false c.loop.invariant.goes_on

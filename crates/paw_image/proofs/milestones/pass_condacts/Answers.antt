@@ -11,7 +11,7 @@ loop-init c = record {
   left = each_none (after_condact c.args.rules.now) c.args.bytes.now;
   long = omega arith;
   marked = λ k lt. absurd (omega (arith, lt));
-  kept = λ k x e. e;
+  extends = λ k x e. e;
 }
 
 pub returns-in_err-rest-clause-gives : goal.returns-in_err-rest-clause-gives
@@ -49,7 +49,7 @@ loop-preserved c =
       marked = rw (items, c.saturating_sub.ensures)
           (one_more_milestone milestones bytes (length c.args.milestones.now.items) i (length bytes - length rest)
           c.loop.invariant.long c.loop.invariant.marked goes_on);
-      kept = λ k x e. rw items (same_before milestones (c.saturating_sub.result ∷ []) k x (c.loop.invariant.kept k x e));
+      extends = λ k x e. rw items (same_before milestones (c.saturating_sub.result ∷ []) k x (c.loop.invariant.extends k x e));
     }
 
 pub returns-clause-gives : goal.returns-clause-gives

@@ -9,5 +9,5 @@ invariant-loop l = record {
   left : each (after_condact l.rules) (l.counter * 8) l.bytes ≡ Ok l.rest;
   long : length l.milestones.items ≡ length l.fn.milestones.items + l.counter;
   marked : MilestonesSoFar l.milestones.items (length l.fn.milestones.items) l.counter l.bytes;
-  kept : BeginsWithList l.fn.milestones.items l.milestones.items;
+  extends : BeginsWithList l.fn.milestones.items l.milestones.items;
 }

@@ -31,8 +31,8 @@ loop-preserved c =
     let same : length offsets ≡ length firsts = inv.many ∙ sym inv.firsts in
     record {
       left = each_goes_on (after_entry d) c.args.count c.loop.counter rest _ after c.loop-test.true gives inv.left;
-      kept = rw (place, c.saturating_sub.ensures)
-          (begins_go_on (after_entry d) (length all) offsets c.args.count c.loop.counter rest _ after c.loop-test.true gives inv.kept);
+      goes_on = rw (place, c.saturating_sub.ensures)
+          (begins_go_on (after_entry d) (length all) offsets c.args.count c.loop.counter rest _ after c.loop-test.true gives inv.goes_on);
       many = ap length place ∙ omega (arith, length-append offsets (c.saturating_sub.result ∷ []), inv.many);
       firsts = ap length first ∙ omega (arith, length-append firsts (c.len.result ∷ []), inv.firsts);
       few = omega (arith, c.in_ok-rest.ensures.few, inv.few);
@@ -48,4 +48,4 @@ returns-clause-gives c = each_is_done (after_entry c.args.rules.now) c.args.coun
 pub returns-clause-offsets : goal.returns-clause-offsets
 returns-clause-offsets c =
     begins_are_done (after_entry c.args.rules.now) (length c.args.all.now) c.loop.offsets.items c.args.count c.loop.counter c.loop.rest.now _
-    c.loop-test.false c.loop.invariant.kept
+    c.loop-test.false c.loop.invariant.goes_on

@@ -7,7 +7,7 @@ use Rattle.paw_image.proofs.milestones.pass_entries.Given as goal
 abbrev pub invariant-loop : goal.invariant-loop
 invariant-loop l = record {
   left : each (after_entry l.rules) (l.count - l.counter) l.rest ≡ each (after_entry l.rules) l.count l.bytes;
-  kept : l.offsets.items ++ begins (after_entry l.rules) (length l.all) (l.count - l.counter) l.rest
+  goes_on : l.offsets.items ++ begins (after_entry l.rules) (length l.all) (l.count - l.counter) l.rest
       ≡ begins (after_entry l.rules) (length l.all) l.count l.bytes;
   many : length l.offsets.items ≡ l.counter;
   firsts : length l.firsts.items ≡ l.counter;

@@ -19,10 +19,10 @@ pub loop-preserved : goal.loop-preserved
 loop-preserved c = record {
   left = each_goes_on (after_table c.args.rules.now) c.args.count c.loop.counter c.loop.rest.now _
       c.in_ok-table.after.now c.loop-test.true c.in_ok-table.ensures.gives c.loop.invariant.left;
-  kept = rw c.in_ok-push.ensures.items
+  goes_on = rw c.in_ok-push.ensures.items
       (tables_go_on c.args.rules.now (length c.args.all.now) c.loop.tables.items c.args.count c.loop.counter
       c.loop.rest.now _ c.in_ok-table.table c.in_ok-table.after.now c.loop-test.true
-      c.in_ok-table.ensures.gives c.in_ok-table.ensures.entries c.loop.invariant.kept);
+      c.in_ok-table.ensures.gives c.in_ok-table.ensures.entries c.loop.invariant.goes_on);
   order = rw c.in_ok-push.ensures.items
       (all_more (λ (t : TableIndex). IsOrder c.args.all.now t.entries.items t.order) c.loop.tables.items
       c.in_ok-table.table c.loop.invariant.order c.in_ok-table.ensures.order);
@@ -40,4 +40,4 @@ returns-clause-gives c = each_is_done (after_table c.args.rules.now) c.args.coun
 pub returns-clause-begin : goal.returns-clause-begin
 returns-clause-begin c =
     tables_are_done c.args.rules.now (length c.args.all.now) c.loop.tables.items c.args.count c.loop.counter
-    c.loop.rest.now _ c.loop-test.false c.loop.invariant.kept
+    c.loop.rest.now _ c.loop-test.false c.loop.invariant.goes_on

@@ -2,7 +2,7 @@ use Rattle.std.proofs.Common.{◌≡◌, ◌-◌, None, reverse, sym, subst, ari
 use Rattle.paw_base.specs.declared.limits.TheConstants.{READ_LIMIT}
 use Rattle.paw_process.proofs.OpenFrames.{kept_frames}
 use Rattle.paw_process.proofs.Again.{kept_again}
-use Rattle.paw_process.proofs.Fitting.{places_fit}
+use Rattle.paw_process.proofs.Fitting.{frames_fit}
 use Rattle.paw_process.specs.Kept.{waiting_code}
 use Rattle.paw_process.specs.inner.Kept.{frames_fault}
 use Rattle.paw_process.specs.declared.kept.Frames.{Frames}
@@ -20,4 +20,4 @@ returns-clause-again c = λ p stands. kept_again p _ c.args.self.now (returns-cl
 pub returns-clause-sound : goal.returns-clause-sound
 returns-clause-sound c = λ g p places.
     subst (λ (k : Frames). frames_fault g p k ≡ None) (sym (returns-clause-value c))
-    (places_fit g (waiting_code p) (reverse c.args.self.now.frames) c.args.self.now.turning places)
+    (frames_fit g (waiting_code p) (reverse c.args.self.now.frames) c.args.self.now.turning places)

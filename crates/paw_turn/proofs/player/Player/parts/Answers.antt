@@ -1,5 +1,5 @@
-use Rattle.paw_turn.proofs.Seating.{places_kept}
+use Rattle.paw_turn.proofs.Seating.{frames_accepted}
 use Rattle.paw_turn.proofs.player.Player.parts.Goals as goal
 
 pub returns-clause-accepted : goal.returns-clause-accepted
-returns-clause-accepted g c = places_kept c.args.self.now
+returns-clause-accepted g c = frames_accepted c.args.self.now
