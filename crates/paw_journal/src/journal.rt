@@ -111,8 +111,8 @@ impl Journal {
 
     /// Makes the session show this state, whose bytes 1,369 and 1,370 give the piece's length, and this piece. Whatever
     /// a crash leaves in the meantime shows the old pair or the new one. It writes little: the piece, and what differs
-    /// from the state of the slot that isn't in use; or the whole state, where that slot has none of the version that is
-    /// written, or no room for the changes.
+    /// from the state of the slot that isn't in use; or the whole state, where that slot has none of the version that
+    /// is written, or no room for the changes.
     ///
     /// # Errors
     /// Write or Sync where that call of the stage failed.

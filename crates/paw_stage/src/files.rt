@@ -36,8 +36,8 @@ pub fn read_file<R: Files>(
 /// After any other failure the file may hold some of them.
 ///
 /// A plain file isn't written where it would have more than `longest` bytes; one that was missing is then there, and
-/// empty. Anything that isn't a plain file, such as a pipe or a device, takes the bytes as they come. It is synced where
-/// it has such a call, and its folder isn't.
+/// empty. Anything that isn't a plain file, such as a pipe or a device, takes the bytes as they come. It is synced
+/// where it has such a call, and its folder isn't.
 pub fn write_file<R: Files + Alloc>(
     rt: &R,
     name: &str,

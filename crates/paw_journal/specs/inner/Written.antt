@@ -9,8 +9,8 @@ use Rattle.paw_journal.specs.Session.{most_changes, slot, differing}
 use Rattle.paw_journal.specs.inner.Room.{slot_number, kept_slot}
 
 -- The most bytes that a commit of a state and a piece writes over a slot, by what is kept of that slot. Where it has a
--- state, and its change records and the new ones aren't too many, these are four bytes for each offset at which they differ;
--- otherwise they are a whole base.
+-- state, and its change records and the new ones aren't too many, these are four bytes for each offset at which that
+-- state and the new one differ; otherwise they are a whole base.
 abbrev pub most_written : Option SlotState → Bytes → Text → ℕ
 most_written None state piece = 4224 + length piece
 most_written (Some kept) state piece =
