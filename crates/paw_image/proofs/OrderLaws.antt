@@ -252,6 +252,17 @@ pub least_of_nouns : (ranks run : List ℕ) (verb noun from : ℕ) → IsRun ran
 least_of_nouns ranks run verb noun from is none same h k =
     least_of_any ranks run verb noun from is none same (least_in_run ranks run verb NO_WORD from is none h) k
 
+lower_same : (r : Option ℕ) → lower r r ≡ r
+lower_same None = refl
+lower_same (Some e) = let same : min e e ≡ e = omega arith in ap Some same
+
+-- With no noun those of any noun are all.
+pub least_of_no_noun : (ranks run : List ℕ) (verb noun from : ℕ) → IsRun ranks verb run → (none : Option ℕ) → noun ≡ NO_WORD
+    → IsLeast (IsMatch run (is_pair verb NO_WORD) from) none → IsLeast (IsMatch ranks (λ v n. eqb v verb && is_indexed_for n noun) from) none
+least_of_no_noun ranks run verb noun from is none e h =
+    subst (IsLeast (IsMatch ranks (λ v n. eqb v verb && is_indexed_for n noun) from)) (lower_same none)
+    (least_of_nouns ranks run verb noun from is none none h (subst (λ n. IsLeast (IsMatch run (is_pair verb n) from) none) (sym e) h))
+
 one_of_two : (a b m : Bool) → ((a && m) || (b && m)) ≡ ((a || b) && m)
 one_of_two true b true = refl
 one_of_two true true false = refl

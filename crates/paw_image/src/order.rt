@@ -209,14 +209,17 @@ fn lower(first: Option<u16>, second: Option<u16>) -> Option<u16>
     }
 }
 
-// The least entry not below `from` that has this verb in the index, and whose noun matches: the lower of those found
-// for any noun and for the noun itself.
+// The least entry not below `from` that has this verb in the index, and whose noun matches. Where the sentence has no
+// noun only entries for any noun match, so one search is enough.
 fn first_for(order: &Order, verb: u8, noun: u8, from: u16) -> Option<u16>
     requires sorted { IsSorted order.now }
     ensures least { IsLeast (IsMatch order.now.ranks.items (λ v n. (v == verb) && is_indexed_for n noun) from) result }
 {
     let run = run_of(&order.ranks, &order.starts, verb);
     let none = first_with(run, verb, NO_WORD, from);
+    if noun == NO_WORD {
+        return none;
+    }
     let same = first_with(run, verb, noun, from);
     lower(none, same)
 }
