@@ -6,6 +6,8 @@ import re
 import subprocess
 import sys
 
+import signals
+
 TOP = os.path.dirname(os.path.dirname(os.path.abspath(__file__)))
 
 
@@ -38,7 +40,13 @@ def run(words, lines=()):
 
 
 def script(main):
-    """Runs a script, and ends with its status: quietly where its reader goes away, with a line of words where a file fails."""
+    """Runs a script, and ends with its status: quietly where its reader goes away or a signal ends it, with a line of words where a
+    file fails."""
+    sys.exit(signals.status_of(lambda: outcome(main)))
+
+
+def outcome(main):
+    """The status of a script that no signal ends."""
     name = os.path.basename(sys.argv[0])
     try:
         try:
@@ -49,11 +57,9 @@ def script(main):
     except BrokenPipeError:
         os.dup2(os.open(os.devnull, os.O_WRONLY), sys.stdout.fileno())  # what is still held back goes nowhere
         status = 141
-    except KeyboardInterrupt:
-        status = 130
     except OSError as fault:
         status = refusal("%s: %s: %s" % (name, fault.filename or "the output", fault.strerror))
-    sys.exit(status)
+    return status
 
 
 def words(told):
