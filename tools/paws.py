@@ -9,6 +9,7 @@ import sys
 import signals
 
 TOP = os.path.dirname(os.path.dirname(os.path.abspath(__file__)))
+REASONS = os.path.join(TOP, "tools", "reasons")
 
 
 def program(named=None):
@@ -37,6 +38,22 @@ def run(words, lines=()):
     typed = "".join(line + "\n" for line in lines)
     done = subprocess.run(words, input=typed.encode("latin-1"), stdout=subprocess.PIPE, stderr=subprocess.PIPE)
     return done.returncode, done.stdout.decode("latin-1"), done.stderr.decode("latin-1")
+
+
+def reason(words, said):
+    """Why the program failed, which was called with these words (itself the first) and said this: a sentence without its full stop,
+    by what is found of its files. It is empty where nothing is known."""
+    if said.strip() in ("outside failed: Show", "outside failed: Ask"):
+        return ""  # its output and its input are those that a script gave it
+    look = ["sh", "-c", '. "$0"; find_reason "$@"; printf %s "$why"', REASONS, said.strip(), *words]
+    found = subprocess.run(look, stdin=subprocess.DEVNULL, stdout=subprocess.PIPE, stderr=subprocess.DEVNULL)
+    return found.stdout.decode("utf-8", "replace")
+
+
+def failure(words, said):
+    """What the program said, called with these words, and why it said that, where that is known."""
+    why = reason(words, said)
+    return said.strip() + ("\n%s." % why if why else "")
 
 
 def script(main):
