@@ -10,7 +10,7 @@ import os
 import zlib
 
 import common
-import copies
+import kept
 
 MOST = 20
 
@@ -76,8 +76,8 @@ def go_back(folder, name):
     """
     with contextlib.ExitStack() as held:
         try:
-            held.enter_context(copies.held(common.path_of(folder, name)))
-        except (copies.Refused, OSError):  # a program plays it by itself, or there is none
+            held.enter_context(kept.held(common.path_of(folder, name)))
+        except (kept.Refused, OSError):  # a program plays it by itself, or there is none
             return False
         before = copy_before(folder, name)
         if before is None:

@@ -11,7 +11,8 @@ LOOK = 0.02  # seconds between two looks at the session, where no text has come
 
 class Playing:
     """A program that plays. Its output is a socket that keeps writes apart: the program shows a text by one write, so each read
-    gives a whole one. It has a process group of its own, so that keys of the terminal which end programs don't reach it."""
+    gives a whole one. It has a process group of its own, so that keys of the terminal which end programs don't reach it. Files that
+    were open before this program began stay open: the program or the image may be one of them, /proc/self/fd/8."""
 
     def __init__(self, words, session):
         self.session = session
@@ -19,7 +20,7 @@ class Playing:
         with theirs:
             theirs.setsockopt(socket.SOL_SOCKET, socket.SO_SNDBUF, 2 * LONGEST)
             self.process = subprocess.Popen(words, stdin=subprocess.PIPE, stdout=theirs, stderr=subprocess.PIPE,
-                                            start_new_session=True, restore_signals=False)
+                                            close_fds=False, start_new_session=True, restore_signals=False)
         self.lines = None
 
     def first(self):

@@ -5,10 +5,27 @@ import sys
 import paws
 
 SLOTS, SLOT, BASE, TEXT, RECORDS = 128, 86080, 64, 4160, 69696
+STATE, SHORT = 3419, 1371  # bytes of a state, and of one in a slot of version 1
+LENGTH, MARK = SLOTS + 2 * SLOT, 80
 
 
 def number_at(data, at, size):
     return int.from_bytes(data[at:at + size], "little")
+
+
+def is_made(data):
+    """Whether these are the bytes of a session that was made, as far as its length and its mark tell."""
+    return len(data) == LENGTH and data[0] == MARK
+
+
+def was_cut_off(data):
+    """Whether these may be the bytes of a session whose making was cut off: nothing of it was ever shown."""
+    return 0 < len(data) <= LENGTH and data[0] == 0
+
+
+def game_of(data):
+    """The digest of the image that a session is of."""
+    return data[32:64].hex()
 
 
 class State:
@@ -19,9 +36,15 @@ class State:
         for at in range(min(number_at(slot, 0, 2), 4096)):
             record = slot[RECORDS + 4 * at:RECORDS + 4 * at + 4]
             self.base[number_at(record, 0, 2) % 4096] = record[2]
+        if slot[2:3] != b"\2":
+            self.base[SHORT:STATE] = bytes(STATE - SHORT)
         self.flags, self.places = self.base[:256], self.base[256:511]
         self.seed, self.lines, self.prompt = number_at(self.base, 1023, 8), number_at(self.base, 1039, 8), self.base[1047]
         self.text = slot[TEXT:TEXT + number_at(self.base, 1369, 2)].decode("latin-1")
+
+    def is_same(self, other):
+        """Whether another state shows the same, and goes on the same way."""
+        return self.base[:STATE] == other.base[:STATE] and self.text == other.text
 
 
 def state_at(data, slot):
@@ -36,16 +59,16 @@ def state_of(data):
 def now(path):
     """The state of a session that the program has just written."""
     with open(path, "rb") as file:
-        return state_of(file.read())
+        return state_of(file.read(LENGTH))
 
 
 def states(path, image):
     """The state of a session, and the one before its last line where that is still there."""
     with open(path, "rb") as file:
-        data = file.read()
+        data = file.read(LENGTH + 1)
     with open(image, "rb") as file:
         digest = hashlib.sha256(file.read()).digest()
-    if len(data) != SLOTS + 2 * SLOT or data[0] != 80:
+    if not is_made(data):
         sys.exit(paws.refusal("%s: no session" % path))
     if data[32:64] != digest:
         sys.exit(paws.refusal("%s: the session is of another game" % path))

@@ -1,0 +1,65 @@
+"""A game whose image has changed since: what was played with the older one, and how it differs over the newer one."""
+import contextlib
+import hashlib
+import os
+
+import kept
+import lines as rows
+import making
+
+SHOWN = 60  # letters of an answer
+
+
+class Older:
+    """The game that was played last with an image of this path; none where the image is still the same."""
+
+    def __init__(self, program, session, digest):
+        self.program, self.session, self.digest, self.folder = program, session, digest, kept.Folder(session)
+        self.place = rows.Lines(self.folder.lines).read().now
+
+    def can_be_played(self):
+        """Whether its lines are known from the beginning on."""
+        return bool(self.place) and self.place.game.digest == self.digest and not self.place.game.base
+
+    def texts(self):
+        """Its texts, where the image that it was played with is still there."""
+        with open(self.folder.image, "rb") as file:
+            image = file.read(rows.MOST)
+        if hashlib.sha256(image).hexdigest() == self.digest:
+            yield from making.Maker(self.program, self.folder.image, self.digest, self.folder).texts(self.place.game, self.place.lines())
+
+
+def remembered(folder, image):
+    """The digest of the image of this path that was played last; none where there was no other."""
+    return kept.content(path_of(folder, image), 64, b"").decode("ascii", "replace")
+
+
+def remember(folder, image, digest):
+    """Remembers which image of this path was played last; a file without a name of its own is not remembered."""
+    if not os.path.realpath(image).startswith("/proc/"):
+        with contextlib.suppress(OSError):
+            os.makedirs(os.path.dirname(path_of(folder, image)), mode=0o700, exist_ok=True)
+            kept.write_whole(path_of(folder, image), digest.encode())
+
+
+def path_of(folder, image):
+    return os.path.join(folder, "images", hashlib.sha256(os.fsencode(os.path.realpath(image))).hexdigest())
+
+
+def first_difference(before, now):
+    """What is told of the first text that differs; none where all are the same, or one can't be had."""
+    with contextlib.suppress(kept.Refused, OSError):
+        for number, ((line, old), (_, new)) in enumerate(zip(before, now)):
+            if old != new:
+                asked = 'The answer to line %d, "%s", was' % (number, rows.written(line).decode()) if number else "The first text was"
+                return '%s\n  %s\nand is now\n  %s' % (asked, shortened(old, new), shortened(new, old))
+    return None
+
+
+def shortened(text, other):
+    """The part of a text where it begins to differ from another, in one line."""
+    text, other = " ".join(text.split()), " ".join(other.split())
+    same = len(os.path.commonprefix([text, other]))
+    begin = 0 if same < SHOWN // 2 else text.rfind(" ", 0, same - SHOWN // 3) + 1
+    part = text[begin:begin + SHOWN]
+    return (".. " if begin else "") + part + (" .." if begin + SHOWN < len(text) else "")
