@@ -22,10 +22,10 @@ class Transcript:
             if not stat.S_ISREG(kind.st_mode):
                 raise kept.Refused("%s is no regular file" % path)
             begun = os.pread(self.file, LOOKED_AT, 0)
-            if b"\0" in begun or ROWS.match(begun):
-                raise kept.Refused("%s is no text that could be gone on with" % path)
             if is_one_of(kind, used):
                 raise kept.Refused("%s is in use" % path)
+            if b"\0" in begun or ROWS.match(begun):
+                raise kept.Refused("%s is no text that could be gone on with" % path)
         except BaseException:
             os.close(self.file)
             raise
