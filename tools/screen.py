@@ -1,6 +1,7 @@
 """What a player sees and types at: a terminal, or plain streams."""
 import contextlib
 import importlib.util
+import locale
 import os
 import re
 import select
@@ -8,6 +9,7 @@ import signal
 import sys
 import termios
 
+import letters
 import marks
 import wrapping
 
@@ -16,20 +18,47 @@ KEPT = 100  # texts and lines that may be shown again where the window changes
 HISTORY = 500
 COLOUR = re.compile("\033\\[[0-9;]*m")
 CONTROL = re.compile("[^\n -~\xa0-\U0010ffff]")  # no text of a game has these, but a session can be forged
+WINDOW = 80, 24  # what stands for a size that a terminal doesn't know
+# Keys as other players of text adventures have them; lines of commands go to the seat as if they were typed. What readline asks for
+# completions by is here where the window is drawn, and readline draws its line behind that.
+KEYS = ['"\\eu": "\\C-e\\C-u/undo\\C-m"', '"\\eh": "\\C-e\\C-u/help\\C-m"']
+DRAWING = ['"\\C-x\\C-x1": complete', '"\\C-x\\C-x2": redraw-current-line', '"\\C-l": "\\C-x\\C-x1\\C-x\\C-x2"']
+
+
+def size_known():
+    """The columns and rows of the window, 0 where it doesn't know them."""
+    with contextlib.suppress(OSError):
+        return os.get_terminal_size(1)
+    return 0, 0
 
 
 class Streams:
-    """Shows the texts byte by byte as the program does, and reads lines as they come."""
+    """Shows the texts byte by byte as the program does, and reads lines as they come. Lines are broken where a width is given, and
+    at a terminal that knows its own."""
     is_terminal = False
+
+    def __init__(self, width=None):
+        self.fixed, self.is_echoed, self.prompt = width, os.isatty(0), ""
 
     def without_marks(self, text):
         """A text as it is shown."""
         return text
 
     def show(self, text):
-        data = text.encode("latin-1", "replace")
+        data = self.broken(text).encode("latin-1", "replace")
         while data:
             data = data[os.write(1, data):]
+
+    def broken(self, text):
+        """A text with its lines broken, behind the prompt where what was typed there isn't seen."""
+        width = self.fixed or size_known()[0]
+        if not width:
+            return text
+        whole = wrapping.wrapped(self.prompt + text, width)
+        if not whole.startswith(self.prompt):  # no word fits behind the prompt
+            whole = self.prompt + "\n" + wrapping.wrapped(text, width)
+        begun, self.prompt = len(self.prompt), whole.rpartition("\n")[2]
+        return whole[begun:]
 
     def told(self, status):
         """Takes what a status line would show."""
@@ -46,9 +75,10 @@ class Streams:
         while not data.endswith(b"\n"):
             byte = os.read(0, 1)
             if not byte:
-                return bytes(data) or None
+                return letters.typed_line(bytes(data)) if data else None
             data += byte
-        return bytes(data[:-1]).removesuffix(b"\r")
+        self.prompt = "" if self.is_echoed else self.prompt
+        return letters.typed_line(bytes(data[:-1]).removesuffix(b"\r"))
 
     def key(self):
         return self.line()
@@ -69,29 +99,148 @@ class WentOn(Exception):
 
 class Terminal:
     """Shows texts by words at the window's width, a screenful at a time, and reads lines with editing and history. Keys that are
-    typed before they are asked for show nothing yet, and wait."""
+    typed before they are asked for show nothing yet, and wait.
+
+    One without a status line from the start sends no escape sequence at all, as a reader of screens likes it: it has no colours
+    then, and nothing is drawn over what was shown."""
     is_terminal = True
 
     def __init__(self, width, has_status):
         self.fixed, self.has_status, self.status = width, has_status, ("", "")
         self.colours, self.shown, self.typing = marks.Colours(), [], False
-        self.has_colours = not os.environ.get("NO_COLOR")
+        self.has_escapes = has_status
+        self.has_colours = self.has_escapes and not os.environ.get("NO_COLOR")
         self.prompt, self.painted_prompt, self.waits = "", "", ""
         self.is_stale, self.is_asked = False, False
         self.modes = termios.tcgetattr(0)
         self.take_keys(False)
         signal.signal(signal.SIGWINCH, self.resized)
         signal.signal(signal.SIGTSTP, self.left_alone)
-        import readline  # behind the handler, which it calls in its own: so both hear of a new size
-        readline.parse_and_bind("set enable-bracketed-paste off")
-        readline.parse_and_bind('"\\C-l": redraw-current-line')  # what clears the window would clear the status line too
-        readline.set_auto_history(False)
-        readline.set_history_length(HISTORY)
-        self.readline, self.history = readline, None
-        sys.stdin.reconfigure(errors="surrogateescape")
-        sys.stdout.reconfigure(errors="replace")
+        self.know_letters()
+        self.readline, self.history = self.line_editing(), None
         self.measure()
         self.settle()
+
+    @staticmethod
+    def know_letters():
+        """Where the locale has ASCII alone, a terminal writes UTF-8 all the same."""
+        if locale.nl_langinfo(locale.CODESET).upper() in ("ANSI_X3.4-1968", "US-ASCII", "ASCII", "646"):
+            with contextlib.suppress(locale.Error):
+                locale.setlocale(locale.LC_CTYPE, "C.UTF-8")
+            sys.stdin.reconfigure(encoding="utf-8")
+            sys.stdout.reconfigure(encoding="utf-8")
+        sys.stdin.reconfigure(errors="surrogateescape")
+        sys.stdout.reconfigure(errors="replace")
+
+    def line_editing(self):
+        """The library for editing lines, with its keys."""
+        kind = os.environ["TERM"]
+        if not self.has_escapes:
+            os.environ["TERM"] = "dumb"
+        import readline  # behind the handler of sizes, which it calls in its own: so both hear of a new one
+        os.environ["TERM"] = kind
+        readline.parse_and_bind("set enable-bracketed-paste off")
+        readline.parse_and_bind("set bell-style none")
+        readline.set_completer(self.asked_to_draw)
+        for key in KEYS + (DRAWING if self.has_escapes else ['"\\C-l": redraw-current-line']):
+            readline.parse_and_bind(key)
+        readline.set_auto_history(False)
+        readline.set_history_length(HISTORY)
+        return readline
+
+    def asked_to_draw(self, _, state):
+        """Draws the window anew, and leaves the cursor as far down as readline has it in its line."""
+        if state == 0:
+            self.draw_anew()
+            self.write("\n" * ((len(self.prompt) + self.readline.get_endidx()) // self.columns))
+
+    def use_history(self, path):
+        """Takes where lines could be remembered."""
+
+    def line(self):
+        """A line as bytes, with no more of the input than that; None at the end of the input."""
+        data = bytearray()
+        while not data.endswith(b"\n"):
+            byte = os.read(0, 1)
+            if not byte:
+                return letters.typed_line(bytes(data)) if data else None
+            data += byte
+        self.prompt = "" if self.is_echoed else self.prompt
+        return letters.typed_line(bytes(data[:-1]).removesuffix(b"\r"))
+
+    def key(self):
+        return self.line()
+
+    def close(self, ended):
+        """Leaves what is shown last with a line end."""
+        if os.isatty(1) and not ended:
+            self.show("\n")
+
+
+class WentOn(Exception):
+    """A line was typed in part when the program was stopped; now it goes on."""
+
+    def __init__(self, typed):
+        super().__init__(typed)
+        self.typed = typed
+
+
+class Terminal:
+    """Shows texts by words at the window's width, a screenful at a time, and reads lines with editing and history. Keys that are
+    typed before they are asked for show nothing yet, and wait.
+
+    One without a status line from the start sends no escape sequence at all, as a reader of screens likes it: it has no colours
+    then, and nothing is drawn over what was shown."""
+    is_terminal = True
+
+    def __init__(self, width, has_status):
+        self.fixed, self.has_status, self.status = width, has_status, ("", "")
+        self.colours, self.shown, self.typing = marks.Colours(), [], False
+        self.has_escapes = has_status
+        self.has_colours = self.has_escapes and not os.environ.get("NO_COLOR")
+        self.prompt, self.painted_prompt, self.waits = "", "", ""
+        self.is_stale, self.is_asked = False, False
+        self.modes = termios.tcgetattr(0)
+        self.take_keys(False)
+        signal.signal(signal.SIGWINCH, self.resized)
+        signal.signal(signal.SIGTSTP, self.left_alone)
+        self.know_letters()
+        self.readline, self.history = self.line_editing(), None
+        self.measure()
+        self.settle()
+
+    @staticmethod
+    def know_letters():
+        """Where the locale has ASCII alone, a terminal writes UTF-8 all the same."""
+        if locale.nl_langinfo(locale.CODESET).upper() in ("ANSI_X3.4-1968", "US-ASCII", "ASCII", "646"):
+            with contextlib.suppress(locale.Error):
+                locale.setlocale(locale.LC_CTYPE, "C.UTF-8")
+            sys.stdin.reconfigure(encoding="utf-8")
+            sys.stdout.reconfigure(encoding="utf-8")
+        sys.stdin.reconfigure(errors="surrogateescape")
+        sys.stdout.reconfigure(errors="replace")
+
+    def line_editing(self):
+        """The library for editing lines, with its keys."""
+        kind = os.environ["TERM"]
+        if not self.has_escapes:
+            os.environ["TERM"] = "dumb"
+        import readline  # behind the handler of sizes, which it calls in its own: so both hear of a new one
+        os.environ["TERM"] = kind
+        readline.parse_and_bind("set enable-bracketed-paste off")
+        readline.parse_and_bind("set bell-style none")
+        readline.set_completer(self.asked_to_draw)
+        for key in KEYS + (DRAWING if self.has_escapes else ['"\\C-l": redraw-current-line']):
+            readline.parse_and_bind(key)
+        readline.set_auto_history(False)
+        readline.set_history_length(HISTORY)
+        return readline
+
+    def asked_to_draw(self, _, state):
+        """Has the window drawn anew, as for a new size; readline writes its line behind that."""
+        if state == 0:
+            self.is_stale = True
+            os.kill(os.getpid(), signal.SIGWINCH)
 
     def use_history(self, path):
         """Takes lines of earlier days from a file, and keeps those to come there."""
@@ -101,8 +250,8 @@ class Terminal:
             self.readline.write_history_file(path)
 
     def remember(self, text):
-        self.readline.add_history(text)
-        with contextlib.suppress(OSError):
+        with contextlib.suppress(OSError, UnicodeError):  # a locale may know fewer letters than were typed
+            self.readline.add_history(text)
             if self.history:
                 os.makedirs(os.path.dirname(self.history), mode=0o700, exist_ok=True)
                 with open(self.history, "a", encoding="utf-8", errors="surrogateescape"):
@@ -111,10 +260,7 @@ class Terminal:
     # --- the window
 
     def measure(self):
-        with contextlib.suppress(OSError):
-            self.columns, self.rows = os.get_terminal_size(1)
-            return
-        self.columns, self.rows = 80, 24
+        self.columns, self.rows = [found or assumed for found, assumed in zip(size_known(), WINDOW)]
 
     @property
     def has_line(self):
@@ -182,6 +328,8 @@ class Terminal:
 
     def draw_anew(self):
         self.is_stale = False
+        if not self.has_escapes:
+            return
         self.write("\033[r\033[H\033[2J")
         self.settle()
         free, last = self.page - 1, []
@@ -211,11 +359,13 @@ class Terminal:
             self.write("\0337\033[%d;1H\033[K\033[r\0338" % self.rows)
 
     def draw_status(self):
-        """The place at the left and the rest at the right, in the last row."""
+        """The place at the left and the rest at the right, in the last row; of the rest the numbers alone where room is short."""
         if not self.has_line:
             return
         place, rest = self.status
         room = self.columns - 1
+        if len(place) + len(rest) + 3 > room:
+            rest = "/".join(re.findall("[0-9]+", rest))
         place = place[:max(0, room - len(rest) - 3)]
         line = " %s%s " % (place, rest.rjust(room - 1 - len(place)))
         self.write("\0337\033[%d;1H\033[0m\033[K\033[7m%s\033[0m\0338" % (self.rows, line[:self.columns]))
@@ -277,14 +427,14 @@ class Terminal:
 
     def clear(self):
         """Moves all that was shown out of the window, so that it can be scrolled back to."""
-        self.write("\033[%d;1H%s\033[H" % (self.page, "\n" * self.page))
+        self.write("\033[%d;1H%s\033[H" % (self.page, "\n" * self.page) if self.has_escapes else "\n")
 
     def more(self):
         """Waits at the end of a screenful for any key."""
         try:
-            self.any_key("\033[7m%s\033[0m" % MORE)
+            self.any_key("\033[7m%s\033[0m" % MORE if self.has_escapes else MORE)
         finally:
-            self.write("\r\033[K")
+            self.write("\r\033[K" if self.has_escapes else "\r%s\r" % (" " * len(MORE)))
 
     # --- what is typed
 
@@ -310,7 +460,7 @@ class Terminal:
         if text.strip():
             self.remember(text)
         self.was_typed(text)
-        return text.replace("\n", " ").encode(sys.stdin.encoding, "surrogateescape")
+        return letters.typed_line(text.replace("\n", " ").encode("utf-8", "surrogateescape"))
 
     def was_typed(self, text):
         self.shown.append(text + "\n")
@@ -358,4 +508,4 @@ def chosen(plain, width, has_status):
     """The terminal, where both input and output are one that can do what is wanted."""
     is_terminal = os.isatty(0) and os.isatty(1) and os.environ.get("TERM", "dumb") != "dumb"
     has_readline = importlib.util.find_spec("readline")
-    return Terminal(width, has_status) if is_terminal and has_readline and not plain else Streams()
+    return Terminal(width, has_status) if is_terminal and has_readline and not plain else Streams(width)
