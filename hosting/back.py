@@ -10,7 +10,6 @@ import os
 import zlib
 
 import common
-import kept
 
 MOST = 20
 
@@ -28,15 +27,6 @@ def path_of(folder, name, what):
     return os.path.join(folder, ".back", "%s.%s" % (name, what))
 
 
-def write(path, data):
-    """Puts a file in its place in one go; on the disk it is once sync_folder was called."""
-    with open(path + ".new", "wb") as file:
-        file.write(data)
-        file.flush()
-        os.fsync(file.fileno())
-    os.replace(path + ".new", path)
-
-
 def taken_back(folder, name):
     """How many lines of a name were taken back by now."""
     told = common.bytes_of(path_of(folder, name, "count"))
@@ -48,9 +38,7 @@ def keep(folder, name, before):
     after = common.bytes_of(common.path_of(folder, name))
     place = common.kept_in(before).lines % MOST
     path = path_of(folder, name, place)
-    with open(path + ".new", "wb") as file:
-        file.write(hashlib.sha256(after).digest() + zlib.compress(before, 1))
-    os.replace(path + ".new", path)
+    common.put(path, hashlib.sha256(after).digest() + zlib.compress(before, 1), is_synced=False)
 
 
 def copy_before(folder, name):
@@ -63,7 +51,7 @@ def copy_before(folder, name):
     if told[:32] != hashlib.sha256(now).digest():
         return None
     with contextlib.suppress(zlib.error):
-        before = zlib.decompress(told[32:])
+        before = zlib.decompressobj().decompress(told[32:], common.LENGTH)
         if common.kept_in(before).lines == lines - 1:
             return before
     return None
@@ -76,15 +64,15 @@ def go_back(folder, name):
     """
     with contextlib.ExitStack() as held:
         try:
-            held.enter_context(kept.held(common.path_of(folder, name)))
-        except (kept.Refused, OSError):  # a program plays it by itself, or there is none
+            held.enter_context(common.alone(common.path_of(folder, name)))
+        except (common.Busy, OSError):  # a program plays it by itself, or there is none
             return False
         before = copy_before(folder, name)
         if before is None:
             return False
-        write(path_of(folder, name, "count"), b"%d" % (taken_back(folder, name) + 1))
+        common.put(path_of(folder, name, "count"), b"%d" % (taken_back(folder, name) + 1))
         made = path_of(folder, name, "session")
-        write(made, before)
+        common.put(made, before)
         common.sync_folder(os.path.dirname(made))
         os.replace(made, common.path_of(folder, name))
         common.sync_folder(folder)

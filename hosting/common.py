@@ -140,12 +140,27 @@ def path_of(folder, name):
 
 
 def bytes_of(path):
-    """The bytes of a file; none where it is missing."""
+    """The bytes of a file; none where it is missing, and of one that is no session the first ones."""
     try:
         with open(path, "rb") as file:
-            return file.read()
+            return file.read(LENGTH + 1)
     except FileNotFoundError:
         return b""
+
+
+def put(path, data, is_synced=True):
+    """Puts a file in its place in one go, on the disk where it is synced. Where that fails, or is ended, nothing is left of it."""
+    try:
+        with open(path + ".new", "wb") as file:
+            file.write(data)
+            file.flush()
+            if is_synced:
+                os.fsync(file.fileno())
+        os.replace(path + ".new", path)
+    except BaseException:
+        with contextlib.suppress(FileNotFoundError):
+            os.unlink(path + ".new")
+        raise
 
 
 def kept_in(data):
@@ -220,6 +235,19 @@ def locked(folder, name, patience):
         yield file
     finally:
         os.close(file)
+
+
+@contextlib.contextmanager
+def alone(path):
+    """Keeps programs from playing a session for a while. A file system that has no locks keeps nobody away."""
+    with open(path, "rb") as file:
+        try:
+            fcntl.flock(file, fcntl.LOCK_EX | fcntl.LOCK_NB)
+        except BlockingIOError:
+            raise Busy() from None
+        except OSError:
+            pass
+        yield
 
 
 def lock_folder(folder):

@@ -3,10 +3,10 @@ import os
 import re
 import shutil
 import sys
-import tempfile
 
 import paws
 import sessions
+import signals
 import steps
 
 SAID = 54  # the system messages below are said by the program itself too
@@ -40,7 +40,7 @@ def seen(game, source, lines, seed, parts):
         found.left_out += more
         for *place, succeeded in read:
             (found.done if succeeded else found.failed).add(tuple(place))
-    with tempfile.TemporaryDirectory(dir=MEMORY) as room:
+    with signals.room(MEMORY) as room:
         found.exits = set(moves(game, source, lines, seed, os.path.join(room, "session")))
     return found
 
@@ -65,7 +65,7 @@ def goes_on(words, lines=()):
     """Whether a session goes on behind these lines; a fault that the game comes to ends it."""
     status, _, said = paws.run(words, lines)
     if said.startswith("outside failed"):
-        sys.exit(paws.refusal("no session can be played: " + said.strip()))
+        sys.exit(paws.refusal("no session can be played: " + paws.failure(words, said)))
     return not status
 
 

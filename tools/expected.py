@@ -3,9 +3,9 @@ import concurrent.futures
 import glob
 import os
 import re
-import sys
 import textwrap
 
+import output
 import paws
 
 WIDTH, BEFORE, AFTER = 68, 60, 400  # of a row of a difference; how much of what came is shown before it differs, and behind
@@ -266,7 +266,7 @@ class Played:
         self.test = test
         self.parts, status, said = paws.pieces(game.paw, game.image, test.lines, test.seed)
         self.answers = [game.answer(part) for part in self.parts]
-        self.why = ended(status, said) if status else None
+        self.why = ended([game.paw, "walk", game.image, test.seed], status, said) if status else None
         self.difference = None if status else test.difference(self.answers)
 
     @property
@@ -294,7 +294,7 @@ class Colours:
     """Colours for a terminal, and none elsewhere."""
 
     def __init__(self):
-        self.shown = sys.stdout.isatty() and "NO_COLOR" not in os.environ
+        self.shown = output.has_colours()
 
     def paint(self, text, code):
         return "\33[%sm%s\33[0m" % (code, text) if self.shown and text else text
@@ -370,7 +370,7 @@ def whole_text(paw, image, path, write=False):
             return None
     parts, status, said = paws.pieces(paw, image, lines)
     if status:
-        return ended(status, said)
+        return ended([paw, "walk", image, SEED], status, said)
     if write:
         shown = paws.transcript(parts, lines)
         with open(text, "w", encoding="latin-1", newline="") as file:
@@ -380,5 +380,5 @@ def whole_text(paw, image, path, write=False):
     return whole_difference(parts, lines, paws.text_of(text))
 
 
-def ended(status, said):
-    return "the walk ends with status %d: %s" % (status, said.strip())
+def ended(words, status, said):
+    return "the walk ends with status %d: %s" % (status, paws.failure(words, said))

@@ -6,7 +6,6 @@ import unicodedata
 
 import paws
 
-SOURCE_LIMIT = 8388608
 TEXT_LIMIT = 4095
 HEADERS = paws.HEADERS + ["/PRO"]
 # The kind of item of each section of texts, and how many there may be.
@@ -103,8 +102,8 @@ class Reading:
         self.tables_begun = set()                              # the numbers of the tables above
         self.unsure = set()                                    # kinds of which some may be missing, after an earlier fault
         self.number, self.line, self.muted, self.told_many = 0, "", False, False
-        if len(text) > SOURCE_LIMIT:
-            self.fault_of_all("the source has %s bytes, and 8,388,608 are allowed." % format(len(text), ","))
+        if len(text) > paws.SOURCE_LIMIT:
+            self.fault_of_all("the source has more than the 8,388,608 bytes that are allowed.")
             return
         self.slashes = [number for number, line in enumerate(self.lines, 1) if line.startswith("/")]
         self.name_tables()

@@ -1,15 +1,22 @@
 """What the scripts here share: the program, what it shows for lines typed, and the parts of a source."""
 import argparse
 import collections
+import errno
 import os
 import re
 import subprocess
 import sys
 
+import output
 import signals
 
 TOP = os.path.dirname(os.path.dirname(os.path.abspath(__file__)))
 REASONS = os.path.join(TOP, "tools", "reasons")
+# How many bytes a file has at most: a source, an image and a session for the program, and a file of lines for the scripts.
+SOURCE_LIMIT, IMAGE_LIMIT, SESSION_LIMIT, LINES_LIMIT = 8388608, 4194304, 172288, 8388608
+
+
+TOO_LONG = "it has more than %s bytes"
 
 
 def program(named=None):
@@ -36,7 +43,10 @@ def commands():
 def run(words, lines=()):
     """Runs the program with the words and the lines typed; gives its status, what it shows, and what it says."""
     typed = "".join(line + "\n" for line in lines)
-    done = subprocess.run(words, input=typed.encode("latin-1"), stdout=subprocess.PIPE, stderr=subprocess.PIPE)
+    try:
+        done = subprocess.run(words, input=typed.encode("latin-1"), stdout=subprocess.PIPE, stderr=subprocess.PIPE)
+    except OSError as fault:
+        raise OSError(fault.errno, "it can't run on this machine (%s)" % fault.strerror, words[0]) from fault
     return done.returncode, done.stdout.decode("latin-1"), done.stderr.decode("latin-1")
 
 
@@ -56,27 +66,42 @@ def failure(words, said):
     return said.strip() + ("\n%s." % why if why else "")
 
 
-def script(main):
+def run_script(path, *given, **streams):
+    """Runs another script, which takes the signals itself; gives its status, and what it shows where that is asked for."""
+    with signals.held():
+        child = subprocess.Popen([sys.executable, path, *given], **streams)
+    with child:
+        shown = child.communicate()[0]
+    return child.returncode, shown
+
+
+def script(main, is_filtered=True):
     """Runs a script, and ends with its status: quietly where its reader goes away or a signal ends it, with a line of words where a
-    file fails."""
-    sys.exit(signals.status_of(lambda: outcome(main)))
+    file fails. A terminal sees no control characters, unless the script draws on it."""
+    sys.exit(signals.status_of(lambda: outcome(main, is_filtered)))
 
 
-def outcome(main):
+def outcome(main, is_filtered):
     """The status of a script that no signal ends."""
     name = os.path.basename(sys.argv[0])
     try:
+        why = output.prepare(is_filtered)
+        if why:
+            return refusal("%s: %s" % (name, why))
         try:
             status = main()
         except SystemExit as end:
             status = end.code
         sys.stdout.flush()
+        return status
     except BrokenPipeError:
-        os.dup2(os.open(os.devnull, os.O_WRONLY), sys.stdout.fileno())  # what is still held back goes nowhere
-        status = 141
+        output.give_up()
+        return 141
     except OSError as fault:
-        status = refusal("%s: %s: %s" % (name, fault.filename or "the output", fault.strerror))
-    return status
+        output.give_up()
+        return refusal("%s: %s: %s" % (name, fault.filename or "the output", fault.strerror))
+    except MemoryError:
+        return refusal("%s: memory is short" % name)
 
 
 def words(told):
@@ -95,9 +120,17 @@ def refusal(why):
 def typed_lines(path):
     """The lines of a file, or those of standard input for -, as soon as each is typed. What is typed is shown again byte by byte."""
     sys.stdout.reconfigure(encoding="latin-1", errors="replace")
-    if path != "-":
-        return lines_of(path)
-    return (line.decode("latin-1").rstrip("\r\n") for line in sys.stdin.buffer)
+    return input_lines() if path == "-" else lines_of(path)
+
+
+def input_lines():
+    """The lines of standard input, as soon as each is typed."""
+    left = LINES_LIMIT
+    for line in iter(lambda: sys.stdin.buffer.readline(left + 1), b""):
+        left -= len(line)
+        if left < 0:
+            raise OSError(errno.EFBIG, TOO_LONG % format(LINES_LIMIT, ","), "the input")
+        yield line.decode("latin-1").rstrip("\r\n")
 
 
 def pieces(paw, image, lines, seed="7", command="walk"):
@@ -122,16 +155,28 @@ def transcript(parts, lines):
     return parts[0] + "".join(line + "\n" + part for line, part in zip(lines, parts[1:]))
 
 
+def beginning_of(path, most):
+    """The first bytes of a file: one more than so many, where it has more."""
+    with open(path, "rb") as file:
+        return file.read(most + 1)
+
+
+def bytes_of(path, most):
+    """The bytes of a file that a user names, of so many at most: one that has more, or has no end, is refused."""
+    data = beginning_of(path, most)
+    if len(data) > most:
+        raise OSError(errno.EFBIG, TOO_LONG % format(most, ","), path)
+    return data
+
+
 def lines_of(path):
     """The lines of a file."""
-    with open(path, encoding="latin-1", newline="") as file:
-        return file.read().replace("\r\n", "\n").splitlines()
+    return bytes_of(path, LINES_LIMIT).decode("latin-1").replace("\r\n", "\n").splitlines()
 
 
 def text_of(path):
     """The bytes of a source as text."""
-    with open(path, encoding="latin-1", newline="") as file:
-        return file.read()
+    return bytes_of(path, SOURCE_LIMIT).decode("latin-1")
 
 
 def printable(text):
@@ -463,15 +508,16 @@ def source_and_image(paw, path, room):
     """A source and its image: the one that was given, and the other made of it."""
     from_image = is_image(path)
     plain, image = os.path.join(room, "source"), os.path.join(room, "image")
+    words = [paw, "decompile", path] if from_image else [paw, "compile", plain, image]
     if from_image:
-        status, shown, said = run([paw, "decompile", path])
+        status, shown, said = run(words)
     else:
         source = Source.read_or_exit(path)
         status, shown, said = 0, source.plain, ""
     with open(plain, "w", encoding="latin-1", newline="") as file:
         file.write(shown)
     if not from_image:
-        status, shown, said = run([paw, "compile", plain, image])
+        status, shown, said = run(words)
     if status:
-        sys.exit(refusal("%s: %s" % (path, said.strip())))
+        sys.exit(refusal("%s: %s" % (path, failure(words, said))))
     return (Source.read_or_exit(plain), path) if from_image else (source, image)

@@ -1,13 +1,16 @@
 """What tools/reading and tools/pins share: games as the definitions see them, and how the reading of lines ends."""
+import ctypes
 import glob
-import os
+import queue
 import sys
 import threading
+import time
 
 import definitions
 import paws
 
 SEED = 7
+MOMENT = 0.01  # seconds between two looks at a thread that was told to end
 KINDS = ["verb", "adverb", "noun", "adjective", "preposition", "conjunction", "pronoun"]
 ROUTINES = [lambda x: 255 - x, lambda x: x // 2, lambda x: bin(x).count("1")]
 
@@ -68,22 +71,26 @@ class Reading:
 
 
 def in_depth(task):
-    """Does a task with room for deep calls, and ends with its answer."""
-    ends = []
+    """Does a task in a thread with room for deep calls, and gives its answer. A signal ends it, too."""
+    answers = queue.SimpleQueue()
 
     def done():
         try:
-            ends.append(task())
-            sys.stdout.flush()
-        except SystemExit as end:
-            ends.append(end.code)
-        except BrokenPipeError:
-            os.dup2(os.open(os.devnull, os.O_WRONLY), sys.stdout.fileno())
-            ends.append(1)
+            answers.put((task(), None))
+        except BaseException as fault:  # for the main thread, which raises it anew
+            answers.put((None, fault))
 
     sys.setrecursionlimit(200000)
     threading.stack_size(512 * 1024 * 1024)
     thread = threading.Thread(target=done)
-    thread.start()
-    thread.join()
-    sys.exit(ends[0] if ends else 1)
+    try:
+        thread.start()
+        answer, fault = answers.get()
+    except KeyboardInterrupt:
+        ctypes.pythonapi.PyThreadState_SetAsyncExc(ctypes.c_ulong(thread.ident), ctypes.py_object(SystemExit))
+        while thread.is_alive():
+            time.sleep(MOMENT)
+        raise
+    if fault:
+        raise fault
+    return answer

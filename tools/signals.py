@@ -6,7 +6,6 @@ first raises a KeyboardInterrupt with the number of the signal, wherever the scr
 import contextlib
 import signal
 import sys
-import tempfile
 
 ENDING = (signal.SIGINT, signal.SIGTERM, signal.SIGHUP)
 AGAIN = 0.01  # seconds until a signal is raised anew that came where nothing can be raised
@@ -51,6 +50,7 @@ def held():
 @contextlib.contextmanager
 def room(folder=None):
     """A folder of this run alone, in the one named or where such folders lie. It goes with the run, whatever signal comes."""
+    import tempfile  # wanted by few
     with held():
         made = tempfile.TemporaryDirectory(dir=folder)
     try:
