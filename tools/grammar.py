@@ -848,6 +848,11 @@ class Reading:
         return "\n".join(lines)
 
 
+def reading_of(path):
+    """The reading of a source in a file; of one that is too long, only as much as tells that."""
+    return Reading(paws.beginning_of(path, paws.SOURCE_LIMIT).decode("latin-1"))
+
+
 # --- What a person sees of it ----------------------------------------------------------------------------------------
 
 MOST = 20      # faults that are shown

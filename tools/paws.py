@@ -294,9 +294,9 @@ def plain_of(text):
 
 
 def plain_path(path, room):
-    """The path of the plain source: that of the source where it has no names, or else room, where it is written then."""
-    text = text_of(path)
-    plain = plain_of(text)
+    """The path of the plain source: that of the source where it has no names, or is too long, or else room, where it is written then."""
+    text = beginning_of(path, SOURCE_LIMIT).decode("latin-1")
+    plain = text if len(text) > SOURCE_LIMIT else plain_of(text)
     if plain == text:
         return path
     with open(room, "w", encoding="latin-1", newline="") as file:
