@@ -28,6 +28,16 @@ class Filtered:
         return getattr(self.stream, name)
 
 
+class Told(Filtered):
+    """Standard error: where it can't be written, what a script says is lost, and nothing else."""
+
+    def write(self, text):
+        try:
+            return super().write(text)
+        except OSError:
+            return len(text)
+
+
 def has_colours():
     """Whether colours may be shown; a terminal then gets them."""
     if not sys.stdout.isatty() or "NO_COLOR" in os.environ:
@@ -45,7 +55,7 @@ def prepare(is_filtered):
         if getattr(sys, name) is None:
             opened = os.open(os.devnull, os.O_RDWR)  # the lowest number that is free
             setattr(sys, name, open(opened, "r" if number == 0 else "w", encoding="utf-8"))
-    sys.stderr = Filtered(sys.stderr)
+    sys.stderr = Told(sys.stderr)
     if sys.stdout.isatty() and is_filtered:
         sys.stdout = Filtered(sys.stdout)
     elif sys.stdout.encoding == "utf-8":
