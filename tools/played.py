@@ -16,6 +16,7 @@ import playing
 import sessions
 
 ATTACH = "outside failed: Attach"
+OTHERS = "session is of another game", "session has other routines"
 LOOKED_AT = 4  # rows at the end, the last of which may have come to nothing
 PATIENCE = 10  # seconds for a program whose front end was killed to end
 MOST_IMAGE = 4194304  # bytes
@@ -83,7 +84,7 @@ class Played:
     def begin(self, seed, typed=()):
         """Begins a game, with lines that are played at once. One that is there is put aside: gives the name that it has now."""
         data = self.data()
-        if data and not sessions.is_made(data):
+        if data and not sessions.may_be_one(data):
             raise kept.Refused("%s is no session, and stays as it is" % self.session, 4)
         self.maker.prepare(rows.Game(self.digest, seed=seed), typed)
         self.stop()
@@ -135,7 +136,7 @@ class Played:
         try:
             text = self.resume()
         except Ended as ended:
-            if ended.status != 4 or not self.has_lines() or not self.is_ours():
+            if ended.status != 4 or not self.has_lines() or ended.said.startswith(OTHERS) or not sessions.may_be_one(self.data()):
                 raise
             aside = self.folder.aside()
             self.make_again(aside)
@@ -143,11 +144,6 @@ class Played:
             text = self.resume()
         self.find_place()
         return text
-
-    def is_ours(self):
-        """Whether a session that can't be resumed is of this game, as far as it tells."""
-        data = self.data()
-        return sessions.is_made(data) and sessions.game_of(data) == self.digest or sessions.was_cut_off(data)
 
     def make_again(self, aside=None):
         """Makes the session of the lines: of all of them, or without the last one where its turn is too long."""

@@ -18,6 +18,11 @@ def is_made(data):
     return len(data) == LENGTH and data[0] == MARK
 
 
+def may_be_one(data):
+    """Whether these may be the bytes of a session, be it damaged or cut off; no text and no image begins so."""
+    return was_cut_off(data) or data[:1] == bytes([MARK]) and data[2:3] in (b"\1", b"\2", b"\0")
+
+
 def was_cut_off(data):
     """Whether these may be the bytes of a session whose making was cut off: nothing of it was ever shown."""
     return 0 < len(data) <= LENGTH and data[0] == 0
