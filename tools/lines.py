@@ -136,8 +136,8 @@ class Lines:
     # --- writing
 
     def add(self, *rows):
-        """Adds rows, each a kind and its text, and has them on the disk; where that fails they wait, and the next ones take them along.
-        Gives whether all are there."""
+        """Adds rows, each a kind and its text, and has them on the disk; where that fails they wait, and the next ones take them
+        along. Gives whether all are there."""
         for kind, rest in rows:
             row = b"%d %s %s" % (len(self.places) + 1, kind.encode(), rest)
             self.take(kind, rest)

@@ -26,7 +26,8 @@ class Older:
         with open(self.folder.image, "rb") as file:
             image = file.read(rows.MOST)
         if hashlib.sha256(image).hexdigest() == self.digest:
-            yield from making.Maker(self.program, self.folder.image, self.digest, self.folder).texts(self.place.game, self.place.lines())
+            maker = making.Maker(self.program, self.folder.image, self.digest, self.folder)
+            yield from maker.texts(self.place.game, self.place.lines())
 
 
 def remembered(folder, image):
@@ -51,8 +52,8 @@ def first_difference(before, now):
     with contextlib.suppress(kept.Refused, OSError):
         for number, ((line, old), (_, new)) in enumerate(zip(before, now)):
             if old != new:
-                asked = 'The answer to line %d, "%s", was' % (number, rows.written(line).decode()) if number else "The first text was"
-                return '%s\n  %s\nand is now\n  %s' % (asked, shortened(old, new), shortened(new, old))
+                asked = 'The answer to line %d, "%s",' % (number, rows.written(line).decode()) if number else "The first text"
+                return "%s was\n  %s\nand is now\n  %s" % (asked, shortened(old, new), shortened(new, old))
     return None
 
 
