@@ -59,7 +59,7 @@ def first_difference(before, now):
 
 def shortened(text, other):
     """The part of a text where it begins to differ from another, in one line."""
-    text, other = " ".join(text.split()), " ".join(other.split())
+    text, other = (" ".join((one.rpartition("\n")[0] or one).split()) for one in (text, other))  # without the prompt
     same = len(os.path.commonprefix([text, other]))
     begin = 0 if same < SHOWN // 2 else text.rfind(" ", 0, same - SHOWN // 3) + 1
     part = text[begin:begin + SHOWN]
