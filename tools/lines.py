@@ -12,6 +12,7 @@ MOST = 100_000_000  # bytes
 LONGEST = 255  # bytes of a line that count
 NAME = re.compile(r"[A-Za-z0-9_-]{1,40}")
 ROW = re.compile(rb"(\d{1,10}) ([0-9a-f]{8}) (\w+) ([ -~]*)")
+BACK = "back"  # the name of the place that was left last by another row than a line
 TEXT = re.compile(rb"(?:[ -\[\]-~]|\\x[0-9a-f]{2})*")
 
 
@@ -127,10 +128,12 @@ class Lines:
             now = Place(now.game, now, read(rest))
         elif kind == "back" and 0 < int(rest) < row:
             now = self.places[int(rest) - 1]
-        elif kind == "save" and now and NAME.fullmatch(words[0]) and len(words) == 1:
+        elif kind == "save" and now and NAME.fullmatch(words[0]) and words[0] != BACK and len(words) == 1:
             self.names[words[0]] = now
         else:
             raise Damaged
+        if kind in ("game", "base", "back") and self.now:
+            self.names[BACK] = self.now
         self.places.append(now)
 
     # --- writing

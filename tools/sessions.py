@@ -20,7 +20,7 @@ def is_made(data):
 
 def may_be_one(data):
     """Whether these may be the bytes of a session, be it damaged or cut off; no text and no image begins so."""
-    return was_cut_off(data) or data[:1] == bytes([MARK]) and data[2:3] in (b"\1", b"\2", b"\0")
+    return was_cut_off(data) or is_made(data) or data[:1] == bytes([MARK]) and data[2:3] in (b"\0", b"\1", b"\2")
 
 
 def was_cut_off(data):
