@@ -74,9 +74,11 @@ def write_synced(path, data):
             file.write(data)
             file.flush()
             os.fsync(file.fileno())
-    except BaseException:
+    except BaseException as fault:
         with contextlib.suppress(OSError):
             os.remove(path)
+        if isinstance(fault, OSError):
+            raise OSError(fault.errno, fault.strerror, path) from fault
         raise
 
 

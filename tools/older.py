@@ -37,7 +37,7 @@ def remembered(folder, image):
 
 def remember(folder, image, digest):
     """Remembers which image of this path was played last; a file without a name of its own is not remembered."""
-    if not os.path.realpath(image).startswith("/proc/"):
+    if not os.path.realpath(image).startswith("/proc/") and remembered(folder, image) != digest:
         with contextlib.suppress(OSError):
             os.makedirs(os.path.dirname(path_of(folder, image)), mode=0o700, exist_ok=True)
             kept.write_whole(path_of(folder, image), digest.encode())

@@ -1,8 +1,8 @@
 """A game in play: its image, a seed and the lines typed, and beside them the session that the program keeps.
 
-Each row of the lines is on the disk before the session is changed. So behind whatever was stopped the session is at the last row, or
-at the one before it, which is then taken back by a row. A session that is elsewhere was played by the program alone: the lines begin
-anew there. A session that is gone or damaged is made again of the lines.
+Each row of the lines is on the disk before the session is changed. So behind whatever was stopped the session is at the last row,
+or at the one before it; then a row takes the last one back. A session that is elsewhere was played by the program alone: the lines
+begin anew there. A session that is gone or damaged is made again of the lines.
 """
 import contextlib
 import hashlib
@@ -60,7 +60,8 @@ class Played:
         os.link(self.lines.path, aside)
         kept.write_whole(self.lines.path, good)
         self.lines.is_damaged = False
-        self.notes.append("The lines of this game are damaged from row %d on, and lie in %s now." % (len(self.lines.places) + 1, aside))
+        row = len(self.lines.places) + 1
+        self.notes.append("The lines of this game are damaged from row %d on, and lie in %s now." % (row, aside))
 
     def data(self):
         """The bytes of the session; none where there is none."""
@@ -95,7 +96,7 @@ class Played:
         else:
             aside = None
             self.lines.add(*told)
-            self.put_in_place()
+            self.put_in_place(is_new=True)
         self.keep_image()
         return aside and aside.session
 
@@ -112,11 +113,13 @@ class Played:
                 self.lines.add(("back", b"%d" % stood))
             raise
 
-    def put_in_place(self, aside=None):
+    def put_in_place(self, aside=None, is_new=False):
         """Makes the file that was prepared the session, while no program plays the one that is there, which may be put aside."""
         with contextlib.ExitStack() as held:
             if os.path.exists(self.session):
                 held.enter_context(kept.held(self.session))
+                if is_new and os.path.getsize(self.session):
+                    raise kept.Refused("another program has just begun a game in %s" % self.session)
             if aside:
                 os.rename(self.session, aside.session)
             os.replace(self.folder.made, self.session)
@@ -143,6 +146,7 @@ class Played:
             self.notes.append("What was kept is damaged, and lies in %s now. It was made again of the lines typed." % aside.session)
             text = self.resume()
         self.find_place()
+        self.keep_image()
         return text
 
     def make_again(self, aside=None):
