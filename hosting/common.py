@@ -17,6 +17,7 @@ import zlib
 
 TOP = os.path.dirname(os.path.dirname(os.path.abspath(__file__)))
 sys.path.insert(0, os.path.join(TOP, "tools"))
+import letters  # noqa: E402
 import sessions  # noqa: E402
 
 LONGEST_NAME, LONGEST_LINE = 16, 200    # letters; a line counts with its first 255 bytes, the name and a space among them
@@ -24,7 +25,6 @@ LONGEST_REPLY = 131200                  # bytes: a name, two pieces and what sta
 LENGTH, MARK = sessions.SLOTS + 2 * sessions.SLOT, 80
 OVER = 4                                # the prompt of a session whose game is over
 SLOWEST = 30                            # seconds in which a line has to be answered
-WIDTH = 72                              # columns: the narrowest that authors break their texts to
 
 
 # --- The programs --------------------------------------------------------------------------------------------------
@@ -117,11 +117,8 @@ def new_name():
 
 def plain_line(typed):
     """The bytes of a typed line, in the letters that games know; None where it is too long or holds a control character."""
-    typed = typed.replace("\u2019", "'").replace("\u2018", "'").replace("\u201c", '"').replace("\u201d", '"')
-    plain = "".join(char for char in unicodedata.normalize("NFKD", typed) if not unicodedata.combining(char))
-    if len(plain) > LONGEST_LINE or any(unicodedata.category(char) == "Cc" for char in plain):
-        return None
-    return bytes(ord(char) if " " <= char <= "~" else ord("?") for char in plain)
+    plain = letters.plain(typed)
+    return None if len(plain) > LONGEST_LINE or any(unicodedata.category(char) == "Cc" for char in typed) else plain
 
 
 def partition_of(name, partitions):
@@ -320,15 +317,3 @@ def meaning(body):
             "spent": "The game can't answer that: its answer would be too long. It stands where it was.",
             "too deep": "The game can't answer that: its tables call each other too deep. It stands where it was.",
             "refused": "What was kept of this game can't be read. Tell the host: nothing of it was changed."}.get(body, body)
-
-
-def flowing(text):
-    """The text without the line ends that only break a paragraph to the width of a screen: where the next word wouldn't have fitted."""
-    rows = []
-    for row in text.split("\n"):
-        word = row.split(" ")[0]
-        if rows and word and rows[-1][1] and rows[-1][1] + 1 + len(word) > WIDTH:
-            rows[-1] = (rows[-1][0] + " " + row, len(row))
-        else:
-            rows.append((row, len(row)))
-    return "\n".join(row for row, _ in rows)
