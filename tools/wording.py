@@ -7,7 +7,7 @@ import re
 
 import paws
 
-WIDTH = 79  # columns of a line; one is left free for terminals that break a line that fills them
+LONG = 60  # letters: a row of a verse, a list or a table is shorter
 # What stands before a noun, and what is never part of one.
 BEFORE = set("A AN THE THIS THESE THOSE SOME YOUR HIS HER ITS THEIR OUR MY ANOTHER EACH EVERY".split())
 NEVER = BEFORE | set("""
@@ -85,7 +85,7 @@ class Wording:
         self.whole = {token for _, row in self.shown for token in tokens(row)}
 
     def all(self):
-        for check in (self.own_names, self.parts, self.nouns, self.widths, self.joined, self.behind, self.letters):
+        for check in (self.own_names, self.parts, self.nouns, self.broken, self.behind, self.letters):
             check()
         return self.rows
 
@@ -223,30 +223,16 @@ class Wording:
 
     # --- lines
 
-    def widths(self):
+    def broken(self):
+        """Paragraphs that were broken by hand: a row as long as a window, and behind it one that begins in the middle of a sentence."""
         for name, what in (("/STX", "system message"), ("/MTX", "message"), ("/OTX", "the text of object"),
                            ("/LTX", "the text of location")):
             for item in self.source.texts[name]:
-                for line, row in zip(item.lines, item.rows):
-                    if len(row) > WIDTH:
-                        self.warn(line, "too wide", "a line of %s %d has %d columns" % (what, item.number, len(row)))
-
-    def joined(self):
-        """Lines that an entry makes of several texts."""
-        for _, entry in self.entries:
-            column = 0
-            for step in entry.steps:
-                texts = self.source.texts["/STX" if step.name == "SYSMESS" else "/MTX"]
-                if step.name in ("MES", "MESSAGE", "SYSMESS") and step.flag is None and step.values[0] < len(texts):
-                    rows = texts[step.values[0]].text.split("\n")
-                    if column and column + len(rows[0]) > WIDTH:
-                        self.warn(step.line, "too wide", "the line that %s %d ends here has %d columns"
-                                  % (step.name, step.values[0], column + len(rows[0])))
-                    column = 0 if step.name == "MESSAGE" else len(rows[-1]) + (column if len(rows) == 1 else 0)
-                elif step.name == "PRINT":
-                    column += 3
-                elif step.acts:
-                    column = 0
+                for line, row, below in zip(item.lines, item.rows, item.rows[1:]):
+                    if len(row) >= LONG and below[:1].islower():
+                        self.warn(line, "broken", "a paragraph of %s %d has a line end before '%s'"
+                                  % (what, item.number, below.split(" ")[0]))
+                        break
 
     # --- entries and words
 
