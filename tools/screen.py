@@ -9,6 +9,7 @@ import signal
 import sys
 import termios
 
+import escape
 import letters
 import marks
 import wrapping
@@ -144,6 +145,7 @@ class Terminal:
         readline.set_completer(self.asked_to_draw)
         for key in KEYS + (DRAWING if self.has_escapes else ['"\\C-l": redraw-current-line']):
             readline.parse_and_bind(key)
+        self.escape = escape.Escape(readline, "kill-whole-line")
         readline.set_auto_history(False)
         readline.set_history_length(HISTORY)
         return readline
@@ -232,6 +234,7 @@ class Terminal:
         readline.set_completer(self.asked_to_draw)
         for key in KEYS + (DRAWING if self.has_escapes else ['"\\C-l": redraw-current-line']):
             readline.parse_and_bind(key)
+        self.escape = escape.Escape(readline, "kill-whole-line")
         readline.set_auto_history(False)
         readline.set_history_length(HISTORY)
         return readline
@@ -450,6 +453,7 @@ class Terminal:
                 self.typing = True
                 self.take_keys(True)
                 text = input(COLOUR.sub("\001\\g<0>\002", self.painted_prompt))
+                self.escape.raise_again()
             except EOFError:
                 return None
             except WentOn as again:
