@@ -6,6 +6,7 @@ import os
 import re
 import subprocess
 import sys
+import traceback
 
 import output
 import signals
@@ -16,6 +17,7 @@ REASONS = os.path.join(TOP, "tools", "reasons")
 SOURCE_LIMIT, IMAGE_LIMIT, SESSION_LIMIT, LINES_LIMIT = 8388608, 4194304, 172288, 8388608
 
 
+FAULTY = 70  # the status of a script that has a fault of its own
 TOO_LONG = "it has more than %s bytes"
 
 
@@ -67,11 +69,16 @@ def failure(words, said):
 
 
 def run_script(path, *given, **streams):
-    """Runs another script, which takes the signals itself; gives its status, and what it shows where that is asked for."""
+    """Runs another script, which takes the signals itself, and ends before this one; gives its status, and what it shows where that
+    is asked for."""
     with signals.held():
         child = subprocess.Popen([sys.executable, path, *given], **streams)
-    with child:
+    try:
         shown = child.communicate()[0]
+    except KeyboardInterrupt as stopped:
+        child.send_signal(stopped.args[0])
+        child.wait()
+        raise
     return child.returncode, shown
 
 
@@ -102,6 +109,16 @@ def outcome(main, is_filtered):
         return refusal("%s: %s: %s" % (name, fault.filename or "the output", fault.strerror))
     except MemoryError:
         return refusal("%s: memory is short" % name)
+    except ModuleNotFoundError as fault:
+        return refusal("%s wants the module %s, which isn't here; Debian has it as python3-%s" % (name, fault.name, fault.name))
+    except subprocess.SubprocessError as fault:
+        return refusal("%s: %s" % (name, fault))
+    except Exception as fault:
+        if sys.flags.dev_mode:
+            raise
+        place = traceback.extract_tb(fault.__traceback__)[-1]
+        return refusal("%s has a fault of its own, in line %d of %s: %s: %s (PYTHONDEVMODE=1 shows more)" %
+                       (name, place.lineno, os.path.basename(place.filename), type(fault).__name__, fault)) and FAULTY
 
 
 def words(told):
