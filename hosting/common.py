@@ -17,7 +17,7 @@ import zlib
 
 TOP = os.path.dirname(os.path.dirname(os.path.abspath(__file__)))
 sys.path.insert(0, os.path.join(TOP, "tools"))
-import letters  # noqa: E402
+import paws  # noqa: E402
 import sessions  # noqa: E402
 
 LONGEST_NAME, LONGEST_LINE = 16, 200    # letters; a line counts with its first 255 bytes, the name and a space among them
@@ -100,8 +100,12 @@ class Host:
 
 def why_not(image, seed):
     """Why pawhost can't play an image with a seed, in words; None where it can."""
-    status = subprocess.run([program("pawhost"), image, str(seed)], stdin=subprocess.DEVNULL, stdout=subprocess.DEVNULL).returncode
-    return None if status == 0 else "pawhost can't play %s with the seed %s: status %d" % (image, seed, status)
+    done = subprocess.run([program("pawhost"), image, str(seed)], stdin=subprocess.DEVNULL, stdout=subprocess.DEVNULL)
+    if not done.returncode:
+        return None
+    told = "pawhost can't play %s with the seed %s: status %d" % (image, seed, done.returncode)
+    why = paws.reason([program("pawhost"), "walk", image], "outside failed: Load")
+    return told + (": " + why if why else "")
 
 
 # --- Names and lines -----------------------------------------------------------------------------------------------
