@@ -5,7 +5,8 @@ import sys
 who, other = sys.argv[1:3]
 del sys.argv[:3]
 if sys.version_info < (3, 9):
-    sys.stderr.write("%s wants Python 3.9 or later, and python3 is Python %d.%d here.%s\n" % ((who,) + sys.version_info[:2] + (other,)))
+    told = (who,) + tuple(sys.version_info[:2]) + (other,)
+    sys.stderr.write("%s wants Python 3.9 or later, and python3 is Python %d.%d here.%s\n" % told)
     sys.exit(126)
 if sys.argv:
     __file__ = sys.argv[0]

@@ -15,8 +15,6 @@ TOP = os.path.dirname(os.path.dirname(os.path.abspath(__file__)))
 REASONS = os.path.join(TOP, "tools", "reasons")
 # How many bytes a file has at most: a source, an image and a session for the program, and a file of lines for the scripts.
 SOURCE_LIMIT, IMAGE_LIMIT, SESSION_LIMIT, LINES_LIMIT = 8388608, 4194304, 172288, 8388608
-
-
 FAULTY = 70  # the status of a script that has a fault of its own
 TOO_LONG = "it has more than %s bytes"
 
@@ -117,8 +115,9 @@ def outcome(main, is_filtered):
         if sys.flags.dev_mode:
             raise
         place = traceback.extract_tb(fault.__traceback__)[-1]
-        return refusal("%s has a fault of its own, in line %d of %s: %s: %s (PYTHONDEVMODE=1 shows more)" %
-                       (name, place.lineno, os.path.basename(place.filename), type(fault).__name__, fault)) and FAULTY
+        refusal("%s has a fault of its own, in line %d of %s: %s: %s (PYTHONDEVMODE=1 shows more)" %
+                (name, place.lineno, os.path.basename(place.filename), type(fault).__name__, fault))
+        return FAULTY
 
 
 def words(told):
@@ -311,7 +310,7 @@ def plain_of(text):
 
 
 def plain_path(path, room):
-    """The path of the plain source: that of the source where it has no names, or is too long, or else room, where it is written then."""
+    """The path of the plain source: that of the source where it has no names, or is too long; or else room, where it is written."""
     text = beginning_of(path, SOURCE_LIMIT).decode("latin-1")
     plain = text if len(text) > SOURCE_LIMIT else plain_of(text)
     if plain == text:
