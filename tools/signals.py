@@ -4,6 +4,7 @@ tools/begin starts a script with Ctrl-C held back; paws.script takes the signals
 first raises a KeyboardInterrupt with the number of the signal, wherever the script is; later ones do nothing, so that it can end.
 """
 import contextlib
+import os
 import signal
 import sys
 
@@ -52,7 +53,11 @@ def room(folder=None):
     """A folder of this run alone, in the one named or where such folders lie. It goes with the run, whatever signal comes."""
     import tempfile  # wanted by few
     with held():
-        made = tempfile.TemporaryDirectory(dir=folder)
+        try:
+            made = tempfile.TemporaryDirectory(dir=folder)
+        except OSError as fault:
+            where = folder or os.environ.get("TMPDIR", "/tmp")
+            raise OSError(fault.errno, "no temporary folder can be made there", where) from fault
     try:
         yield made.name
     finally:
