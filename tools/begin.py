@@ -11,6 +11,9 @@ if sys.version_info < (3, 9):
 if sys.argv:
     __file__ = sys.argv[0]
     sys.path[0] = os.path.dirname(os.path.realpath(__file__))
-    with open(__file__, "rb") as script:
-        code = compile(script.read(), __file__, "exec")
+    try:
+        with open(__file__, "rb") as script:
+            code = compile(script.read(), __file__, "exec")
+    except (IOError, OSError) as fault:
+        sys.exit("%s: %s" % (__file__, fault.strerror))
     exec(code)

@@ -56,10 +56,10 @@ def prepare(is_filtered):
             opened = os.open(os.devnull, os.O_RDWR)  # the lowest number that is free
             setattr(sys, name, open(opened, "r" if number == 0 else "w", encoding="utf-8"))
     sys.stderr = Told(sys.stderr)
+    is_exact = sys.stdout.encoding == "utf-8" and not sys.stdout.isatty()
+    sys.stdout.reconfigure(errors="surrogateescape" if is_exact else "backslashreplace")
     if sys.stdout.isatty() and is_filtered:
         sys.stdout = Filtered(sys.stdout)
-    elif sys.stdout.encoding == "utf-8":
-        sys.stdout.reconfigure(errors="surrogateescape")
     return "the output is closed" if is_closed else None
 
 
