@@ -15,11 +15,20 @@ class Older:
 
     def __init__(self, program, session, digest):
         self.program, self.session, self.digest, self.folder = program, session, digest, kept.Folder(session)
-        self.place = rows.Lines(self.folder.lines).read().now
+        lines = rows.Lines(self.folder.lines).read()
+        self.place, self.names = lines.now, lines.names
 
     def can_be_played(self):
         """Whether its lines are known from the beginning on."""
         return bool(self.place) and self.place.game.digest == self.digest and not self.place.game.base
+
+    def named(self):
+        """The names of places that the lines lead through, by how many lines lead there."""
+        found, place = {}, self.place
+        while place:
+            found[place.count] = [name for name, named in self.names.items() if named is place and name != rows.BACK]
+            place = place.before
+        return found
 
     def texts(self):
         """Its texts, where the image that it was played with is still there."""

@@ -82,14 +82,18 @@ class Played:
             data = b""
         return bool(data) or self.has_lines()
 
-    def begin(self, seed, typed=()):
-        """Begins a game, with lines that are played at once. One that is there is put aside: gives the name that it has now."""
+    def begin(self, seed, typed=(), named=None):
+        """Begins a game, with lines that are played at once, and names of places by how many of these lead there. One that is there is
+        put aside: gives the name that it has now."""
         data = self.data()
         if data and not sessions.may_be_one(data):
             raise kept.Refused("%s is no session, and stays as it is" % self.session, 4)
         self.maker.prepare(rows.Game(self.digest, seed=seed), typed)
         self.stop()
-        told = [("game", b"%s %d" % (self.digest.encode(), seed))] + [("line", rows.written(line)) for line in typed]
+        told = [("game", b"%s %d" % (self.digest.encode(), seed))]
+        for count in range(len(typed) + 1):
+            told += [("line", rows.written(typed[count - 1]))] if count else []
+            told += [("save", name.encode()) for name in (named or {}).get(count, [])]
         if data:
             aside = self.folder.copied_aside(rows.MOST)
             self.move(told, aside)
