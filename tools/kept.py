@@ -135,7 +135,9 @@ class Folder:
     def sit_down(self):
         """Keeps other seats from this session as long as this one runs, however it ends."""
         with contextlib.suppress(OSError):
-            os.makedirs(self.folder, mode=0o700, exist_ok=True)
+            if not os.path.isdir(self.folder):
+                os.makedirs(self.folder, mode=0o700, exist_ok=True)
+                sync_folder(os.path.dirname(self.folder))
             self.seat = open(self.path("seat"), "ab")
             try:
                 fcntl.flock(self.seat, fcntl.LOCK_EX | fcntl.LOCK_NB)

@@ -7,6 +7,7 @@ begin anew there. A session that is gone or damaged is made again of the lines.
 import contextlib
 import hashlib
 import os
+import shutil
 import time
 
 import kept
@@ -38,7 +39,7 @@ class Played:
         self.folder = kept.Folder(session)
         self.lines = rows.Lines(self.folder.lines)
         self.maker = making.Maker(program, path, digest, self.folder)
-        self.playing, self.notes, self.is_told = None, [], False
+        self.playing, self.notes = None, []
 
     # --- beginning and going on
 
@@ -56,9 +57,9 @@ class Played:
         while os.path.lexists("%s.%d" % (self.lines.path, number)):
             number += 1
         aside = "%s.%d" % (self.lines.path, number)
-        good = kept.content(self.lines.path, rows.MOST)[:self.lines.length]
-        os.link(self.lines.path, aside)
-        kept.write_whole(self.lines.path, good)
+        whole = kept.content(self.lines.path, rows.MOST)
+        kept.write_synced(aside, whole)
+        kept.write_whole(self.lines.path, whole[:self.lines.length])
         self.lines.is_damaged = False
         row = len(self.lines.places) + 1
         self.notes.append("The lines of this game are damaged from row %d on, and lie in %s now." % (row, aside))
@@ -113,6 +114,8 @@ class Played:
             self.put_in_place(aside)
         except (kept.Refused, OSError):
             self.maker.drop()
+            if aside:
+                shutil.rmtree(aside.folder, ignore_errors=True)
             if 0 < stood < len(self.lines.places):
                 self.lines.add(("back", b"%d" % stood))
             raise
@@ -188,8 +191,12 @@ class Played:
                 if row < last:
                     self.lines.add(("back", b"%d" % row))
                 return
+        state = sessions.state_of(data)
+        if not state.lines and self.maker.is_at(rows.Place(rows.Game(self.digest, seed=state.seed)), data):
+            self.lines.add(("game", b"%s %d" % (self.digest.encode(), state.seed)))
+            return
         self.begin_here(data)
-        if last or sessions.state_of(data).lines:
+        if last or state.lines:
             self.notes.append("What was typed up to here isn't kept as lines: /undo reaches back to here.")
 
     def begin_here(self, data):
