@@ -1,86 +1,66 @@
-// A request, done over a stage in memory.
+// A request, answered.
 
-use crate::reply::reply_of;
-use crate::request::{NoAnswer, PageFile, Request};
+ghost use Rattle.std.specs.Prelude.{◌≡◌, IsFalse, IfErr, IfOk, IfSome};
+ghost use Rattle.paw_top.specs.Completes.{IsUnhindered};
+ghost use Rattle.paw_page.specs.Answers.{IsReply};
+ghost use Rattle.paw_page.specs.Request.{IsRequest, PageRequest};
+ghost use Rattle.paw_page.specs.declared.request.NoAnswer.TheVariants as no_answer;
+ghost use Rattle.paw_page.specs.inner.Read.{asked_by};
+
 use crate::reading::read_request;
+use crate::reply::reply_of;
+use crate::request::{NoAnswer, Request};
+use crate::stage::{file_left, stage_of};
 use paw_base::fault::NoRoom;
-use paw_base::lists::Rows;
 use paw_routines::program::{ROUTINES, give};
 use paw_routines::routines::Routines;
-use paw_stage::{LoadRefusal, MemoryStage, Stage, StageCall};
+use paw_stage::StageCall;
 use paw_top::outcome::Outcome;
 use paw_top::top::paw;
 use std::alloc::Global;
 
-// Puts the files of a request on a stage.
-fn add_files(stage: &mut MemoryStage, files: &[PageFile]) -> Result<(), NoRoom> {
-    for file in files {
-        stage.add_file(file.name.as_str(), file.bytes.rows.as_slice())?;
-    }
-    Ok(())
-}
-
-// Puts the lines of a request on a stage.
-fn add_lines(alloc: Global, stage: &mut MemoryStage, lines: &[Rows<u8>]) -> Result<(), NoRoom> {
-    for line in lines {
-        stage.add_line(alloc, line.rows.as_slice())?;
-    }
-    Ok(())
-}
-
-// A stage with the files and the lines of a request, and with spare room for these numbers of calls and bytes.
-fn stage_of(alloc: Global, request: &Request, calls: u64, bytes: u64) -> Result<MemoryStage, NoRoom> {
-    let mut stage = MemoryStage::new(alloc, calls, bytes)?;
-    add_files(&mut stage, request.files.as_slice())?;
-    add_lines(alloc, &mut stage, request.lines.as_slice())?;
-    Ok(stage)
-}
-
 // Whether a call of the stage failed; a load that finds no file doesn't count.
-fn has_failed(outcome: Outcome) -> bool {
+fn has_failed(outcome: Outcome) -> bool
+    ensures unhindered { IsFalse result → IsUnhindered outcome }
+{
     match outcome {
-        Outcome::Outside(call) => call != StageCall::LoadAbsent,
+        Outcome::Outside(StageCall::LoadAbsent) => false,
+        Outcome::Outside(_) => true,
         _ => false,
     }
 }
 
-// The file that the third word names, where there is one. None where the stage has no room for another call.
-fn file_left(
-    alloc: Global,
-    stage: &mut MemoryStage,
-    words: &[String],
-) -> Result<Option<Option<Vec<u8>>>, NoRoom> {
-    let Some(name) = words.get(2) else {
-        return Ok(Some(None));
-    };
-    match stage.load(alloc, name.as_str(), usize::MAX) {
-        Ok(bytes) => Ok(Some(Some(bytes))),
-        Err(LoadRefusal::Absent) => Ok(Some(None)),
-        Err(LoadRefusal::Failed) => Ok(None),
-        Err(LoadRefusal::Memory) => Err(NoRoom),
-    }
-}
-
 // The reply to a request, done with this spare room; None where that is too little.
-fn attempt(alloc: Global, request: &Request, calls: u64, bytes: u64) -> Result<Option<Vec<u8>>, NoRoom> {
-    let mut stage = stage_of(alloc, request, calls, bytes)?;
+fn attempt(
+    alloc: Global,
+    request: &Request,
+    calls: u64,
+    bytes: u64,
+) -> Result<Option<Vec<u8>>, NoRoom>
+    ensures reply { IfOk result (λ r. IfSome r (λ v. IsReply (asked_by request.now) v.items)) }
+{
+    let mut stage = match stage_of(alloc, request, calls, bytes) {
+        Ok(stage) => stage,
+        Err(e) => return Err(e),
+    };
     let routines = Routines::new(ROUTINES, give);
     let outcome = paw(alloc, &mut stage, &routines, request.words.as_slice());
     if has_failed(outcome) {
         return Ok(None);
     }
-    let Some(left) = file_left(alloc, &mut stage, request.words.as_slice())? else {
-        return Ok(None);
+    let left = match file_left(alloc, &mut stage, request.words.as_slice()) {
+        Ok(Some(left)) => left,
+        Ok(None) => return Ok(None),
+        Err(e) => return Err(e),
     };
-    let left = match &left {
-        None => None,
-        Some(bytes) => Some(bytes.as_slice()),
-    };
-    let reply = reply_of(alloc, outcome, stage.shown(), left)?;
-    Ok(Some(reply))
+    match reply_of(alloc, outcome, stage.shown(), &left) {
+        Ok(reply) => Ok(Some(reply)),
+        Err(e) => Err(e),
+    }
 }
 
-// The room that is tried first: some for each line, and some for a game.
+// The spare room that is tried first: some for a game, and some for each line. Each time that it is too little, it is
+// four times as much.
 const CALLS: u64 = 256;
 
 const CALLS_OF_LINE: u64 = 16;
@@ -89,20 +69,28 @@ const BYTES: u64 = 0x4_0000;
 
 const BYTES_OF_LINE: u64 = 1024;
 
-/// The reply to these bytes.
-pub fn answer(alloc: Global, bytes: &[u8]) -> Result<Vec<u8>, NoAnswer> {
-    let request = read_request(alloc, bytes)?;
+const MOST_ATTEMPTS: u64 = 32;
+
+/// The reply to the request that these bytes are.
+pub fn answer(alloc: Global, bytes: &[u8]) -> Result<Vec<u8>, NoAnswer>
+    ensures replied { IfOk result (λ v. (r : PageRequest) × IsRequest r bytes.now × IsReply r v.items) }
+    ensures none { IfErr result (λ e. e ≡ no_answer.NoRequest → (r : PageRequest) → ¬ (IsRequest r bytes.now)) }
+{
+    let request = match read_request(alloc, bytes) {
+        Ok(request) => request,
+        Err(e) => return Err(e),
+    };
     let lines = request.lines.len() as u64;
     let mut calls = lines.saturating_mul(CALLS_OF_LINE).saturating_add(CALLS);
-    let mut bytes = lines.saturating_mul(BYTES_OF_LINE).saturating_add(BYTES);
-    for _ in 0..64 {
-        match attempt(alloc, &request, calls, bytes) {
+    let mut room = lines.saturating_mul(BYTES_OF_LINE).saturating_add(BYTES);
+    for _attempt in 0..MOST_ATTEMPTS {
+        match attempt(alloc, &request, calls, room) {
             Ok(Some(reply)) => return Ok(reply),
             Ok(None) => {}
             Err(_) => return Err(NoAnswer::Memory),
         }
         calls = calls.saturating_mul(4);
-        bytes = bytes.saturating_mul(4);
+        room = room.saturating_mul(4);
     }
     Err(NoAnswer::Memory)
 }

@@ -6,3 +6,4 @@ mod export;
 mod reading;
 mod reply;
 mod request;
+mod stage;

@@ -1,0 +1,5 @@
+pub mod Request
+pub mod Stands
+pub mod Reply
+pub mod Answers
+pub mod inner
