@@ -3,6 +3,8 @@ pub mod EachCondact
 pub mod LeavesLoop
 pub mod Rules
 pub mod Onward
+pub mod Induction
+pub mod RunInduction
 pub mod Stops
 pub mod Extends
 pub mod Longer
