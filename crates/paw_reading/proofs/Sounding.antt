@@ -1,18 +1,15 @@
 -- What stays true through a reading: of the world, the line, the text and the lines to come.
-use Rattle.std.proofs.Common.{◌≡◌, ℕ, zero, suc, ◌+◌, ◌-◌, ◌*◌, ◌<◌, ◌≤◌, ◌/◌, ◌%◌, Bool, true, false, ◌||◌, List, []}
+use Rattle.std.proofs.Common.{◌≡◌, ℕ, zero, suc, ◌+◌, ◌-◌, ◌*◌, ◌<◌, ◌≤◌, ◌/◌, ◌%◌, Bool, true, false, List, []}
 use Rattle.std.proofs.Common.{◌∷◌, Option, Some}
-use Rattle.std.proofs.Common.{None, refl, length, drop, min, IsTrue, arith, length-append}
-use Rattle.std.specs.Prelude.{if◌then◌else◌, nat_lt, nat_le, All}
-use Rattle.std.specs.List.{list_all}
+use Rattle.std.proofs.Common.{None, refl, length, min, arith, length-append}
+use Rattle.std.specs.Prelude.{if◌then◌else◌, All}
 use Rattle.std.proofs.Math.Nat.{min-le_left}
-use Rattle.std.proofs.lemmas.Bool.{ltb-true, leb-true}
+use Rattle.std.proofs.lemmas.Bool.{leb-true}
 use Rattle.std.proofs.lemmas.List.Elements.{All-append}
 use Rattle.paw_base.specs.Bytes.{Bytes, Line, Lines, Text, Seed}
-use Rattle.paw_base.specs.declared.limits.TheConstants.{READ_LIMIT, ENTRY_LIMIT, PIECE_LIMIT, CONDACT_LIMIT}
-use Rattle.paw_base.specs.declared.limits.TheConstants.{LEVEL_LIMIT}
+use Rattle.paw_base.specs.declared.limits.TheConstants.{READ_LIMIT, PIECE_LIMIT}
 use Rattle.paw_base.specs.declared.parts.Condact.{Condact}
 use Rattle.paw_base.specs.declared.parts.ObjectFacts.{ObjectFacts}
-use Rattle.paw_base.specs.declared.fault.SpentKind.TheVariants as spent
 use Rattle.paw_base.specs.declared.flags.TheConstants.{TIMED_OUT_FLAG, PRONOUN_NOUN_FLAG, PRONOUN_ADJECTIVE_FLAG}
 use Rattle.paw_base.specs.declared.flags.TheConstants.{NOUN_FLAG, ADJECTIVE_FLAG, LOOP_FLAG, LOW_TURNS_FLAG}
 use Rattle.paw_base.specs.declared.flags.TheConstants.{HIGH_TURNS_FLAG, LOCATION_FLAG, VERB_FLAG, PREPOSITION_FLAG}
@@ -20,51 +17,39 @@ use Rattle.paw_base.specs.declared.flags.TheConstants.{ADVERB_FLAG, SECOND_NOUN_
 use Rattle.paw_base.specs.declared.flags.TheConstants.{TIMED_OUT_BIT, UNLIT_VIEW_FLAG, DARK_VIEW_FLAG, VIEW_FLAG}
 use Rattle.paw_base.specs.declared.flags.TheConstants.{LAST_FRAME_FLAG, FIRST_FRAME_FLAG, UNLIT_FRAME_FLAG}
 use Rattle.paw_base.specs.declared.flags.TheConstants.{DARK_FRAME_FLAG}
-use Rattle.paw_base.specs.declared.words.TheConstants.{NO_WORD, NOUN_CLASS}
-use Rattle.paw_base.specs.declared.tables.TheConstants.{RESPONSE_TABLE, DESCRIBED_TABLE, FRAME_TABLE}
-use Rattle.paw_game.specs.declared.parts.Entry.{Entry}
+use Rattle.paw_base.specs.declared.words.TheConstants.{NO_WORD}
 use Rattle.paw_game.specs.Game.{GameLists}
-use Rattle.paw_game.specs.Tables.{table_at, entry_at, condacts_of, facts_at, exit_at}
-use Rattle.paw_game.specs.Valid.{Valid, is_condact, is_entry, is_wildcard, is_verb_value, has_word}
-use Rattle.paw_game.proofs.ValidGames.{first_of_and, second_of_and, table_follows, entry_follows, exit-leads}
+use Rattle.paw_game.specs.Tables.{facts_at}
+use Rattle.paw_game.specs.Valid.{Valid}
+use Rattle.paw_game.proofs.ValidGames.{condact_follows, exit-leads}
 use Rattle.paw_world.specs.World.{World, flag, with_flag, is_dark, is_unlit, flag_lowered, flag_lowered_if}
 use Rattle.paw_phrase.specs.declared.Sentence.{Sentence}
-use Rattle.paw_phrase.specs.Sentence.{Parsed, IsSentence, IsUnknown, IsNoPhrase}
+use Rattle.paw_phrase.specs.Sentence.{IsSentence, IsUnknown}
 use Rattle.paw_phrase.proofs.Phrases.{IsRest as IsRestOf, rest-shorter, rest-all, sentence-rest, unknown-rest}
 use Rattle.paw_phrase.proofs.SentenceBytes.{AreBytes as AreWords, parsed-bytes}
 use Rattle.paw_effects.specs.Story.{Story}
 use Rattle.paw_effects.specs.declared.act.Prompt.{Prompt}
-use Rattle.paw_effects.specs.declared.act.Prompt.TheVariants as prompt
-use Rattle.paw_effects.specs.declared.act.Truth.{Truth}
-use Rattle.paw_effects.specs.declared.act.Truth.TheVariants as truth
-use Rattle.paw_effects.specs.declared.act.Effect.{Effect}
-use Rattle.paw_effects.specs.declared.act.Effect.TheVariants as effect
 use Rattle.paw_effects.specs.Counts.{turns_taken}
-use Rattle.paw_effects.specs.Holds.{is_condition, holds}
+use Rattle.paw_effects.specs.Holds.{holds}
 use Rattle.paw_effects.specs.Effects.{Done, effect_of}
 use Rattle.paw_reading.specs.declared.frames.Frame.{Frame}
 use Rattle.paw_reading.specs.declared.frames.OpenLoop.{OpenLoop}
 use Rattle.paw_reading.specs.Run.{Run, piece_closed, fits, text_printed, with_world, without_loop, line_dropped, anew, is_timeout}
-use Rattle.paw_reading.specs.Run.{is_ignored, with_line_heard}
-use Rattle.paw_reading.specs.Run.{with_timeout, reply, is_yes, is_no, with_sentence, taken_phrase}
+use Rattle.paw_reading.specs.Run.{with_line_heard}
+use Rattle.paw_reading.specs.Run.{with_timeout, with_sentence, taken_phrase}
+use Rattle.paw_reading.specs.declared.halt.Halt.{Halt}
 use Rattle.paw_reading.specs.declared.halt.Halt.TheVariants as halt
-use Rattle.paw_reading.specs.Reading.{Redescribes, Restarts, Halts, Out, Left, Waits, Stopped, halts, step_noted, printing}
-use Rattle.paw_reading.specs.Reading.{after_call, at_level, next_object_or, is_taken, object_named, object_taken, over_objects}
-use Rattle.paw_reading.specs.Reading.{loop_of, over, prompt_answered, prompt_asked, waits}
-use Rattle.paw_reading.specs.Reading.{after_test, after_parse, after_action, carried_out, acts, reads_one, condacts}
-use Rattle.paw_reading.specs.Reading.{is_for_now, entries}
-use Rattle.paw_reading.specs.Reading.{from_condact, rest_of_loop, read_at_level, table_called, deeper, table_read, game_over}
+use Rattle.paw_reading.specs.Reading.{step_noted}
+use Rattle.paw_reading.specs.Reading.{object_named, object_taken}
+use Rattle.paw_reading.specs.Reading.{carried_out}
 use Rattle.paw_reading.specs.Reading.{coming_phrase}
-use Rattle.paw_reading.specs.GoingOn.{on_path}
-use Rattle.paw_reading.specs.Turn.{TurnPhase, AtDescribe, AtTimeFrame, AtPhrase, AtResponse, Ending, WaitsAt, Halted}
-use Rattle.paw_reading.specs.Turn.{saying, location_described, time_frame_passed}
-use Rattle.paw_reading.specs.Turn.{view_text, turn_counted, prompt_text, at_main, after_phrase, refusal_text, exit_taken}
-use Rattle.paw_reading.specs.Turn.{after_left}
-use Rattle.paw_reading.specs.Turn.{table_done, turn, phases_left, opening, reading, first_table, goes_on, going_on_from}
-use Rattle.paw_reading.specs.Turn.{timeout_text}
-use Rattle.paw_reading.specs.inner.Parts.{goodbye, quit_question, line_set, in_table, unknown_text}
-use Rattle.paw_reading.proofs.EachCondact.{by_test}
-use Rattle.paw_reading.proofs.LeavesLoop.{either, open_or_not}
+use Rattle.paw_reading.specs.Turn.{AtDescribe, Ending}
+use Rattle.paw_reading.specs.Turn.{location_described, time_frame_passed}
+use Rattle.paw_reading.specs.Turn.{turn_counted}
+use Rattle.paw_reading.specs.Turn.{phases_left, opening, reading, going_on_from}
+use Rattle.paw_reading.specs.inner.Parts.{line_set}
+use Rattle.paw_reading.proofs.Induction.{noted_printed}
+use Rattle.paw_reading.proofs.RunInduction.{RunClaim, RunCarries, TurnCarries, TurnEnds, turn_ends, goes_on_ends}
 use Rattle.paw_reading.specs.Bounds.{IsLine, ValidStory}
 use Rattle.paw_effects.proofs.Worlds.{IsWorldAt, few_locations, few_objects, facts_small, later, flag_small, flagged}
 use Rattle.paw_effects.proofs.Worlds.{start_so, anew_so}
@@ -104,33 +89,15 @@ one_short : (piece : Text) → length piece ≤ PIECE_LIMIT → All (λ q. lengt
 one_short piece short zero d low = short
 one_short piece short (suc k) d low = absurd (omega arith)
 
-true_drop : {A : Type 0} (p : A → Bool) (n : ℕ) (xs : List A) → IsTrue (list_all p xs) → IsTrue (list_all p (drop n xs))
-true_drop p zero xs all = all
-true_drop p (suc n) [] all = all
-true_drop p (suc n) (x ∷ xs) all = true_drop p n xs (second_of_and (p x) _ all)
-
 module _ (g : Story) (valid : ValidStory g) (seed : Seed) (base : ℕ) where
   abbrev v : Valid g.game
   v = valid.game
 
-  abbrev Is : Run → Type 0
+  abbrev pub Is : Run → Type 0
   Is r = IsSound g.game seed base r
 
   abbrev pub Rests : Run → Type 0
   Rests r = IsResting g.game seed base r
-
-  abbrev Sounds : Out → Type 0
-  Sounds (Left a r) = Is r
-  Sounds (Waits p path r) = Rests r
-  Sounds (Stopped (Halts halt.Over) r) = Rests r
-  Sounds (Stopped (Halts _) r) = Unit {0}
-  Sounds (Stopped _ r) = Is r
-
-  abbrev GoesSound : (Bool → Run → Out) → Type 0
-  GoesSound go = (a : Bool) (r : Run) → Is r → Sounds (go a r)
-
-  abbrev CallsSound : (ℕ → Run → Out) → Type 0
-  CallsSound sub = (u : ℕ) (r : Run) → Is r → Sounds (sub u r)
 
   abbrev bound : Run → ℕ
   bound r = base + READ_LIMIT * length r.pieces + length r.read
@@ -188,6 +155,10 @@ module _ (g : Story) (valid : ValidStory g) (seed : Seed) (base : ℕ) where
         lines = k.lines;
         traced = k.traced;
       }
+
+  still_noted : (r : Run) (f : Frame) (c : Condact) → Is r → length r.read < READ_LIMIT → Is (step_noted f c true r)
+  still_noted r f c k few =
+      noted_so r f c true r.world k few (later g.game v seed (bound r) r.world k.world (suc (bound r)) (omega arith))
 
   pub closed_rests : (r : Run) → Is r → Rests (piece_closed r)
   closed_rests r k =
@@ -277,206 +248,18 @@ module _ (g : Story) (valid : ValidStory g) (seed : Seed) (base : ℕ) where
       (flagged g.game v seed (bound r) w w_so LOOP_FLAG o small) o small)
       r.pending k.line r.earlier k.earlier (Some (record l { last = o }))
 
-  -- ---- loops and calls ----
-
-  again_sounds : (lv : ℕ) (next : OpenLoop → Run → Out) → ((l : OpenLoop) (r : Run) → Is r → Sounds (next l r)) → (x : Out) → Sounds x →
-      Sounds (next_object_or lv next x)
-  again_sounds lv next h (Left a r) k = open_or_not Sounds (λ l. next l r) (Left a r) (at_level lv r.turning) (λ l e. h l r k) (λ e. k)
-  again_sounds lv next h (Waits p path r) k = k
-  again_sounds lv next h (Stopped stop r) k = k
-
-  passes_sound : (lv : ℕ) (l : OpenLoop) (body : Run → Out) → ((r : Run) → Is r → Sounds (body r)) → (n : ℕ) (r : Run) → Is r →
-      Sounds (over_objects g lv l body n r)
-  unfolding over_objects
-  passes_sound lv l body h zero r k = no_loop r k None
-  passes_sound lv l body h (suc n) r k =
-      let o : ℕ = length g.game.objects - suc n in
-      let small : o < 256 = omega (arith, few_objects g.game v) in
-      either Sounds (is_taken g.game r.world l o) _ _
-      (again_sounds lv (λ _. over_objects g lv l body n) (λ m s j. passes_sound lv l body h n s j) (body (object_taken g.game l o r))
-      (h (object_taken g.game l o r) (taken_so l o r small k)))
-      (passes_sound lv l body h n r k)
-
-  after_call_sounds : (f : Frame) (go : Bool → Run → Out) → GoesSound go → (x : Out) → Sounds x → Sounds (after_call f go x)
-  after_call_sounds f go h (Left b r) k = h (f.acted || b) r k
-  after_call_sounds f go h (Waits p path r) k = k
-  after_call_sounds f go h (Stopped stop r) k = k
-
-  -- ---- prompts ----
-
-  printing_sounds : (text : Text) (go : Run → Out) → ((r : Run) → Is r → Sounds (go r)) → (r : Run) → Is r → Sounds (printing text go r)
-  printing_sounds text go h r k =
-      by_test Sounds (fits r text) _ (halts (halt.Spent spent.Text) r)
-      (λ fit. h (text_printed text r) (printed_so r text k fit)) tt
-
-  over_sounds : (r : Run) → Is r → Sounds (over g r)
-  over_sounds r k =
-      printing_sounds (goodbye g r) game_over
-      (λ s j. closed_rests (without_loop (line_dropped s)) (no_loop (line_dropped s) (dropped s j) None)) r k
-
-  answered_sounds : (p : Prompt) (f : Frame) (go : Bool → Run → Out) → GoesSound go → (line : Line) (r : Run) → Is r →
-      Sounds (prompt_answered g p f go line r)
-  answered_sounds prompt.Quit f go h line r k = either Sounds (is_yes line) _ (Left true r) (h f.acted r k) k
-  answered_sounds prompt.Again f go h line r k =
-      either Sounds (is_no line) (over g r) (Stopped Restarts (anew r)) (over_sounds r k) (anew_run r k)
-  answered_sounds _ f go h line r k = h true r k
-
-  asked_sounds : (p : Prompt) (f : Frame) (go : Bool → Run → Out) → GoesSound go → (r : Run) (lines : Lines) → Rests r → AreLines lines →
-      Sounds (prompt_asked g p f go r lines)
-  unfolding prompt_asked
-  asked_sounds p f go h r [] k are = resting_events r k [] tt
-  asked_sounds p f go h r (line ∷ lines) k are =
-      let s : Run = record r { events = lines } in
-      let s_so : Is s = with_events r k.sound lines are.1 in
-      either Sounds (is_ignored r.world line) _ _ (asked_sounds p f go h (piece_closed s) lines (closed_rests s s_so) are.1)
-      (answered_sounds p f go h (reply line) (with_line_heard line s) (heard_so line s s_so))
-
-  waits_sounds : (p : Prompt) (f : Frame) (go : Bool → Run → Out) → GoesSound go → (r : Run) → Is r → Sounds (waits g p f go r)
-  waits_sounds p f go h r k = asked_sounds p f go h (piece_closed r) r.events (closed_rests r k) k.lines
-
-  -- ---- one condact ----
-
-  after_parse_sounds : (f : Frame) (next go : Bool → Run → Out) → GoesSound next → GoesSound go → (r : Run) → Is r →
-      (p : Parsed) → coming_phrase g r ≡ p → Sounds (after_parse f next go r p)
-  after_parse_sounds f next go hn hg r k (IsSentence s left) e = hn f.acted (taken_phrase s left r) (phrase_so r k s left e)
-  after_parse_sounds f next go hn hg r k (IsUnknown left) e = hg f.acted (record r { pending = left }) (unknown_so r k left e)
-  after_parse_sounds f next go hn hg r k IsNoPhrase e = hg f.acted r k
+  -- ---- each step ----
 
   dropped_if : (b : Bool) (line : Line) → IsLine line → IsLine (if b then [] else line)
   dropped_if true line k = no_line
   dropped_if false line k = k
 
-  module _ (sub : ℕ → Run → Out) (lv : ℕ) (calls : CallsSound sub) where
-    after_test_sounds : (f : Frame) (next go : Bool → Run → Out) → GoesSound next → GoesSound go → (c : Condact) (r : Run) (t : Truth) →
-        ((b : Bool) → Is (step_noted f c b r)) →
-        Sounds (after_test g f next go c r t)
-    after_test_sounds f next go hn hg c r truth.Yes k = hg f.acted (step_noted f c true r) (k true)
-    after_test_sounds f next go hn hg c r truth.No k = hn f.acted (step_noted f c false r) (k false)
-    after_test_sounds f next go hn hg c r truth.Ask k =
-        printing_sounds (quit_question g r) (waits g prompt.Quit f go) (waits_sounds prompt.Quit f go hg)
-        (step_noted f c true r) (k true)
+  carried_so : (d : Done) (r : Run) → Is r → IsWorldAt g.game seed (bound r) d.world → Is (carried_out d r)
+  carried_so d r k world = changed r k d.world world _ (dropped_if d.act.drop_line r.pending k.line) r.earlier k.earlier _
 
-    after_action_sounds : (f : Frame) (next go : Bool → Run → Out) → GoesSound next → GoesSound go → (e : Effect) (r : Run) → Is r →
-        Sounds (after_action g sub lv f next go e r)
-    after_action_sounds f next go hn hg effect.Go r k = hg true r k
-    after_action_sounds f next go hn hg (effect.Exit a) r k = k
-    after_action_sounds f next go hn hg effect.Redescribe r k = no_loop r k None
-    after_action_sounds f next go hn hg (effect.Call u) r k = after_call_sounds f go hg (sub u r) (calls u r k)
-    after_action_sounds f next go hn hg (effect.Loop p) r k = passes_sound lv (loop_of lv f p) (go true) (hg true) (length g.game.objects) r k
-    after_action_sounds f next go hn hg (effect.Ask p) r k = waits_sounds p f go hg r k
-    after_action_sounds f next go hn hg effect.Parse r k =
-        after_parse_sounds f next go hn hg r k (coming_phrase g r) refl
-    after_action_sounds f next go hn hg effect.Spent r k = tt
-
-    carried_so : (d : Done) (r : Run) → Is r → IsWorldAt g.game seed (bound r) d.world → Is (carried_out d r)
-    carried_so d r k world = changed r k d.world world _ (dropped_if d.act.drop_line r.pending k.line) r.earlier k.earlier _
-
-    acts_sound : (f : Frame) (next go : Bool → Run → Out) → GoesSound next → GoesSound go → (d : Done) (r : Run) → Is r →
-        IsWorldAt g.game seed (bound r) d.world →
-        Sounds (acts g sub lv f next go d r)
-    acts_sound f next go hn hg d r k world =
-        by_test Sounds (fits r d.text) _ (halts (halt.Spent spent.Text) r)
-        (λ fit. after_action_sounds f next go hn hg d.act.effect (carried_out d (text_printed d.text r))
-        (carried_so d (text_printed d.text r) (printed_so r d.text k fit) world)) tt
-
-    reads_one_sounds : (f : Frame) (next go : Bool → Run → Out) → GoesSound next → GoesSound go → (c : Condact) (r : Run) → is_condact g.game c ≡ true →
-        length r.read < READ_LIMIT → Is r →
-        Sounds (reads_one g sub lv f next go c r)
-    reads_one_sounds f next go hn hg c r kept few k =
-        let d : Done = effect_of g r.world c in
-        let d_so : IsWorldAt g.game seed (suc (bound r)) d.world = effect_so g.game v seed (bound r) g.answers r.world c valid.bytes k.world kept in
-        either Sounds (is_condition c) _ _
-        (after_test_sounds f next go hn hg c (with_world (holds g.game r.world c).world r) (holds g.game r.world c).answer
-        (λ b. noted_so r f c b (holds g.game r.world c).world k few (condition_so g.game v seed (bound r) r.world c k.world)))
-        (acts_sound f next go hn hg d (step_noted f c true r)
-        (noted_so r f c true r.world k few (later g.game v seed (bound r) r.world k.world (suc (bound r)) (omega arith)))
-        (noted_so r f c true d.world k few d_so).world)
-
-    -- ---- entries, tables ----
-
-    condacts_sound : (t e : ℕ) (next : Bool → Run → Out) → GoesSound next → (k : ℕ) (cs : List Condact) → IsTrue (list_all (is_condact g.game) cs) →
-        GoesSound (condacts g sub lv t e next k cs)
-    unfolding condacts
-    condacts_sound t e next hn k [] all a r h = hn a r h
-    condacts_sound t e next hn k (c ∷ cs) all a r h =
-        by_test Sounds (nat_lt (length r.read) READ_LIMIT) _ (halts (halt.Spent spent.Condacts) r)
-        (λ few. reads_one_sounds (record { table = t; entry = e; at = k; acted = a }) next _ hn
-        (condacts_sound t e next hn (suc k) cs (second_of_and (is_condact g.game c) _ all)) c r
-        (first_of_and (is_condact g.game c) _ all) (ltb-true (length r.read) READ_LIMIT few) h) tt
-
-    entry_condacts : (en : Entry) → IsTrue (is_entry g.game en) → IsTrue (list_all (is_condact g.game) en.condacts)
-    entry_condacts en h =
-        second_of_and (nat_le (length en.condacts) CONDACT_LIMIT) _
-        (second_of_and (is_wildcard en.noun || has_word g.game.words NOUN_CLASS en.noun) _
-        (second_of_and (is_wildcard en.verb || is_verb_value g.game.words en.verb) _ h))
-
-    entries_sound : (t e : ℕ) (es : List Entry) → IsTrue (list_all (is_entry g.game) es) → GoesSound (entries g sub lv t e es)
-    unfolding entries
-    entries_sound t e [] all a r h = h
-    entries_sound t e (en ∷ es) all a r h =
-        let later_ones = second_of_and (is_entry g.game en) _ all in
-        either Sounds (is_for_now r en) _ _
-        (condacts_sound t e (entries g sub lv t (suc e) es) (entries_sound t (suc e) es later_ones) 0 en.condacts
-        (entry_condacts en (first_of_and (is_entry g.game en) _ all)) a r h)
-        (entries_sound t (suc e) es later_ones a r h)
-
-    table_entries : (t : ℕ) → IsTrue (list_all (is_entry g.game) (table_at g.game t))
-    table_entries t = second_of_and (nat_le (length (table_at g.game t)) ENTRY_LIMIT) _ (table_follows g.game v t)
-
-    all_condacts : (o : Option Entry) → ((en : Entry) → o ≡ Some en → IsTrue (is_entry g.game en)) → IsTrue (list_all (is_condact g.game) (condacts_of o))
-    all_condacts None h = refl
-    all_condacts (Some en) h = entry_condacts en (h en refl)
-
-    plain_sounds : (t e k : ℕ) → GoesSound (from_condact g sub lv t e k)
-    plain_sounds t e zero a r h = entries_sound t e (drop e (table_at g.game t)) (true_drop (is_entry g.game) e (table_at g.game t) (table_entries t)) a r h
-    plain_sounds t e (suc k) a r h =
-        condacts_sound t e _ (entries_sound t (suc e) (drop (suc e) (table_at g.game t))
-        (true_drop (is_entry g.game) (suc e) (table_at g.game t) (table_entries t))) (suc k)
-        (drop (suc k) (condacts_of (entry_at g.game t e)))
-        (true_drop (is_condact g.game) (suc k) (condacts_of (entry_at g.game t e))
-        (all_condacts (entry_at g.game t e) (λ en q. entry_follows g.game v t e en q))) a r h
-
-    looped_sounds : (l : OpenLoop) (r : Run) → Is r → Sounds (rest_of_loop g sub lv l r)
-    looped_sounds l r h = passes_sound lv (record l { last = 0 }) _ (plain_sounds l.table l.entry (suc l.at) true) (length g.game.objects - suc l.last) r h
-
-    reads_sound : (t e k : ℕ) → GoesSound (read_at_level g sub lv t e k)
-    reads_sound t e k a r h = again_sounds lv (rest_of_loop g sub lv) looped_sounds _ (plain_sounds t e k a r h)
-
-  called_sounds : (n lv : ℕ) → CallsSound (table_called g n lv)
-  unfolding table_called
-  called_sounds zero lv u r h = tt
-  called_sounds (suc n) lv u r h = reads_sound (table_called g n (suc lv)) (suc lv) (called_sounds n (suc lv)) u 0 0 false r h
-
-  table_sounds : (t : ℕ) (r : Run) → Is r → Sounds (table_read g t r)
-  table_sounds t r h = reads_sound (deeper g 0) 0 (called_sounds LEVEL_LIMIT 0) t 0 0 false r h
-
-  -- Going on along a path.
-  path_sounds : (p : Prompt) (lv : ℕ) (path : List Frame) (r : Run) → Rests r → Sounds (on_path g p lv path r)
-  path_sounds p lv [] r k = k.sound
-  path_sounds p lv (f ∷ []) r k =
-      again_sounds lv (rest_of_loop g (deeper g lv) lv) (looped_sounds (deeper g lv) lv (called_sounds (LEVEL_LIMIT - lv) lv)) _
-      (asked_sounds p f _ (plain_sounds (deeper g lv) lv (called_sounds (LEVEL_LIMIT - lv) lv) f.table f.entry (suc f.at)) r r.events k k.sound.lines)
-  path_sounds p lv (f ∷ h ∷ path) r k =
-      after_call_sounds f _ (reads_sound (deeper g lv) lv (called_sounds (LEVEL_LIMIT - lv) lv) f.table f.entry (suc f.at)) _
-      (path_sounds p (suc lv) (h ∷ path) r k)
-
-  -- ---- turns ----
-
-  abbrev pub EndsSound : Ending → Type 0
-  EndsSound (WaitsAt p path r) = Rests r
-  EndsSound (Halted halt.Over r) = Rests r
-  EndsSound _ = Unit {0}
-
-  abbrev TurnsSound : (Run → Ending) → Type 0
-  TurnsSound go = (r : Run) → Is r → EndsSound (go r)
-
-  one_of : (b : Bool) (x y : Ending) → (b ≡ true → EndsSound x) → EndsSound y → EndsSound (if b then x else y)
-  one_of true x y h k = h refl
-  one_of false x y h k = k
-
-  saying_sounds : (text : Text) (go : Run → Ending) → TurnsSound go → TurnsSound (saying text go)
-  saying_sounds text go h r k =
-      one_of (fits r text) _ (Halted (halt.Spent spent.Text) r) (λ fit. h (text_printed text r) (printed_so r text k fit)) tt
+  line_set_so : (line : Line) (r : Run) → IsLine line → Is r → Is (line_set line r)
+  line_set_so line r is k = changed r k _ (timeout_so (bound r) false r.world k.world) line is NO_WORD
+      (omega arith) r.turning
 
   fallen_so : (n f : ℕ) (w : World) → IsWorldAt g.game seed n w → IsWorldAt g.game seed n (flag_lowered f w)
   fallen_so n f w k = flagged g.game v seed n w k f (flag w f - 1) (omega (arith, flag_small g.game v seed n w k f))
@@ -510,80 +293,72 @@ module _ (g : Story) (valid : ValidStory g) (seed : Seed) (base : ℕ) where
       high : (x : ℕ) → x ≤ 65535 → x / 256 < 256
       high x most = omega arith
 
-  module _ (go : TurnPhase → Run → Ending) (goes : (s : TurnPhase) → TurnsSound (go s)) where
-    connected_sounds : (r : Run) → Is r → (to : Option ℕ)
-        → exit_at g.game (flag r.world LOCATION_FLAG) (flag r.world VERB_FLAG) ≡ to →
-        EndsSound (exit_taken g go r to)
-    connected_sounds r k None e = saying_sounds (refusal_text g.game r.world) (go AtTimeFrame) (goes AtTimeFrame) (line_dropped r) (dropped r k)
-    connected_sounds r k (Some to) e =
-        goes AtDescribe (with_world (with_flag r.world LOCATION_FLAG to) r)
-        (in_world r k (with_flag r.world LOCATION_FLAG to)
+  -- Where play is over nothing is open.
+  abbrev pub HaltsSound : Halt → Run → Type 0
+  HaltsSound halt.Over r = Rests r
+  HaltsSound _ r = Unit {0}
+
+  abbrev pub claim : RunClaim
+  claim = record {
+    on = Is;
+    acted = Is;
+    closed = λ r lines. Rests r × AreLines lines;
+    wait = λ path r. Rests r;
+    anew = Is;
+    halt = HaltsSound;
+  }
+
+  carries : RunCarries g claim
+  carries = record {
+    printed = λ r text k said fit. printed_so r text k fit;
+    tested = λ f c b r stands k few.
+        noted_so r f c b (holds g.game r.world c).world k few (condition_so g.game v seed (bound r) r.world c k.world);
+    acts = λ f c r stands k few fit.
+        let d : Done = effect_of g r.world c in
+        let world : IsWorldAt g.game seed (suc (bound r)) d.world =
+        effect_so g.game v seed (bound r) g.answers r.world c valid.bytes k.world (condact_follows g.game v f.table f.entry f.at c stands) in
+        let s : Is (step_noted f c true r) = still_noted r f c k few in
+        carried_so d (noted_printed f c d.text r) (printed_so (step_noted f c true r) d.text s fit) (noted_so r f c true d.world k few world).world;
+    reads_on = λ r k. k;
+    sentence = λ r s left k is. phrase_so r k s left is;
+    unknown = λ r left k is. unknown_so r k left is;
+    taken = λ l o r few k. taken_so l o r (omega (arith, few, few_objects g.game v)) k;
+    no_loop = λ r k. no_loop r k None;
+    closes = λ r k. (closed_rests r k, k.lines);
+    waits = λ f r k. resting_events r k.0 [] tt;
+    ignored = λ r line lines k. (closed_rests (record r { events = lines }) (with_events r k.0.sound lines k.1.1), k.1.1);
+    heard = λ r line lines k. heard_so line (record r { events = lines }) (with_events r k.0.sound lines k.1.1);
+    above = λ f path r k. k;
+    exhausted = λ r k. tt;
+    too_long = λ r k. tt;
+    unfit = λ f c r k few. tt;
+    too_deep = λ u r k. tt;
+    redescribed = λ r k. no_loop r k None;
+    restarted = λ r k. anew_run r k;
+    ended = λ r k. closed_rests (without_loop (line_dropped r)) (no_loop (line_dropped r) (dropped r k) None);
+  }
+
+  turns : TurnCarries g claim
+  turns = record {
+    begins = λ r k. k;
+    described = λ r k. in_world r k (location_described r.world) (described_so (bound r) r.world k.world);
+    passed = λ r k. in_world r k (time_frame_passed r.world) (time_frame_so (bound r) r.world k.world);
+    went = λ r to k is.
+        in_world r k (with_flag r.world LOCATION_FLAG to)
         (flagged g.game v seed (bound r) r.world k.world LOCATION_FLAG to
         (omega (
           arith,
-          exit-leads g.game v (flag r.world LOCATION_FLAG) (flag r.world VERB_FLAG) to e,
+          exit-leads g.game v (flag r.world LOCATION_FLAG) (flag r.world VERB_FLAG) to is,
           (few_locations g.game v).1,
-        ))))
+        )));
+    counted = λ r k. in_world r k (turn_counted r.world) (counted_so (bound r) r.world k.world);
+    dropped = λ r k. dropped r k;
+    set = λ r line lines k. line_set_so line (record r { events = lines }) k.1.0 (with_events r k.0.sound lines k.1.1);
+    awaits = λ r k. resting_events r k.0 [] tt;
+  }
 
-    after_left_sounds : (t : ℕ) (a : Bool) → TurnsSound (after_left g go t a)
-    after_left_sounds zero true r k = goes AtTimeFrame r k
-    after_left_sounds zero false r k =
-        connected_sounds r k (exit_at g.game (flag r.world LOCATION_FLAG) (flag r.world VERB_FLAG)) refl
-    after_left_sounds (suc zero) a r k = goes AtTimeFrame r k
-    after_left_sounds (suc (suc t)) a r k =
-        goes AtPhrase (with_world (time_frame_passed r.world) r) (in_world r k (time_frame_passed r.world) (time_frame_so (bound r) r.world k.world))
-
-    table_done_sounds : (t : ℕ) (x : Out) → Sounds x → EndsSound (table_done g go t x)
-    table_done_sounds t (Left a r) k = after_left_sounds t a r k
-    table_done_sounds t (Waits p path r) k = k
-    table_done_sounds t (Stopped Redescribes r) k = goes AtDescribe r k
-    table_done_sounds t (Stopped Restarts r) k = goes AtDescribe r k
-    table_done_sounds t (Stopped (Halts halt.Over) r) k = k
-    table_done_sounds t (Stopped (Halts _) r) k = tt
-
-    read_sounds : (t : ℕ) → TurnsSound (λ r. table_done g go t (table_read g t r))
-    read_sounds t r k = table_done_sounds t (table_read g t r) (table_sounds t r k)
-
-    line_set_so : (line : Line) (r : Run) → IsLine line → Is r → Is (line_set line r)
-    line_set_so line r is k = changed r k _ (timeout_so (bound r) false r.world k.world) line is NO_WORD
-        (omega arith) r.turning
-
-    at_main_sounds : (r : Run) (lines : Lines) → Rests r → AreLines lines → EndsSound (at_main g go r lines)
-    unfolding at_main
-    at_main_sounds r [] k are = resting_events r k [] tt
-    at_main_sounds r (line ∷ lines) k are =
-        let s : Run = record r { events = lines } in
-        let s_so : Is s = with_events r k.sound lines are.1 in
-        one_of (is_ignored r.world line) _ _
-        (λ e. at_main_sounds (piece_closed s) lines (closed_rests s s_so) are.1)
-        (one_of (is_timeout line) _ _
-        (λ e.
-        saying_sounds (timeout_text g.game r.world) (go AtTimeFrame) (goes AtTimeFrame) (with_line_heard line s) (heard_so line s s_so))
-        (goes AtPhrase (line_set line s) (line_set_so line s are.0 s_so)))
-
-    after_phrase_sounds : (r : Run) → Is r → (p : Parsed) → coming_phrase g r ≡ p →
-        EndsSound (after_phrase g go r p)
-    after_phrase_sounds r k (IsSentence s left) e =
-        let taken_run : Is (taken_phrase s left r) = phrase_so r k s left e in
-        goes AtResponse (with_world (turn_counted (taken_phrase s left r).world) (taken_phrase s left r))
-        (in_world (taken_phrase s left r) taken_run (turn_counted (taken_phrase s left r).world)
-        (counted_so (bound r) (taken_phrase s left r).world taken_run.world))
-    after_phrase_sounds r k (IsUnknown left) e =
-        saying_sounds (unknown_text g.game r.world) (go AtTimeFrame) (goes AtTimeFrame) (line_dropped r) (dropped r k)
-    after_phrase_sounds r k IsNoPhrase e =
-        saying_sounds (prompt_text g.game r.world) (λ s. at_main g go (piece_closed s) s.events)
-        (λ s j. at_main_sounds (piece_closed s) s.events (closed_rests s j) j.lines) (line_dropped r) (dropped r k)
-
-  turn_sounds : (n : ℕ) (s : TurnPhase) → TurnsSound (turn g n s)
-  unfolding turn
-  turn_sounds zero s r k = tt
-  turn_sounds (suc n) AtDescribe r k =
-      saying_sounds (view_text g.game (location_described r.world)) (λ q. table_done g (turn g n) DESCRIBED_TABLE (table_read g DESCRIBED_TABLE q))
-      (read_sounds (turn g n) (turn_sounds n) 1)
-      (with_world (location_described r.world) r) (in_world r k (location_described r.world) (described_so (bound r) r.world k.world))
-  turn_sounds (suc n) AtTimeFrame r k = read_sounds (turn g n) (turn_sounds n) FRAME_TABLE r k
-  turn_sounds (suc n) AtPhrase r k = after_phrase_sounds (turn g n) (turn_sounds n) r k (coming_phrase g r) refl
-  turn_sounds (suc n) AtResponse r k = read_sounds (turn g n) (turn_sounds n) RESPONSE_TABLE r k
+  abbrev pub EndsSound : Ending → Type 0
+  EndsSound e = TurnEnds claim e
 
   opening_so : (es : Lines) → AreLines es → Is (opening g seed es)
   opening_so es are = record {
@@ -597,19 +372,10 @@ module _ (g : Story) (valid : ValidStory g) (seed : Seed) (base : ℕ) where
     traced = refl;
   }
 
-  -- Where a reading stops nothing is open, and the run is sound.
+  -- Where a reading stops the run is sound, and where it waits or is over nothing is open.
   pub reading_sounds : (es : Lines) → AreLines es → EndsSound (reading g seed es)
-  reading_sounds es are = turn_sounds (phases_left (opening g seed es)) AtDescribe (opening g seed es) (opening_so es are)
-
-  in_table_sounds : (n : ℕ) (p : Prompt) (path : List Frame) (r : Run) → Rests r → EndsSound (in_table g n p path r)
-  in_table_sounds n p path r k = table_done_sounds (turn g n) (turn_sounds n) (first_table path) (on_path g p 0 path r) (path_sounds p 0 path r k)
-
-  goes_on_sounds : (n : ℕ) (p : Prompt) (path : List Frame) (r : Run) → Rests r → EndsSound (goes_on g n p path r)
-  goes_on_sounds n prompt.Main path r k = at_main_sounds (turn g n) (turn_sounds n) r r.events k k.sound.lines
-  goes_on_sounds n prompt.Quit path r k = in_table_sounds n prompt.Quit path r k
-  goes_on_sounds n prompt.Again path r k = in_table_sounds n prompt.Again path r k
-  goes_on_sounds n prompt.Key path r k = in_table_sounds n prompt.Key path r k
-  goes_on_sounds n prompt.Over path r k = k
+  reading_sounds es are =
+      turn_ends g claim carries turns (phases_left (opening g seed es)) AtDescribe (opening g seed es) (opening_so es are)
 
   pub going_on_sounds : (p : Prompt) (path : List Frame) (r : Run) → Rests r → EndsSound (going_on_from g p path r)
-  going_on_sounds p path r k = goes_on_sounds (phases_left r) p path r k
+  going_on_sounds p path r k = goes_on_ends g claim carries turns (phases_left r) p path r k.sound (k, k.sound.lines) k
