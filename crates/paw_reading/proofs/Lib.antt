@@ -5,6 +5,7 @@ pub mod Rules
 pub mod Onward
 pub mod Induction
 pub mod RunInduction
+pub mod Kept
 pub mod Stops
 pub mod Extends
 pub mod Longer

@@ -8,3 +8,4 @@ pub mod Pieces
 pub mod Bounds
 pub mod Waits
 pub mod Saving
+pub mod Always
