@@ -21,3 +21,4 @@ pub mod Held
 pub mod Sounding
 pub mod Rightly
 pub mod Saving
+pub mod HoldingBytes

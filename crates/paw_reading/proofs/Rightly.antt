@@ -250,7 +250,7 @@ pub readings_are_bounded : ReadingsAreBounded
 readings_are_bounded g seed es valid lines = stop_bounded g valid seed 0 (reading g seed es) (reading_sounds g valid seed 0 es (are_lines es lines))
 
 -- A run that stands rightly is sound.
-rests : (g : GameLists) (seed : Seed) (n : ℕ) (p : Prompt) (path : List Frame) (r : Run) → StandsRightly g p path r → IsBounded seed n r → All IsLine r.events →
+pub rests : (g : GameLists) (seed : Seed) (n : ℕ) (p : Prompt) (path : List Frame) (r : Run) → StandsRightly g p path r → IsBounded seed n r → All IsLine r.events →
     IsResting g seed n r
 rests g seed n p path r k bound lines = record {
   sound = record {

@@ -49,6 +49,7 @@ use Rattle.paw_reading.specs.Turn.{turn_counted}
 use Rattle.paw_reading.specs.Turn.{phases_left, opening, reading, going_on_from}
 use Rattle.paw_reading.specs.inner.Parts.{line_set}
 use Rattle.paw_reading.proofs.Induction.{noted_printed}
+use Rattle.paw_reading.proofs.Kept.{IsKept}
 use Rattle.paw_reading.proofs.RunInduction.{RunClaim, RunCarries, TurnCarries, TurnEnds, turn_ends, goes_on_ends}
 use Rattle.paw_reading.specs.Bounds.{IsLine, ValidStory}
 use Rattle.paw_effects.proofs.Worlds.{IsWorldAt, few_locations, few_objects, facts_small, later, flag_small, flagged}
@@ -155,10 +156,6 @@ module _ (g : Story) (valid : ValidStory g) (seed : Seed) (base : ℕ) where
         lines = k.lines;
         traced = k.traced;
       }
-
-  still_noted : (r : Run) (f : Frame) (c : Condact) → Is r → length r.read < READ_LIMIT → Is (step_noted f c true r)
-  still_noted r f c k few =
-      noted_so r f c true r.world k few (later g.game v seed (bound r) r.world k.world (suc (bound r)) (omega arith))
 
   pub closed_rests : (r : Run) → Is r → Rests (piece_closed r)
   closed_rests r k =
@@ -293,6 +290,46 @@ module _ (g : Story) (valid : ValidStory g) (seed : Seed) (base : ℕ) where
       high : (x : ℕ) → x ≤ 65535 → x / 256 < 256
       high x most = omega arith
 
+  -- Each step keeps a run sound.
+  pub sound_kept : IsKept g Is
+  sound_kept = record {
+    printed = λ r text k said fit. printed_so r text k fit;
+    tested = λ f c b r stands k few.
+        noted_so r f c b (holds g.game r.world c).world k few (condition_so g.game v seed (bound r) r.world c k.world);
+    noted = λ f c r k few.
+        noted_so r f c true r.world k few (later g.game v seed (bound r) r.world k.world (suc (bound r)) (omega arith));
+    acts = λ f c r stands k few fit.
+        let d : Done = effect_of g r.world c in
+        let world : IsWorldAt g.game seed (suc (bound r)) d.world =
+        effect_so g.game v seed (bound r) g.answers r.world c valid.bytes k.world (condact_follows g.game v f.table f.entry f.at c stands) in
+        let done : Is (step_noted f c true (with_world d.world r)) = noted_so r f c true d.world k few world in
+        let s : Is (step_noted f c true r) =
+        noted_so r f c true r.world k few (later g.game v seed (bound r) r.world k.world (suc (bound r)) (omega arith)) in
+        carried_so d (noted_printed f c d.text r) (printed_so (step_noted f c true r) d.text s fit) done.world;
+    sentence = λ r s left k is. phrase_so r k s left is;
+    unknown = λ r left k is. unknown_so r k left is;
+    dropped = λ r k. dropped r k;
+    closed = λ r k. (closed_rests r k).sound;
+    next = λ r line lines k. with_events (record r { events = line ∷ lines }) k lines k.lines.1;
+    heard = λ line r k. heard_so line r k;
+    set = λ r line lines k.
+        line_set_so line (record r { events = lines }) k.lines.0 (with_events (record r { events = line ∷ lines }) k lines k.lines.1);
+    taken = λ l o r few k. taken_so l o r (omega (arith, few, few_objects g.game v)) k;
+    no_loop = λ r k. no_loop r k None;
+    described = λ r k. in_world r k (location_described r.world) (described_so (bound r) r.world k.world);
+    passed = λ r k. in_world r k (time_frame_passed r.world) (time_frame_so (bound r) r.world k.world);
+    went = λ r to k is.
+        in_world r k (with_flag r.world LOCATION_FLAG to)
+        (flagged g.game v seed (bound r) r.world k.world LOCATION_FLAG to
+        (omega (
+          arith,
+          exit-leads g.game v (flag r.world LOCATION_FLAG) (flag r.world VERB_FLAG) to is,
+          (few_locations g.game v).1,
+        )));
+    counted = λ r k. in_world r k (turn_counted r.world) (counted_so (bound r) r.world k.world);
+    anew = anew_run;
+  }
+
   -- Where play is over nothing is open.
   abbrev pub HaltsSound : Halt → Run → Type 0
   HaltsSound halt.Over r = Rests r
@@ -310,20 +347,14 @@ module _ (g : Story) (valid : ValidStory g) (seed : Seed) (base : ℕ) where
 
   carries : RunCarries g claim
   carries = record {
-    printed = λ r text k said fit. printed_so r text k fit;
-    tested = λ f c b r stands k few.
-        noted_so r f c b (holds g.game r.world c).world k few (condition_so g.game v seed (bound r) r.world c k.world);
-    acts = λ f c r stands k few fit.
-        let d : Done = effect_of g r.world c in
-        let world : IsWorldAt g.game seed (suc (bound r)) d.world =
-        effect_so g.game v seed (bound r) g.answers r.world c valid.bytes k.world (condact_follows g.game v f.table f.entry f.at c stands) in
-        let s : Is (step_noted f c true r) = still_noted r f c k few in
-        carried_so d (noted_printed f c d.text r) (printed_so (step_noted f c true r) d.text s fit) (noted_so r f c true d.world k few world).world;
+    printed = sound_kept.printed;
+    tested = sound_kept.tested;
+    acts = sound_kept.acts;
     reads_on = λ r k. k;
-    sentence = λ r s left k is. phrase_so r k s left is;
-    unknown = λ r left k is. unknown_so r k left is;
-    taken = λ l o r few k. taken_so l o r (omega (arith, few, few_objects g.game v)) k;
-    no_loop = λ r k. no_loop r k None;
+    sentence = sound_kept.sentence;
+    unknown = sound_kept.unknown;
+    taken = sound_kept.taken;
+    no_loop = sound_kept.no_loop;
     closes = λ r k. (closed_rests r k, k.lines);
     waits = λ f r k. resting_events r k.0 [] tt;
     ignored = λ r line lines k. (closed_rests (record r { events = lines }) (with_events r k.0.sound lines k.1.1), k.1.1);
@@ -333,26 +364,19 @@ module _ (g : Story) (valid : ValidStory g) (seed : Seed) (base : ℕ) where
     too_long = λ r k. tt;
     unfit = λ f c r k few. tt;
     too_deep = λ u r k. tt;
-    redescribed = λ r k. no_loop r k None;
-    restarted = λ r k. anew_run r k;
+    redescribed = sound_kept.no_loop;
+    restarted = anew_run;
     ended = λ r k. closed_rests (without_loop (line_dropped r)) (no_loop (line_dropped r) (dropped r k) None);
   }
 
   turns : TurnCarries g claim
   turns = record {
     begins = λ r k. k;
-    described = λ r k. in_world r k (location_described r.world) (described_so (bound r) r.world k.world);
-    passed = λ r k. in_world r k (time_frame_passed r.world) (time_frame_so (bound r) r.world k.world);
-    went = λ r to k is.
-        in_world r k (with_flag r.world LOCATION_FLAG to)
-        (flagged g.game v seed (bound r) r.world k.world LOCATION_FLAG to
-        (omega (
-          arith,
-          exit-leads g.game v (flag r.world LOCATION_FLAG) (flag r.world VERB_FLAG) to is,
-          (few_locations g.game v).1,
-        )));
-    counted = λ r k. in_world r k (turn_counted r.world) (counted_so (bound r) r.world k.world);
-    dropped = λ r k. dropped r k;
+    described = sound_kept.described;
+    passed = sound_kept.passed;
+    went = sound_kept.went;
+    counted = sound_kept.counted;
+    dropped = dropped;
     set = λ r line lines k. line_set_so line (record r { events = lines }) k.1.0 (with_events r k.0.sound lines k.1.1);
     awaits = λ r k. resting_events r k.0 [] tt;
   }
@@ -360,7 +384,7 @@ module _ (g : Story) (valid : ValidStory g) (seed : Seed) (base : ℕ) where
   abbrev pub EndsSound : Ending → Type 0
   EndsSound e = TurnEnds claim e
 
-  opening_so : (es : Lines) → AreLines es → Is (opening g seed es)
+  pub opening_so : (es : Lines) → AreLines es → Is (opening g seed es)
   opening_so es are = record {
     world = later g.game v seed 0 _ (start_so g.game v seed) (bound (opening g seed es)) (omega arith);
     few = omega arith;

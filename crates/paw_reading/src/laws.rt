@@ -7,6 +7,7 @@ ghost use Rattle.paw_reading.specs.inner.Waits.{ReadingsStopRightly, GoingOnStop
 ghost use Rattle.paw_reading.specs.inner.Waits.{ReadingsAreBounded, GoingOnIsBounded};
 ghost use Rattle.paw_reading.specs.inner.Rules.{ReadingOn};
 ghost use Rattle.paw_reading.specs.inner.Saving.{ReadingsKeepNoPosition, GoingOnLeavesPositions};
+ghost use Rattle.paw_reading.specs.inner.Always.{ReadingsHoldBytes, GoingOnHoldsBytes};
 ghost use Rattle.paw_reading.specs.inner.Turn.{TurnsEnd, EndsOnce, GoingOnEnds, GoesOnOnce, WaitsOn, GoingOnIsReading};
 
 /// Every reading ends: the phases that a turn is granted are enough.
@@ -86,4 +87,12 @@ pub fn stays_bounded()
 pub fn keeps_no_position()
     ensures readings { ReadingsKeepNoPosition }
     ensures going_on { GoingOnLeavesPositions }
+{}
+
+/// Flags and numbers stay bytes: wherever a reading of a valid game waits or has ended, however it ended, each flag is a
+/// byte, and so is the place of each object, now, in the saved position and in each kept one, each byte that is left of
+/// the line, and the verb before it.
+pub fn holds_bytes()
+    ensures readings { ReadingsHoldBytes }
+    ensures going_on { GoingOnHoldsBytes }
 {}
