@@ -11,7 +11,7 @@ use Rattle.paw_effects.specs.inner.Standing.{MayBePosition}
 use Rattle.paw_effects.proofs.Worlds.{place_small}
 use Rattle.paw_reading.specs.Run.{Run}
 use Rattle.paw_reading.specs.Turn.{AtDescribe, Ending, WaitsAt, Halted, Unended, phases_left, opening, reading, going_on_from}
-use Rattle.paw_reading.specs.inner.Always.{EndsIn, MayBeOfBytes, HoldsBytes, ReadingsHoldBytes, GoingOnHoldsBytes}
+use Rattle.paw_reading.specs.inner.Always.{EndsIn, MayBeOfBytes, HasOnlyBytes, ReadingsHoldBytes, GoingOnHoldsBytes}
 use Rattle.paw_reading.proofs.Kept.{turn_kept, goes_on_kept}
 use Rattle.paw_reading.proofs.Sounding.{IsSound, are_lines, sound_kept, opening_so}
 use Rattle.paw_reading.proofs.Rightly.{rests}
@@ -24,7 +24,7 @@ module _ (g : GameLists) (v : Valid g) where
   position None k = tt
   position (Some q) k = record { flags = k.bytes; places = small q.places k.places }
 
-  holds_bytes : (seed : Seed) (base : ℕ) (r : Run) → IsSound g seed base r → HoldsBytes r
+  holds_bytes : (seed : Seed) (base : ℕ) (r : Run) → IsSound g seed base r → HasOnlyBytes r
   holds_bytes seed base r k = record {
     flags = k.world.flags;
     places = small r.world.places k.world.places;
@@ -34,7 +34,7 @@ module _ (g : GameLists) (v : Valid g) where
     earlier = k.earlier;
   }
 
-  in_ending : (seed : Seed) (base : ℕ) (e : Ending) → EndsIn (IsSound g seed base) e → EndsIn HoldsBytes e
+  in_ending : (seed : Seed) (base : ℕ) (e : Ending) → EndsIn (IsSound g seed base) e → EndsIn HasOnlyBytes e
   in_ending seed base (WaitsAt p path r) k = holds_bytes seed base r k
   in_ending seed base (Halted halt r) k = holds_bytes seed base r k
   in_ending seed base Unended k = tt

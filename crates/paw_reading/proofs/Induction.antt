@@ -52,7 +52,7 @@ pub data IsSaid (g : GameLists) : Text → Type 0 where
   Shows : (w : World) (location : ℕ) → IsSaid g (location_text g w location)
   Both : (a b : Text) → IsSaid g a → IsSaid g b → IsSaid g (a ++ b)
 
--- What is to hold. A place is where tables are read: it tells at least the level.
+-- What is to hold. A place is where tables are read, and has a level at least.
 pub record Claim : Type 1 where
   -- the places, their levels, and the place of a table that is called from one
   pub At : Type 0

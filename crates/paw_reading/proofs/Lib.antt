@@ -22,3 +22,5 @@ pub mod Sounding
 pub mod Rightly
 pub mod Saving
 pub mod HoldingBytes
+pub mod PrintedBytes
+pub mod ShowingBytes

@@ -7,7 +7,7 @@ ghost use Rattle.paw_reading.specs.inner.Waits.{ReadingsStopRightly, GoingOnStop
 ghost use Rattle.paw_reading.specs.inner.Waits.{ReadingsAreBounded, GoingOnIsBounded};
 ghost use Rattle.paw_reading.specs.inner.Rules.{ReadingOn};
 ghost use Rattle.paw_reading.specs.inner.Saving.{ReadingsKeepNoPosition, GoingOnLeavesPositions};
-ghost use Rattle.paw_reading.specs.inner.Always.{ReadingsHoldBytes, GoingOnHoldsBytes};
+ghost use Rattle.paw_reading.specs.inner.Always.{ReadingsHoldBytes, GoingOnHoldsBytes, ReadingsShowOwnBytes};
 ghost use Rattle.paw_reading.specs.inner.Turn.{TurnsEnd, EndsOnce, GoingOnEnds, GoesOnOnce, WaitsOn, GoingOnIsReading};
 
 /// Every reading ends: the phases that a turn is granted are enough.
@@ -95,4 +95,10 @@ pub fn keeps_no_position()
 pub fn holds_bytes()
     ensures readings { ReadingsHoldBytes }
     ensures going_on { GoingOnHoldsBytes }
+{}
+
+/// The text of a reading of a valid game has only bytes that a text of the game, a number or a mark has: a digit, a
+/// capital letter, a newline, a space, one of `,.[]`, a letter of `and`, or a byte of a message, an object or a location.
+pub fn shows_own_bytes()
+    ensures readings { ReadingsShowOwnBytes }
 {}

@@ -1,6 +1,7 @@
 -- What holds wherever readings wait or have ended: words that contracts between crates and proofs use.
-use Rattle.std.specs.Prelude.{ℕ, ◌<◌, ◌==◌, ◌&&◌, ◌||◌, Bool, nat_le, List, ◌++◌, map, codes, Option, IfSome}
+use Rattle.std.specs.Prelude.{ℕ, ◌<◌, ◌==◌, ◌||◌, Bool, List, ◌++◌, map, codes, Option, IfSome}
 use Rattle.std.specs.Prelude.{IsTrue, All}
+use Rattle.std.specs.Char.{is_ascii_digit, is_ascii_uppercase}
 use Rattle.std.specs.List.{list_any, list_all}
 use Rattle.paw_base.specs.Bytes.{Text, Texts, Lines, Seed}
 use Rattle.paw_game.specs.Game.{GameLists}
@@ -34,7 +35,7 @@ MayBeOfBytes q = IfSome q IsOfBytes
 
 -- Each flag and each number of a state of play is a byte: the place of each object, the flags and places of the saved
 -- and of each kept position, what is left of the line, and the verb before it.
-pub record HoldsBytes (r : Run) : Type 0 where
+pub record HasOnlyBytes (r : Run) : Type 0 where
   pub flags : AreBytes r.world.flags
   pub places : AreBytes r.world.places
   pub saved : MayBeOfBytes r.world.saved
@@ -45,37 +46,33 @@ pub record HoldsBytes (r : Run) : Type 0 where
 -- ---- texts ----
 
 -- The texts of a game: of its messages of both kinds, its objects and its locations.
-abbrev pub texts_of : GameLists → Texts
-texts_of g = g.system ++ (g.messages ++ (map (λ row. row.text) g.objects ++ g.locations))
+abbrev pub game_texts : GameLists → Texts
+game_texts g = g.system ++ (g.messages ++ (map (λ row. row.text) g.objects ++ g.locations))
 
 -- Whether a byte stands in a text.
-abbrev pub stands_in : ℕ → Text → Bool
-stands_in b text = list_any (λ x. x == b) text
-
--- Whether a byte is a digit.
-abbrev pub is_digit : ℕ → Bool
-is_digit b = nat_le 48 b && nat_le b 57
+abbrev pub is_byte_of : ℕ → Text → Bool
+is_byte_of b text = list_any (λ x. x == b) text
 
 -- Whether a byte is of a mark: of what joins the texts of a list and ends it, or, with digits, of the sign of a condact.
 abbrev pub is_of_mark : ℕ → Bool
-is_of_mark b = (nat_le 65 b && nat_le b 90) || stands_in b (codes "\n ,.[]and")
+is_of_mark b = is_ascii_uppercase b || is_byte_of b (codes "\n ,.[]and")
 
 -- Whether a text of the game, a number or a mark has this byte.
 abbrev pub may_be_shown : GameLists → ℕ → Bool
-may_be_shown g b = (is_digit b || is_of_mark b) || list_any (stands_in b) (texts_of g)
+may_be_shown g b = (is_ascii_digit b || is_of_mark b) || list_any (is_byte_of b) (game_texts g)
 
 -- ---- the laws ----
 
 -- Wherever a reading of a valid story waits or has ended each flag and each number is a byte.
 abbrev pub ReadingsHoldBytes : Type 0
 ReadingsHoldBytes =
-    (g : Story) (seed : Seed) (es : Lines) → ValidStory g → All IsLine es → EndsIn HoldsBytes (reading g seed es)
+    (g : Story) (seed : Seed) (es : Lines) → ValidStory g → All IsLine es → EndsIn HasOnlyBytes (reading g seed es)
 
 -- So it is wherever going on from where a run stands as it may, within the bounds, waits or has ended.
 abbrev pub GoingOnHoldsBytes : Type 0
 GoingOnHoldsBytes =
     (g : Story) (seed : Seed) (n : ℕ) (p : Prompt) (path : List Frame) (r : Run) → ValidStory g → All IsLine r.events →
-    StandsRightly g.game p path r → IsBounded seed n r → EndsIn HoldsBytes (going_on_from g p path r)
+    StandsRightly g.game p path r → IsBounded seed n r → EndsIn HasOnlyBytes (going_on_from g p path r)
 
 -- The text of a reading of a valid story has no byte but those that may be shown.
 abbrev pub ReadingsShowOwnBytes : Type 0
