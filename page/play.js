@@ -6,6 +6,7 @@ const OVER = 4, KEY = 3;  // what a session waits for, other than a line
 const SHOWN = 200;  // turns that stand on the page; the earlier ones are asked for
 const LONGEST = 10000000;  // bytes of a text that is brought
 const BEFORE = "the game before";
+const AT_END = "The game is over. You can take a line back, or begin anew.";
 const store = new Store();
 let engine, image, session, places = [], rows = new Rows(), turns = [];
 let kept = 0;  // how many of the rows stand in the store
@@ -69,23 +70,24 @@ function download(text, ending) {
 
 // --- What is shown
 
-const lastRow = (text) => text.slice(text.lastIndexOf("\n") + 1);
+const withoutEnd = (text) => text.replace(/\n$/, "");
+const lastRow = (text) => withoutEnd(text).slice(withoutEnd(text).lastIndexOf("\n") + 1);
 const isQuestion = (text) => /[A-Za-z0-9]/.test(lastRow(text));
 const promptOf = (text) => (isQuestion(text) ? ">" : lastRow(text).trim() || ">");
 const echo = (at) => `${promptOf(turns[at - 1].text)} ${turns[at].line}`;
 
 // A text without the prompt behind it; a question stays, and is read.
 function body(text) {
-  return (isQuestion(text) ? text : text.slice(0, text.lastIndexOf("\n") + 1)).replace(/^\n+|\n+$/g, "");
+  return (isQuestion(text) ? text : text.slice(0, withoutEnd(text).lastIndexOf("\n") + 1)).replace(/^\n+|\n+$/g, "");
 }
 
 // A text as it is shown: its letters, and in place of its marks the pictures that the author gave.
 function shown(text, isNew) {
-  const parts = [];
+  const parts = [], whole = text + "\n";
   let last = 0;
-  for (const found of text.matchAll(MARKS)) {
+  for (const found of whole.matchAll(MARKS)) {
     const media = about.media[found[1]];
-    parts.push(text.slice(last, found.index));
+    parts.push(whole.slice(last, found.index));
     last = found.index + found[0].length;
     if (media && media.is === "sound") {
       if (isNew && !byId("quiet").checked) new Audio(media.data).play().catch(() => {});
@@ -95,7 +97,12 @@ function shown(text, isNew) {
       parts.push(`[Picture ${found[1].slice(8)}]\n`);
     }
   }
-  return [...parts, text.slice(last)];
+  parts.push(whole.slice(last));
+  while (typeof parts[parts.length - 1] === "string") {
+    const ended = parts.pop().replace(/\n+$/, "");
+    if (ended) return [...parts, ended];
+  }
+  return parts;
 }
 
 function paragraph(kind, ...parts) {
@@ -151,11 +158,14 @@ function look() {
   byId("counts").textContent = (about.hasScore ? `Score ${state.score}  ` : "") + `Turns ${state.turns}`;
   byId("unkept").hidden = kept === rows.all.length;
   prompt.textContent = state.prompt === KEY ? "(Enter)" : promptOf(turns[turns.length - 1].text);
-  root.toggleAttribute("data-over", state.prompt === OVER);
+  root.toggleAttribute("data-over", isOver());
+  byId("next").hidden = !isOver();
   root.dataset.lines = turns.length - 1;
   root.dataset.rows = rows.all.length;
-  if (state.prompt === OVER) say("The game is over. You can take a line back, or begin anew in the menu.");
+  if (isOver()) say(AT_END);
 }
+
+const isOver = () => stateOf(session).prompt === OVER;
 
 function transcript() {
   const plainText = (text) => shown(text, false).filter((part) => typeof part === "string").join("");
@@ -223,7 +233,7 @@ async function keep(...added) {
         return false;
       }
       if (goesUnkept) break;
-      const why = fault.name === "QuotaExceededError" ? "its room is full" : fault.message || fault.name;
+      const why = /quota|space/i.test(fault.name + fault.message) ? "its room is full" : fault.message || fault.name;
       const answer = await ask(`This browser can't keep what you do: ${why}. If you go on, it is lost when the page is closed.`,
         ["Go on without keeping it", "Try again", "Stay where you are"]);
       if (answer === 2) return false;
@@ -237,7 +247,10 @@ async function keep(...added) {
 // Plays a line; false where it isn't taken.
 async function take(typed) {
   const line = plain(typed);
-  if (root.hasAttribute("data-over")) return false;
+  if (isOver()) {
+    say(AT_END);
+    return true;
+  }
   const reply = await answered(session, line, turns[turns.length - 1].text);
   if (reply.status) {
     say(meaning(reply));
@@ -341,7 +354,7 @@ async function load(name) {
 
 async function anew(seed) {
   if (seed && !/^\d{1,20}$/.test(seed)) say("/new, or /new and a number from which the chances of the game come.");
-  else if (!rows.at.count || await ask("Do you want to begin anew? You find this game again under its name.", ["Begin anew", "Go on with this one"]) === 0) {
+  else if (!rows.at.count || isOver() || await ask("Do you want to begin anew? You find this game again under its name.", ["Begin anew", "Go on with this one"]) === 0) {
     await begin(seed || undefined);
   }
 }
@@ -461,6 +474,7 @@ const inMenu = (does) => () => {
 };
 const clicks = {
   undo: () => next(() => undo(1)),
+  next: () => next(() => anew("")),
   more: () => openMenu(),
   earlier: () => showAll(turns.length - hidden + SHOWN),
   back: inMenu(() => byId("turns").value && undo(turns.length - 1 - Number(byId("turns").value))),
@@ -491,6 +505,8 @@ next(async () => {
   places = placesOf(image);
   engine = about.server ? new ServerEngine(about.server) : new ModuleEngine(await bytesOf("module"));
   await open();
+  performance.mark("first text");
   focus();
+  if (about.service && navigator.serviceWorker) navigator.serviceWorker.register(about.service).catch(() => {});
   if (about.ifid) store.played(about.digest, about.ifid).catch(() => {});
 });

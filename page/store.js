@@ -43,11 +43,19 @@ class Store {
     const base = await this.opened();
     const transaction = base.transaction("rows", "readwrite", { durability: "strict" });
     const table = transaction.objectStore("rows");
+    let failed = null;
+    const put = (begin) => {
+      try {
+        rows.slice(begin).forEach((row, at) => table.add(row, [game, begin + at]));
+      } catch (fault) {
+        failed = fault;
+        transaction.abort();
+      }
+    };
     const over = new Promise((answers, fails) => {
       transaction.oncomplete = answers;
-      transaction.onabort = () => fails(transaction.error || new Error("the browser gave up"));
+      transaction.onabort = () => fails(failed || transaction.error || new Error("the browser gave up"));
     });
-    const put = (begin) => rows.slice(begin).forEach((row, at) => table.add(row, [game, begin + at]));
     if (from === 0) put(0);
     else table.getKey([game, from - 1]).onsuccess = ({ target }) => put(target.result ? from : 0);
     try {

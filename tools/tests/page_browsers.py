@@ -2,15 +2,17 @@
 either has the same methods."""
 import base64
 import contextlib
+import fcntl
 import json
 import os
 import shutil
 import signal
 import socket
 import subprocess
+import sys
 import time
 
-LATEST = 120  # seconds
+LATEST = 20  # seconds
 KEYS = {"Enter": ("Enter", 13, "\r", "\ue007"), "ArrowUp": ("ArrowUp", 38, "", "\ue013"), "ArrowDown": ("ArrowDown", 40, "", "\ue015"),
         "Escape": ("Escape", 27, "", "\ue00c"), "Tab": ("Tab", 9, "\t", "\ue004"), "Space": ("Space", 32, " ", " ")}
 
@@ -58,17 +60,25 @@ class Started:
 
 # --- Chromium ------------------------------------------------------------------------------------------------------
 
+def above(numbers):
+    """The same open files by numbers above those that a child gives anew."""
+    found = [fcntl.fcntl(number, fcntl.F_DUPFD_CLOEXEC, 20) for number in numbers]
+    for number in numbers:
+        os.close(number)
+    return found
+
+
 class Chromium(Started):
     name = "Chromium"
 
     def __init__(self, room):
-        theirs_in, self.to = os.pipe()
-        self.come, theirs_out = os.pipe()
+        theirs_in, self.to = above(os.pipe())
+        self.come, theirs_out = above(os.pipe())
         words = ["chromium", "--headless=new", "--no-sandbox", "--disable-gpu", "--disable-dev-shm-usage", "--no-first-run", "--mute-audio",
                  "--disable-background-networking", "--disable-background-timer-throttling", "--disable-renderer-backgrounding",
                  "--disable-component-update", "--hide-scrollbars", "--remote-debugging-pipe", "--user-data-dir=" + os.path.join(room, "user")]
-        script = 'exec "$@" 3<&%d 4>&%d' % (theirs_in, theirs_out)
-        self.start(["sh", "-c", script, "sh", *words], room, stderr=subprocess.DEVNULL, pass_fds=(theirs_in, theirs_out))
+        begin = "import os, sys; os.dup2(%d, 3); os.dup2(%d, 4); os.execvp(sys.argv[1], sys.argv[1:])" % (theirs_in, theirs_out)
+        self.start([sys.executable, "-I", "-S", "-c", begin, *words], room, stderr=subprocess.DEVNULL, pass_fds=(theirs_in, theirs_out))
         os.close(theirs_in)
         os.close(theirs_out)
         self.number, self.held, self.events = 0, b"", []
