@@ -16,6 +16,8 @@ class Rows {
     if (row.seed !== undefined) {
       this.at = { up: null, line: null, length: row.length, count: 0, seed: row.seed };
       (row.lines || []).forEach((line, at) => { this.at = after(this.at, line, row.lengths[at]); });
+    } else if (!this.at) {
+      // nothing can be done before a game has begun
     } else if (row.line !== undefined) {
       this.at = after(this.at, row.line, row.length);
     } else if (row.back !== undefined) {

@@ -48,7 +48,8 @@ function focus() {
 function ask(text, answers) {
   const question = byId("question");
   byId("asked").textContent = text;
-  byId("answers").replaceChildren(...answers.map((answer, at) => Object.assign(document.createElement("button"), { textContent: answer, value: at })));
+  byId("answers").replaceChildren(...answers.map((answer, at) =>
+    Object.assign(document.createElement("button"), { textContent: answer, value: at, autofocus: at === answers.length - 1 })));
   question.returnValue = answers.length - 1;
   question.showModal();
   return new Promise((chosen) => {
@@ -155,7 +156,7 @@ function look() {
   const state = stateOf(session);
   const title = state.place === null ? "In the dark" : (places[state.place] || "").trim().split("\n")[0].trim();
   byId("place").textContent = title.length <= 60 ? title : "";
-  byId("counts").textContent = (about.hasScore ? `Score ${state.score}  ` : "") + `Turns ${state.turns}`;
+  byId("counts").textContent = (about.hasScore ? `Score ${state.score} \u00b7 ` : "") + `Turns ${state.turns}`;
   byId("unkept").hidden = kept === rows.all.length;
   prompt.textContent = state.prompt === KEY ? "(Enter)" : promptOf(turns[turns.length - 1].text);
   root.toggleAttribute("data-over", isOver());
@@ -301,9 +302,16 @@ async function open() {
   rows = new Rows(found);
   kept = found.length;
   if (rows.at) {
-    await replay();
-    showAll();
-    return;
+    try {
+      await replay();
+      showAll();
+      return;
+    } catch (fault) {
+      if (await ask(`What this browser has kept of the game can't be played: ${fault.message || fault}`, ["Begin anew", "Leave it"])) throw fault;
+      rows.at = null;
+      await begin();
+      return;
+    }
   }
   const older = await earlier();
   if (older && await ask(`You played ${older.lines.length} lines of an earlier version of this game. Do you want to play them over this one?`,
@@ -354,7 +362,7 @@ async function load(name) {
 
 async function anew(seed) {
   if (seed && !/^\d{1,20}$/.test(seed)) say("/new, or /new and a number from which the chances of the game come.");
-  else if (!rows.at.count || isOver() || await ask("Do you want to begin anew? You find this game again under its name.", ["Begin anew", "Go on with this one"]) === 0) {
+  else if (!rows.at.count || isOver() || await ask(`Do you want to begin anew? This game is then kept under the name: ${BEFORE}.`, ["Begin anew", "Go on with this one"]) === 0) {
     await begin(seed || undefined);
   }
 }

@@ -5,7 +5,6 @@ import contextlib
 import fcntl
 import json
 import os
-import shutil
 import signal
 import socket
 import subprocess
@@ -312,7 +311,3 @@ def write(path, data):
     with open(path, "wb") as file:
         file.write(data)
 
-
-def found():
-    """The browsers that are on this machine."""
-    return [kind for kind, name in ((Chromium, "chromium"), (Firefox, "firefox-esr")) if shutil.which(name)]
