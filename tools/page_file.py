@@ -61,6 +61,8 @@ def media_of(path):
 
 def medium(name, value, folder, place):
     """One picture or sound, of a file in the folder."""
+    if not value.isprintable():
+        raise Wrong("%s: a control character stands there" % place)
     file, _, told = value.partition(" ")
     kinds = SOUNDS if name.startswith("sound") else PICTURES
     kind = kinds.get(os.path.splitext(file)[1].lower())
