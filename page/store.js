@@ -2,6 +2,11 @@
 // kept once its transaction is over, and then it is on the disk.
 
 class Behind extends Error {}
+const PATIENCE = 30000;  // milliseconds for the browser's store to answer
+
+function inTime(promise) {
+  return Promise.race([promise, new Promise((_, fails) => { setTimeout(fails, PATIENCE, new Error("its store doesn't answer")); })]);
+}
 
 function done(request) {
   return new Promise((answers, fails) => {
@@ -18,7 +23,7 @@ class Store {
         request.result.createObjectStore("rows");
         request.result.createObjectStore("games");
       };
-      this.base = await done(request);
+      this.base = await inTime(done(request));
       this.base.onversionchange = this.base.onclose = () => {
         this.base.close();
         this.base = null;
@@ -59,7 +64,7 @@ class Store {
     if (from === 0) put(0);
     else table.getKey([game, from - 1]).onsuccess = ({ target }) => put(target.result ? from : 0);
     try {
-      await over;
+      await inTime(over);
     } catch (fault) {
       throw fault.name === "ConstraintError" ? new Behind() : fault;
     }

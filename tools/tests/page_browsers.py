@@ -11,7 +11,7 @@ import subprocess
 import sys
 import time
 
-LATEST = 20  # seconds
+LATEST = 120  # seconds
 KEYS = {"Enter": ("Enter", 13, "\r", "\ue007"), "ArrowUp": ("ArrowUp", 38, "", "\ue013"), "ArrowDown": ("ArrowDown", 40, "", "\ue015"),
         "Escape": ("Escape", 27, "", "\ue00c"), "Tab": ("Tab", 9, "\t", "\ue004"), "Space": ("Space", 32, " ", " ")}
 
