@@ -195,9 +195,10 @@ async function answered(before, line, lastText) {
 // Plays lines one by one, up to the end of the game or a line that can't be answered.
 async function playedEach(seed, lines) {
   let reply = await played(seed, []);
+  if (reply.status) throw new Error(meaning(reply));
   const found = [{ line: null, text: textOf(reply.text) }];
   for (const line of lines) {
-    if (reply.status || stateOf(reply.left).prompt === OVER) break;
+    if (stateOf(reply.left).prompt === OVER) break;
     const next = await answered(reply.left, line, found[found.length - 1].text);
     if (next.status) break;
     reply = next;
@@ -484,7 +485,11 @@ const clicks = {
   undo: () => next(() => undo(1)),
   next: () => next(() => anew("")),
   more: () => openMenu(),
-  earlier: () => showAll(turns.length - hidden + SHOWN),
+  earlier: () => {
+    const below = page.scrollHeight - page.scrollTop;
+    showAll(turns.length - hidden + SHOWN);
+    page.scrollTop = page.scrollHeight - below;
+  },
   back: inMenu(() => byId("turns").value && undo(turns.length - 1 - Number(byId("turns").value))),
   save: inMenu(() => save(byId("name").value.trim())),
   load: inMenu(() => load(byId("names").value)),
