@@ -15,12 +15,18 @@ let hidden = 0, asked = -1, work = Promise.resolve(), refusals = 0;
 
 // --- Small things
 
-// Bytes that stand in the page, or lie beside it.
+// Bytes that stand in the page, packed, or lie beside it.
 async function bytesOf(id) {
   const part = byId(id);
-  if (!part.dataset.from) return Uint8Array.from(atob(part.textContent), (char) => char.charCodeAt(0));
-  const answer = await fetch(part.dataset.from);
-  if (!answer.ok) throw new Error(`${part.dataset.from} isn't there`);
+  let answer;
+  if (part.dataset.from) {
+    answer = await fetch(part.dataset.from);
+    if (!answer.ok) throw new Error(`${part.dataset.from} isn't there`);
+  } else {
+    if (typeof DecompressionStream === "undefined") throw new Error("this page wants a browser of 2023 or later");
+    const packed = new Blob([Uint8Array.from(atob(part.textContent), (char) => char.charCodeAt(0))]);
+    answer = new Response(packed.stream().pipeThrough(new DecompressionStream("deflate")));
+  }
   return new Uint8Array(await answer.arrayBuffer());
 }
 

@@ -14,7 +14,7 @@ import html
 import json
 import os
 import re
-import tempfile
+import zlib
 
 import letters
 import marks
@@ -87,6 +87,11 @@ def mark_of(name):
 
 def as_text(data):
     return base64.b64encode(data).decode("ascii")
+
+
+def packed(data):
+    """Bytes as they stand in a page, which unpacks them."""
+    return as_text(zlib.compress(data, 9))
 
 
 def part(name):
@@ -172,9 +177,9 @@ def page(fields, media, image, scored, places=None):
         "LANGUAGE": fields.get("language", "en"), "TITLE": html.escape(fields["title"]), "TOLD": told(fields), "STYLE": style,
         "POLICY": html.escape(policy(code, style, places.get("policy"))), "FRONT": front(fields, media.get("cover")),
         "ABOUT": json.dumps(about, sort_keys=True).replace("<", "\\u003c"), "SCRIPT": code,
-        "IMAGE_FROM": beside % places["image"] if "image" in places else "", "IMAGE": "" if "image" in places else as_text(image),
+        "IMAGE_FROM": beside % places["image"] if "image" in places else "", "IMAGE": "" if "image" in places else packed(image),
         "MODULE_FROM": beside % places["module"] if "module" in places else "",
-        "MODULE": "" if "module" in places or "server" in places else as_text(module())})
+        "MODULE": "" if "module" in places or "server" in places else packed(module())})
 
 
 def of_game(paw, fields, about, image):
