@@ -11,6 +11,8 @@ const store = new Store();
 let engine, image, session, places = [], rows = new Rows(), turns = [];
 let kept = 0;  // how many of the rows stand in the store
 let goesUnkept = false;  // the player plays though nothing is kept
+const copied = "copy " + about.digest;
+let isDoubted = setting(copied) !== "";  // a browser whose disk was full may lose all its store later: there is a second copy of the lines
 let hidden = 0, asked = -1, work = Promise.resolve(), refusals = 0;
 
 // --- Small things
@@ -190,6 +192,7 @@ function meaning(reply) {
   }[reply.status] || `The game can't be played: ${reply.said || "status " + reply.status}.`;
 }
 
+const asText = (all) => carried(about.title, about.digest, rows.at.seed, all.slice(1).map((turn) => turn.line));
 const played = (seed, lines) => engine.answer(["play", "game", "kept", seed], [["game", image]], lines);
 
 // The answer to one line, and the session behind it.
@@ -240,6 +243,7 @@ async function keep(...added) {
         say("Another window has played on: this is where the game stands now. What you typed here wasn't taken.");
         return false;
       }
+      isDoubted = true;
       if (goesUnkept) break;
       const why = /quota|space/i.test(fault.name + fault.message) ? "its room is full" : fault.message || fault.name;
       const answer = await ask(`This browser can't keep what you do: ${why}. If you go on, it is lost when the page is closed.`,
@@ -249,6 +253,7 @@ async function keep(...added) {
     }
   }
   added.forEach((row) => rows.add(row));
+  if (isDoubted) setting(copied, asText(rows.turns()));
   return true;
 }
 
@@ -320,6 +325,12 @@ async function open() {
       return;
     }
   }
+  const copy = broughtIn(setting(copied));
+  if (copy.lines && await ask(`This browser has lost what it kept of the game, but for a copy of ${copy.lines.length} lines. Do you want to go on with them?`,
+    ["Go on with them", "Begin anew"]) === 0) {
+    await bring(copy);
+    return;
+  }
   const older = await earlier();
   if (older && await ask(`You played ${older.lines.length} lines of an earlier version of this game. Do you want to play them over this one?`,
     ["Play them", "Begin anew"]) === 0) await bring(older);
@@ -375,8 +386,7 @@ async function anew(seed) {
 }
 
 function elsewhere() {
-  const lines = turns.slice(1).map((turn) => turn.line);
-  byId("given").value = carried(about.title, about.digest, rows.at.seed, lines);
+  byId("given").value = asText(turns);
   byId("trouble").textContent = byId("brought").value = "";
   byId("elsewhere").showModal();
 }
