@@ -21,7 +21,7 @@ _paw() {
     *:-*)
         case $last:$word in
         *:-*)
-            COMPREPLY=($(compgen -W '--new --session --seed --transcript --width --plain --no-status --help' -- "$word"))
+            COMPREPLY=($(compgen -W '--new --session --seed --transcript --width --plain --no-status --help --version' -- "$word"))
             return
             ;;
         --session:* | --transcript:*) ends='*' ;;
