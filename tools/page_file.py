@@ -45,7 +45,7 @@ def is_media(line):
 
 
 def media_of(path):
-    """What an about file gives for marks: of each its kind, its bytes as an address, and what is said of it. The cover is among them."""
+    """What an about file gives for marks, and the cover: of each its kind, its bytes as an address, and what is said of it."""
     found = {}
     with open(path, encoding="utf-8") as file:
         for number, line in enumerate(file, 1):
@@ -136,10 +136,11 @@ def hash_of(text):
 
 
 def policy(scripts, style, also=None):
-    """What a browser lets a page do: run these scripts, and the module in a worker; no request leaves it, but to its own site where it
-    has one."""
+    """What a browser lets a page do: run these scripts, and the module in a worker. No request leaves it, but to its own site where
+    it has one."""
     rules = {"default-src": "'none'", "script-src": "%s 'wasm-unsafe-eval'" % hash_of(scripts), "style-src": hash_of(style),
-             "img-src": "data:", "media-src": "data:", "worker-src": "blob:", "base-uri": "'none'", "form-action": "'none'", **(also or {})}
+             "img-src": "data:", "media-src": "data:", "worker-src": "blob:", "base-uri": "'none'", "form-action": "'none'",
+             **(also or {})}
     return "; ".join("%s %s" % rule for rule in rules.items())
 
 
@@ -165,12 +166,12 @@ def front(fields, cover):
 
 
 def page(fields, media, image, scored, places=None):
-    """The text of a page. Its image and module stand in it; or they lie beside it in a site, and places has their names and the rules of the
-    policy for that; or a server computes the texts, and places has its address."""
+    """The text of a page. Its image and module stand in it; or they lie beside it in a site, and places has their names and the
+    rules of the policy for that; or a server computes the texts, and places has its address."""
     places = places or {}
     code, style = script(), part("style.css")
-    about = {"title": fields["title"], "digest": hashlib.sha256(image).hexdigest(), "ifid": fields.get("ifid", ""), "hasScore": scored,
-             "media": {mark_of(name): value for name, value in media.items() if name != "cover"},
+    about = {"title": fields["title"], "digest": hashlib.sha256(image).hexdigest(), "ifid": fields.get("ifid", ""),
+             "hasScore": scored, "media": {mark_of(name): value for name, value in media.items() if name != "cover"},
              "server": places.get("server", ""), "service": places.get("service", "")}
     beside = ' data-from="%s"'
     return filled(part("index.html"), {

@@ -1,5 +1,5 @@
-"""Browsers without a screen, for tests of pages: Chromium, told what to do through a pipe, and Firefox, through a socket. A window of
-either has the same methods."""
+"""Browsers without a screen, for tests of pages: Chromium, told what to do through a pipe, and Firefox, through a socket. A window
+of either has the same methods."""
 import base64
 import contextlib
 import fcntl
@@ -12,8 +12,8 @@ import sys
 import time
 
 LATEST = 120  # seconds
-KEYS = {"Enter": ("Enter", 13, "\r", "\ue007"), "ArrowUp": ("ArrowUp", 38, "", "\ue013"), "ArrowDown": ("ArrowDown", 40, "", "\ue015"),
-        "Escape": ("Escape", 27, "", "\ue00c"), "Tab": ("Tab", 9, "\t", "\ue004"), "Space": ("Space", 32, " ", " ")}
+KEYS = {"Enter": ("Enter", 13, "\r", "\ue007"), "ArrowUp": ("ArrowUp", 38, "", "\ue013"),
+        "ArrowDown": ("ArrowDown", 40, "", "\ue015"), "Escape": ("Escape", 27, "", "\ue00c"), "Tab": ("Tab", 9, "\t", "\ue004")}
 
 
 class Wrong(Exception):
@@ -32,7 +32,9 @@ class Window:
         """Waits until an expression is true."""
         end = time.monotonic() + (latest or LATEST)
         while not self.value("(() => { try { return !!(%s); } catch { return false; } })()" % expression):
-            check(time.monotonic() < end, "%s; shown is %r" % (told, (self.value("document.body && document.body.innerText") or "")[-600:]))
+            if time.monotonic() > end:
+                shown = self.value("document.body && document.body.innerText") or ""
+                raise Wrong("%s; shown is %r" % (told, shown[-600:]))
             time.sleep(0.01)
 
     def enter(self, text):
@@ -73,11 +75,14 @@ class Chromium(Started):
     def __init__(self, room):
         theirs_in, self.to = above(os.pipe())
         self.come, theirs_out = above(os.pipe())
-        words = ["chromium", "--headless=new", "--no-sandbox", "--disable-gpu", "--disable-dev-shm-usage", "--no-first-run", "--mute-audio",
-                 "--disable-background-networking", "--disable-background-timer-throttling", "--disable-renderer-backgrounding",
-                 "--disable-component-update", "--hide-scrollbars", "--remote-debugging-pipe", "--user-data-dir=" + os.path.join(room, "user")]
+        words = ["chromium", "--headless=new", "--no-sandbox", "--disable-gpu", "--disable-dev-shm-usage", "--no-first-run",
+                 "--mute-audio", "--disable-background-networking", "--disable-background-timer-throttling",
+                 "--disable-renderer-backgrounding",
+                 "--disable-component-update", "--hide-scrollbars", "--remote-debugging-pipe",
+                 "--user-data-dir=" + os.path.join(room, "user")]
         begin = "import os, sys; os.dup2(%d, 3); os.dup2(%d, 4); os.execvp(sys.argv[1], sys.argv[1:])" % (theirs_in, theirs_out)
-        self.start([sys.executable, "-I", "-S", "-c", begin, *words], room, stderr=subprocess.DEVNULL, pass_fds=(theirs_in, theirs_out))
+        self.start([sys.executable, "-I", "-S", "-c", begin, *words], room, stderr=subprocess.DEVNULL,
+                   pass_fds=(theirs_in, theirs_out))
         os.close(theirs_in)
         os.close(theirs_out)
         self.number, self.held, self.events = 0, b"", []
@@ -149,8 +154,8 @@ class ChromiumWindow(Window):
     def key(self, name):
         code, number, text, _ = KEYS[name]
         for kind in ("keyDown" if text else "rawKeyDown", "keyUp"):
-            self.call("Input.dispatchKeyEvent", type=kind, key=text if name == "Space" else name, code=code, windowsVirtualKeyCode=number,
-                      text=text if kind == "keyDown" else "")
+            self.call("Input.dispatchKeyEvent", type=kind, key=name, code=code,
+                      windowsVirtualKeyCode=number, text=text if kind == "keyDown" else "")
 
     def reload(self):
         self.call("Page.reload")
@@ -175,8 +180,9 @@ class Socket:
     def __init__(self, port, path):
         self.socket = socket.create_connection(("127.0.0.1", port), LATEST)
         self.held = b""
-        self.socket.sendall(("GET %s HTTP/1.1\r\nHost: 127.0.0.1:%d\r\nUpgrade: websocket\r\nConnection: Upgrade\r\nSec-WebSocket-Version: 13\r\n"
-                             "Sec-WebSocket-Key: %s\r\n\r\n" % (path, port, base64.b64encode(os.urandom(16)).decode())).encode())
+        key = base64.b64encode(os.urandom(16)).decode()
+        self.socket.sendall(("GET %s HTTP/1.1\r\nHost: 127.0.0.1:%d\r\nUpgrade: websocket\r\nConnection: Upgrade\r\n"
+                             "Sec-WebSocket-Version: 13\r\nSec-WebSocket-Key: %s\r\n\r\n" % (path, port, key)).encode())
         while b"\r\n\r\n" not in self.held:
             self.more()
         answer, _, self.held = self.held.partition(b"\r\n\r\n")
@@ -216,8 +222,9 @@ class Socket:
 
 
 # Nothing of Firefox's own goes to the network, and the window of a test is the one in front.
-SETTINGS = {"datareporting.policy.dataSubmissionEnabled": False, "app.update.enabled": False, "browser.shell.checkDefaultBrowser": False,
-            "browser.startup.page": 0, "network.captive-portal-service.enabled": False, "network.connectivity-service.enabled": False,
+SETTINGS = {"datareporting.policy.dataSubmissionEnabled": False, "app.update.enabled": False, "browser.startup.page": 0,
+            "browser.shell.checkDefaultBrowser": False, "network.captive-portal-service.enabled": False,
+            "network.connectivity-service.enabled": False,
             "browser.safebrowsing.malware.enabled": False, "services.settings.server": "data:,#remote-settings-dummy/v1",
             "browser.region.update.enabled": False, "extensions.update.enabled": False, "focusmanager.testmode": True,
             "toolkit.telemetry.enabled": False, "browser.newtabpage.enabled": False, "dom.disable_open_during_load": False,
@@ -300,8 +307,8 @@ class FirefoxWindow(Window):
         write(path, base64.b64decode(self.browser.call("browsingContext.captureScreenshot", context=self.context)["data"]))
 
     def requests(self):
-        return [event["params"]["request"]["url"] for event in self.browser.events if event.get("method") == "network.beforeRequestSent"
-                and event["params"]["context"] == self.context]
+        return [event["params"]["request"]["url"] for event in self.browser.events
+                if event.get("method") == "network.beforeRequestSent" and event["params"]["context"] == self.context]
 
     def close(self):
         self.browser.call("browsingContext.close", context=self.context)

@@ -1,5 +1,5 @@
-"""A server for tests: the plain files of a folder, and at /answer the texts of a game, in the bytes by which a page asks its engine. Each
-request is answered by the program, run in a folder of its own."""
+"""A server for tests: the plain files of a folder, and at /answer the texts of a game, in the bytes by which a page asks its
+engine. Each request is answered by the program, run in a folder of its own."""
 import http.server
 import os
 import subprocess
