@@ -1,2 +1,3 @@
 mod Heads
 mod Left
+mod Routines

@@ -24,21 +24,22 @@ pub record AreProgramAnswers (answers : RoutineAnswers) : Type 0 where
   pub values : (n x : ℕ) → n < ROUTINES → x < 256 → value_at answers n x ≡ Some (program_routine n x)
 
 -- What the program does for these words, from what stands before to what stands after, and how it ends. Words of no
--- form are answered by Usage, and then nothing changes; otherwise it comes as the meaning of their command says. No
--- call of the stage failed. Memory may be lacking, where the command's meaning says.
+-- form are answered by Usage, and then nothing changes; otherwise it comes as the meaning of their command says. Where
+-- memory may be lacking, that says too.
 pub record Does (words : Names) (old new : Standing) (o : Outcome) : Type 0 where
   pub usage : (o ≡ ending.Usage) ↔ (command_of words ≡ None)
   pub idle : command_of words ≡ None → new ≡ old
-  pub unhindered : IsUnhindered o
   pub memory : IfSome (command_of words) (λ c. IfMemory o (IsOneOf (meaning c).memory))
   pub comes : IfSome (command_of words) (λ c.
       (answers : RoutineAnswers) → AreProgramAnswers answers → (meaning c).comes answers old new o)
 
--- The bytes tell how the command of a request ends, the text that it shows, and the file that it leaves.
+-- The bytes tell how the command of a request ends, the text that it shows, and the file that it leaves. No call of the
+-- stage failed.
 pub record IsReply (r : PageRequest) (reply : Bytes) : Type 0 where
   pub ends : Outcome
   pub after : Standing
   pub does : Does r.words (standing_before r) after ends
+  pub unhindered : IsUnhindered ends
   pub same : reply ≡ reply_bytes ends after.shown (file_left r.words after)
 
 -- The answer to bytes: the reply to the request that they are; or 255, exactly where they are none; or 254, for want of

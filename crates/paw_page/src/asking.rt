@@ -1,8 +1,10 @@
 // A request, answered.
 
-ghost use Rattle.std.specs.Prelude.{◌≡◌, IsFalse, IfErr, IfOk, IfSome};
+ghost use Rattle.std.specs.Prelude.{◌≡◌, IsFalse, IfErr, IfOk, IfSome, map, string_bytes};
+ghost use Rattle.paw_stage.specs.Disk.{IsStable};
+ghost use Rattle.paw_stage.specs.inner.Memory.{standing_of};
 ghost use Rattle.paw_top.specs.Completes.{IsUnhindered};
-ghost use Rattle.paw_page.specs.Answers.{IsReply};
+ghost use Rattle.paw_page.specs.Answers.{Does, IsReply};
 ghost use Rattle.paw_page.specs.Request.{IsRequest, PageRequest};
 ghost use Rattle.paw_page.specs.declared.request.NoAnswer.TheVariants as no_answer;
 ghost use Rattle.paw_page.specs.inner.Read.{asked_by};
@@ -14,7 +16,7 @@ use crate::stage::{file_left, stage_of};
 use paw_base::fault::NoRoom;
 use paw_routines::program::{ROUTINES, give};
 use paw_routines::routines::Routines;
-use paw_stage::StageCall;
+use paw_stage::{MemoryStage, StageCall};
 use paw_top::outcome::Outcome;
 use paw_top::top::paw;
 use std::alloc::Global;
@@ -30,6 +32,15 @@ fn has_failed(outcome: Outcome) -> bool
     }
 }
 
+// Does what the words ask for, with the program's routines, over a stage in memory at which nothing is unsynced.
+fn run(alloc: Global, stage: &mut MemoryStage, words: &[String]) -> Outcome
+    requires synced { IsStable (standing_of stage.old).disk }
+    ensures does { Does (map string_bytes words.now) (standing_of stage.old) (standing_of stage.new) result }
+{
+    let routines = Routines::new(ROUTINES, give);
+    paw(alloc, stage, &routines, words)
+}
+
 // The reply to a request, done with this spare room; None where that is too little.
 fn attempt(
     alloc: Global,
@@ -43,8 +54,7 @@ fn attempt(
         Ok(stage) => stage,
         Err(e) => return Err(e),
     };
-    let routines = Routines::new(ROUTINES, give);
-    let outcome = paw(alloc, &mut stage, &routines, request.words.as_slice());
+    let outcome = run(alloc, &mut stage, request.words.as_slice());
     if has_failed(outcome) {
         return Ok(None);
     }
