@@ -13,13 +13,13 @@ use Rattle.std.proofs.Math.Seq.{take-append_seam, drop-append_seam}
 use Rattle.paw_base.specs.Bytes.{Bytes, Name}
 use Rattle.paw_page.specs.Request.{PageRequest, IsRequest}
 use Rattle.paw_page.specs.Request.{number_bytes, part_bytes, entry_bytes, list_bytes, IsNumber, IsPart, IsTextPart, IsEntry, IsListed}
-use Rattle.paw_page.specs.inner.Heads.{Begins, BeginsNot, IsReadSoFar}
+use Rattle.paw_page.specs.inner.Heads.{HasAtHead, HasNoneAtHead, IsReadSoFar}
 
 -- What has these bytes is known by them, whatever follows.
 abbrev pub IsKnown : {A : Type 0} → (A → Bytes) → (A → Type 0) → Type 0
 IsKnown {A = A} bytes_of Is = (x y : A) (p q : Bytes) → Is x → Is y → bytes_of x ++ p ≡ bytes_of y ++ q → (x ≡ y) × (p ≡ q)
 
--- Two lists of the same length, each with more behind it, are the same.
+-- Two lists of the same length, each with more after it, are the same.
 pub halves : {A : Type 0} → (xs ys ps qs : List A) → length xs ≡ length ys → xs ++ ps ≡ ys ++ qs → (xs ≡ ys) × (ps ≡ qs)
 halves xs ys ps qs long same =
     let first : xs ≡ ys = sym (take-append_seam xs ps) ∙ (ap (take (length xs)) same ∙ (ap (λ n. take n (ys ++ qs)) long ∙ take-append_seam ys qs)) in
@@ -74,7 +74,7 @@ pub none_read : {A : Type 0} (f : A → Bytes) (Is : A → Type 0) (bytes : Byte
 none_read f Is bytes = record { same = refl; count = refl; each = All-nil Is }
 
 pub read_one : {A : Type 0} (f : A → Bytes) (Is : A → Type 0) (bytes : Bytes) (n : ℕ) (xs : List A) (rest : Bytes) (x : A) (after : Bytes) →
-    IsReadSoFar f Is bytes n xs rest → Begins f Is rest x after → IsReadSoFar f Is bytes (n + 1) (xs ++ x ∷ []) after
+    IsReadSoFar f Is bytes n xs rest → HasAtHead f Is rest x after → IsReadSoFar f Is bytes (n + 1) (xs ++ x ∷ []) after
 read_one f Is bytes n xs rest x after h b = record {
   same = h.same ∙ (ap (λ l. flat_map f xs ++ l) b.0 ∙ (sym (append_assoc (flat_map f xs) (f x) after)
       ∙ ap (λ l. l ++ after) (sym (flat_map_push f xs x))));
@@ -86,7 +86,7 @@ read_one f Is bytes n xs rest x after h b = record {
     flat_map_push f xs x = flat_map-append f xs (x ∷ []) ∙ ap (λ l. flat_map f xs ++ l) (append-nil (f x))
 
 pub all_read : {A : Type 0} (f : A → Bytes) (Is : A → Type 0) (bytes : Bytes) (n : ℕ) (body : Bytes) (xs : List A) (rest : Bytes) →
-    bytes ≡ number_bytes n ++ body → IsNumber n → IsReadSoFar f Is body n xs rest → Begins (list_bytes f) (IsListed Is) bytes xs rest
+    bytes ≡ number_bytes n ++ body → IsNumber n → IsReadSoFar f Is body n xs rest → HasAtHead (list_bytes f) (IsListed Is) bytes xs rest
 all_read f Is bytes n body xs rest is small h =
     let counted : number_bytes n ≡ number_bytes (length xs) = ap number_bytes (sym h.count) in (
       is ∙ (ap (λ l. number_bytes n ++ l) h.same ∙ (ap (λ l. l ++ (flat_map f xs ++ rest)) counted
@@ -96,7 +96,7 @@ all_read f Is bytes n body xs rest is small h =
 
 -- Where rows were read and the next one isn't there, no longer list of rows is.
 further : {A : Type 0} (f : A → Bytes) (Is : A → Type 0) → IsKnown f Is → (xs ys : List A) (rest q : Bytes) →
-    length xs < length ys → All Is xs → All Is ys → flat_map f xs ++ rest ≡ flat_map f ys ++ q → BeginsNot f Is rest → ⊥
+    length xs < length ys → All Is xs → All Is ys → flat_map f xs ++ rest ≡ flat_map f ys ++ q → HasNoneAtHead f Is rest → ⊥
 further f Is known xs [] rest q low a b same none = absurd (omega (arith, low))
 further f Is known [] (y ∷ ys) rest q low a b same none =
     none y (flat_map f ys ++ q) (All-head Is y ys b) (same ∙ append_assoc (f y) (flat_map f ys) q)
@@ -108,7 +108,7 @@ further f Is known (x ∷ xs) (y ∷ ys) rest q low a b same none =
 -- Where the next one isn't there, the whole list isn't.
 pub not_read : {A : Type 0} (f : A → Bytes) (Is : A → Type 0) → IsKnown f Is → (bytes : Bytes) (n i : ℕ) (body : Bytes)
     (xs : List A) (rest : Bytes) → bytes ≡ number_bytes n ++ body → IsNumber n → i < n → IsReadSoFar f Is body i xs rest →
-    BeginsNot f Is rest → BeginsNot (list_bytes f) (IsListed Is) bytes
+    HasNoneAtHead f Is rest → HasNoneAtHead (list_bytes f) (IsListed Is) bytes
 not_read f Is known bytes n i body xs rest is small low h none ys q listed same =
     let apart = sym is ∙ (same ∙ append_assoc (number_bytes (length ys)) (flat_map f ys) q) in
     let counts = numbers_known n (length ys) body (flat_map f ys ++ q) small listed.0 apart in
@@ -116,7 +116,7 @@ not_read f Is known bytes n i body xs rest is small low h none ys q listed same 
 
 -- Where there is no number, there is no list.
 pub not_counted : {A : Type 0} (f : A → Bytes) (Is : A → Type 0) (bytes : Bytes) → length bytes < 4 →
-    BeginsNot (list_bytes f) (IsListed Is) bytes
+    HasNoneAtHead (list_bytes f) (IsListed Is) bytes
 not_counted f Is bytes short ys q listed same =
     let a = ap length same in
     let b = length-append (list_bytes f ys) q in
@@ -124,9 +124,9 @@ not_counted f Is bytes short ys q listed same =
     let four : length (number_bytes (length ys)) ≡ 4 = refl in
     absurd (omega (arith, a, b, c, four, short))
 
--- Where a text is there and no part behind it, there is no file.
-pub no_entry : (bytes name after : Bytes) → Begins part_bytes IsTextPart bytes name after → BeginsNot part_bytes IsPart after →
-    BeginsNot entry_bytes IsEntry bytes
+-- Where a text is there and no part after it, there is no file.
+pub no_entry : (bytes name after : Bytes) → HasAtHead part_bytes IsTextPart bytes name after → HasNoneAtHead part_bytes IsPart after →
+    HasNoneAtHead entry_bytes IsEntry bytes
 no_entry bytes name after b none x q is same =
     let apart = sym b.0 ∙ (same ∙ append_assoc (part_bytes x.0) (part_bytes x.1) q) in
     let names = texts_known name x.0 after (part_bytes x.1 ++ q) b.1 is.0 apart in
@@ -143,36 +143,36 @@ files_known = lists_known entry_bytes IsEntry entries_known
 lines_known : IsKnown (list_bytes part_bytes) (IsListed IsPart)
 lines_known = lists_known part_bytes IsPart parts_known
 
--- What stands behind the words of a request, where these were read.
+-- What stands after the words of a request, where these were read.
 behind_words : (bytes : Bytes) (words : List Bytes) (rest : Bytes) (r : PageRequest) →
-    Begins (list_bytes part_bytes) (IsListed IsTextPart) bytes words rest → IsRequest r bytes →
+    HasAtHead (list_bytes part_bytes) (IsListed IsTextPart) bytes words rest → IsRequest r bytes →
     rest ≡ list_bytes entry_bytes r.files ++ list_bytes part_bytes r.lines
 behind_words bytes words rest r b is =
     (words_known words r.words rest (list_bytes entry_bytes r.files ++ list_bytes part_bytes r.lines) b.1 is.words (sym b.0 ∙ is.same)).1
 
 behind_files : (bytes : Bytes) (words : List Bytes) (rest : Bytes) (files : List (Name × Bytes)) (after : Bytes) (r : PageRequest) →
-    Begins (list_bytes part_bytes) (IsListed IsTextPart) bytes words rest →
-    Begins (list_bytes entry_bytes) (IsListed IsEntry) rest files after → IsRequest r bytes → after ≡ list_bytes part_bytes r.lines
+    HasAtHead (list_bytes part_bytes) (IsListed IsTextPart) bytes words rest →
+    HasAtHead (list_bytes entry_bytes) (IsListed IsEntry) rest files after → IsRequest r bytes → after ≡ list_bytes part_bytes r.lines
 behind_files bytes words rest files after r b d is =
     (files_known files r.files after (list_bytes part_bytes r.lines) d.1 is.files (sym d.0 ∙ behind_words bytes words rest r b is)).1
 
 pub no_files : (bytes : Bytes) (words : List Bytes) (rest : Bytes) (r : PageRequest) →
-    Begins (list_bytes part_bytes) (IsListed IsTextPart) bytes words rest → BeginsNot (list_bytes entry_bytes) (IsListed IsEntry) rest →
+    HasAtHead (list_bytes part_bytes) (IsListed IsTextPart) bytes words rest → HasNoneAtHead (list_bytes entry_bytes) (IsListed IsEntry) rest →
     IsRequest r bytes → ⊥
 no_files bytes words rest r b none is = none r.files (list_bytes part_bytes r.lines) is.files (behind_words bytes words rest r b is)
 
 pub no_lines : (bytes : Bytes) (words : List Bytes) (rest : Bytes) (files : List (Name × Bytes)) (after : Bytes) (r : PageRequest) →
-    Begins (list_bytes part_bytes) (IsListed IsTextPart) bytes words rest →
-    Begins (list_bytes entry_bytes) (IsListed IsEntry) rest files after →
-    BeginsNot (list_bytes part_bytes) (IsListed IsPart) after → IsRequest r bytes → ⊥
+    HasAtHead (list_bytes part_bytes) (IsListed IsTextPart) bytes words rest →
+    HasAtHead (list_bytes entry_bytes) (IsListed IsEntry) rest files after →
+    HasNoneAtHead (list_bytes part_bytes) (IsListed IsPart) after → IsRequest r bytes → ⊥
 no_lines bytes words rest files after r b d none is =
     none r.lines [] is.lines (behind_files bytes words rest files after r b d is ∙ sym (append-nil (list_bytes part_bytes r.lines)))
 
 pub more_left : (bytes : Bytes) (words : List Bytes) (rest : Bytes) (files : List (Name × Bytes)) (after : Bytes) (lines : List Bytes)
     (left : Bytes) (r : PageRequest) →
-    Begins (list_bytes part_bytes) (IsListed IsTextPart) bytes words rest →
-    Begins (list_bytes entry_bytes) (IsListed IsEntry) rest files after →
-    Begins (list_bytes part_bytes) (IsListed IsPart) after lines left → 0 < length left → IsRequest r bytes → ⊥
+    HasAtHead (list_bytes part_bytes) (IsListed IsTextPart) bytes words rest →
+    HasAtHead (list_bytes entry_bytes) (IsListed IsEntry) rest files after →
+    HasAtHead (list_bytes part_bytes) (IsListed IsPart) after lines left → 0 < length left → IsRequest r bytes → ⊥
 more_left bytes words rest files after lines left r b d e some is =
     let none : left ≡ [] = (lines_known lines r.lines left [] e.1 is.lines (sym e.0
     ∙ (behind_files bytes words rest files after r b d is ∙ sym (append-nil (list_bytes part_bytes r.lines))))).1 in

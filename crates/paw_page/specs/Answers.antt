@@ -26,25 +26,25 @@ pub record AreProgramAnswers (answers : RoutineAnswers) : Type 0 where
 -- What the program does for these words, from what stands before to what stands after, and how it ends. Words of no
 -- form are answered by Usage, and then nothing changes; otherwise it comes as the meaning of their command says. Where
 -- memory may be lacking, that says too.
-pub record Does (words : Names) (old new : Standing) (o : Outcome) : Type 0 where
+pub record DoesAsked (words : Names) (old new : Standing) (o : Outcome) : Type 0 where
   pub usage : (o ≡ ending.Usage) ↔ (command_of words ≡ None)
   pub idle : command_of words ≡ None → new ≡ old
   pub memory : IfSome (command_of words) (λ c. IfMemory o (IsOneOf (meaning c).memory))
   pub comes : IfSome (command_of words) (λ c.
       (answers : RoutineAnswers) → AreProgramAnswers answers → (meaning c).comes answers old new o)
 
--- The bytes tell how the command of a request ends, the text that it shows, and the file that it leaves. No call of the
+-- The bytes say how the command of a request ends, the text that it shows, and the file that it leaves. No call of the
 -- stage failed.
 pub record IsReply (r : PageRequest) (reply : Bytes) : Type 0 where
   pub ends : Outcome
   pub after : Standing
-  pub does : Does r.words (standing_before r) after ends
+  pub does : DoesAsked r.words (standing_before r) after ends
   pub unhindered : IsUnhindered ends
   pub same : reply ≡ reply_bytes ends after.shown (file_left r.words after)
 
--- The answer to bytes: the reply to the request that they are; or 255, exactly where they are none; or 254, for want of
--- memory alone.
-pub data Answers (bytes reply : Bytes) : Type 0 where
-  replied : (r : PageRequest) → IsRequest r bytes → IsReply r reply → Answers bytes reply
-  no_request : ((r : PageRequest) → ¬ IsRequest r bytes) → reply ≡ 255 ∷ [] → Answers bytes reply
-  no_memory : reply ≡ 254 ∷ [] → Answers bytes reply
+-- The answer to bytes: the reply to the request that they are; or 255, exactly where they are none; or 254, where memory
+-- is lacking.
+pub data AnswersPage (bytes reply : Bytes) : Type 0 where
+  replied : (r : PageRequest) → IsRequest r bytes → IsReply r reply → AnswersPage bytes reply
+  no_request : ((r : PageRequest) → ¬ IsRequest r bytes) → reply ≡ 255 ∷ [] → AnswersPage bytes reply
+  no_memory : reply ≡ 254 ∷ [] → AnswersPage bytes reply

@@ -1,4 +1,4 @@
--- What a page is told of a command, and the bytes that tell it.
+-- What a page learns of a command, and the bytes that say it.
 use Rattle.std.specs.Prelude.{List, [], ◌∷◌, ◌++◌, Option, None, Some}
 use Rattle.paw_base.specs.Bytes.{Bytes, Text}
 use Rattle.paw_top.specs.Outcomes.{error_text, status_of}

@@ -48,7 +48,7 @@ IsTextPart bytes = IsPart bytes × IsUtf8 bytes
 abbrev pub IsEntry : Name × Bytes → Type 0
 IsEntry entry = IsTextPart entry.0 × IsPart entry.1
 
--- A list that can be told: of so many as 4 bytes hold, each of which can be told.
+-- A list that has such bytes: its number is one that 4 bytes hold, and each of it has such bytes.
 abbrev pub IsListed : {A : Type 0} → (A → Type 0) → List A → Type 0
 IsListed Is xs = IsNumber (length xs) × All Is xs
 

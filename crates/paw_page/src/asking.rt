@@ -4,15 +4,15 @@ ghost use Rattle.std.specs.Prelude.{◌≡◌, IsFalse, IfErr, IfOk, IfSome, map
 ghost use Rattle.paw_stage.specs.Disk.{IsStable};
 ghost use Rattle.paw_stage.specs.inner.Memory.{standing_of};
 ghost use Rattle.paw_top.specs.Completes.{IsUnhindered};
-ghost use Rattle.paw_page.specs.Answers.{Does, IsReply};
+ghost use Rattle.paw_page.specs.Answers.{DoesAsked, IsReply};
 ghost use Rattle.paw_page.specs.Request.{IsRequest, PageRequest};
 ghost use Rattle.paw_page.specs.declared.request.NoAnswer.TheVariants as no_answer;
 ghost use Rattle.paw_page.specs.inner.Read.{asked_by};
 
 use crate::reading::read_request;
 use crate::reply::reply_of;
-use crate::request::{NoAnswer, Request};
-use crate::stage::{file_left, stage_of};
+use crate::request::{HeldRequest, NoAnswer};
+use crate::stage::{file_left, laid_out};
 use paw_base::fault::NoRoom;
 use paw_routines::program::{ROUTINES, give};
 use paw_routines::routines::Routines;
@@ -35,7 +35,7 @@ fn has_failed(outcome: Outcome) -> bool
 // Does what the words ask for, with the program's routines, over a stage in memory at which nothing is unsynced.
 fn run(alloc: Global, stage: &mut MemoryStage, words: &[String]) -> Outcome
     requires synced { IsStable (standing_of stage.old).disk }
-    ensures does { Does (map string_bytes words.now) (standing_of stage.old) (standing_of stage.new) result }
+    ensures does { DoesAsked (map string_bytes words.now) (standing_of stage.old) (standing_of stage.new) result }
 {
     let routines = Routines::new(ROUTINES, give);
     paw(alloc, stage, &routines, words)
@@ -44,13 +44,13 @@ fn run(alloc: Global, stage: &mut MemoryStage, words: &[String]) -> Outcome
 // The reply to a request, done with this spare room; None where that is too little.
 fn attempt(
     alloc: Global,
-    request: &Request,
+    request: &HeldRequest,
     calls: u64,
     bytes: u64,
 ) -> Result<Option<Vec<u8>>, NoRoom>
     ensures reply { IfOk result (λ r. IfSome r (λ v. IsReply (asked_by request.now) v.items)) }
 {
-    let mut stage = match stage_of(alloc, request, calls, bytes) {
+    let mut stage = match laid_out(alloc, request, calls, bytes) {
         Ok(stage) => stage,
         Err(e) => return Err(e),
     };

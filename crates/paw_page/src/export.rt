@@ -2,7 +2,7 @@
 
 ghost use Rattle.std.specs.Prelude.{◌≡◌, ◌≤◌, ◌++◌, drop, length};
 ghost use Rattle.paw_base.specs.Bytes.{Bytes};
-ghost use Rattle.paw_page.specs.Answers.{Answers};
+ghost use Rattle.paw_page.specs.Answers.{AnswersPage};
 
 use crate::asking::answer;
 use crate::request::NoAnswer;
@@ -26,7 +26,7 @@ fn put_reply(reply: &[u8], room: &mut [u8]) -> u64
 /// Answers the bytes of a page: the length of the answer, whose bytes stand at the head of the room where they fit.
 #[unsafe(no_mangle)]
 pub extern "C" fn paw_page(alloc: Global, request: &[u8], room: &mut [u8]) -> u64
-    ensures answers { (reply : Bytes) × Answers request.now reply × (result ≡ length reply)
+    ensures answers { (reply : Bytes) × AnswersPage request.now reply × (result ≡ length reply)
         × (length reply ≤ length room.old → room.new ≡ reply ++ drop (length reply) room.old) }
 {
     match answer(alloc, request) {

@@ -5,17 +5,17 @@ ghost use Rattle.std.specs.Str.{IsUtf8};
 ghost use Rattle.paw_base.specs.Bytes.{Bytes};
 ghost use Rattle.paw_page.specs.Request.{number_bytes, part_bytes, IsNumber, IsPart, IsTextPart};
 ghost use Rattle.paw_page.specs.Request.{list_bytes, entry_bytes, IsEntry, IsListed, IsRequest, PageRequest};
-ghost use Rattle.paw_page.specs.inner.Heads.{Begins, BeginsNot};
+ghost use Rattle.paw_page.specs.inner.Heads.{HasAtHead, HasNoneAtHead};
 ghost use Rattle.paw_page.specs.inner.Read.{asked_by, entry_of};
 ghost use Rattle.paw_page.specs.declared.request.NoAnswer.TheVariants as no_answer;
 
-use crate::request::{NoAnswer, PageFile, Request};
+use crate::request::{HeldRequest, NoAnswer, PageFile};
 use paw_base::lists::Rows;
 use std::alloc::Global;
 
 // The number at the head of some bytes, and the bytes after it.
 fn number(bytes: &[u8]) -> Option<(u32, &[u8])>
-    ensures some { IfSome result (λ p. Begins number_bytes IsNumber bytes.now p.0 p.1.now) }
+    ensures some { IfSome result (λ p. HasAtHead number_bytes IsNumber bytes.now p.0 p.1.now) }
     ensures none { IfNone result (length bytes.now < 4) }
 {
     if bytes.len() < 4 {
@@ -27,8 +27,8 @@ fn number(bytes: &[u8]) -> Option<(u32, &[u8])>
 
 // The part at the head of some bytes, and the bytes after it.
 fn part(bytes: &[u8]) -> Option<(&[u8], &[u8])>
-    ensures some { IfSome result (λ p. Begins part_bytes IsPart bytes.now p.0.now p.1.now) }
-    ensures none { IfNone result (BeginsNot part_bytes IsPart bytes.now) }
+    ensures some { IfSome result (λ p. HasAtHead part_bytes IsPart bytes.now p.0.now p.1.now) }
+    ensures none { IfNone result (HasNoneAtHead part_bytes IsPart bytes.now) }
 {
     let (n, rest) = number(bytes)?;
     let n = n as usize;
@@ -51,8 +51,8 @@ fn text_of(alloc: Global, bytes: &[u8]) -> Result<String, NoAnswer>
 
 // The text at the head of some bytes, and the bytes after it.
 fn text(alloc: Global, bytes: &[u8]) -> Result<(String, &[u8]), NoAnswer>
-    ensures some { IfOk result (λ p. Begins part_bytes IsTextPart bytes.now (string_bytes p.0) p.1.now) }
-    ensures none { IfErr result (λ e. e ≡ no_answer.NoRequest → BeginsNot part_bytes IsTextPart bytes.now) }
+    ensures some { IfOk result (λ p. HasAtHead part_bytes IsTextPart bytes.now (string_bytes p.0) p.1.now) }
+    ensures none { IfErr result (λ e. e ≡ no_answer.NoRequest → HasNoneAtHead part_bytes IsTextPart bytes.now) }
 {
     let Some((head, rest)) = part(bytes) else {
         return Err(NoAnswer::NoRequest);
@@ -65,8 +65,8 @@ fn text(alloc: Global, bytes: &[u8]) -> Result<(String, &[u8]), NoAnswer>
 
 // The line at the head of some bytes, and the bytes after it.
 fn line(alloc: Global, bytes: &[u8]) -> Result<(Rows<u8>, &[u8]), NoAnswer>
-    ensures some { IfOk result (λ p. Begins part_bytes IsPart bytes.now p.0 p.1.now) }
-    ensures none { IfErr result (λ e. e ≡ no_answer.NoRequest → BeginsNot part_bytes IsPart bytes.now) }
+    ensures some { IfOk result (λ p. HasAtHead part_bytes IsPart bytes.now p.0 p.1.now) }
+    ensures none { IfErr result (λ e. e ≡ no_answer.NoRequest → HasNoneAtHead part_bytes IsPart bytes.now) }
 {
     let Some((head, rest)) = part(bytes) else {
         return Err(NoAnswer::NoRequest);
@@ -79,8 +79,8 @@ fn line(alloc: Global, bytes: &[u8]) -> Result<(Rows<u8>, &[u8]), NoAnswer>
 
 // The file at the head of some bytes, and the bytes after it.
 fn file(alloc: Global, bytes: &[u8]) -> Result<(PageFile, &[u8]), NoAnswer>
-    ensures some { IfOk result (λ p. Begins entry_bytes IsEntry bytes.now (entry_of p.0) p.1.now) }
-    ensures none { IfErr result (λ e. e ≡ no_answer.NoRequest → BeginsNot entry_bytes IsEntry bytes.now) }
+    ensures some { IfOk result (λ p. HasAtHead entry_bytes IsEntry bytes.now (entry_of p.0) p.1.now) }
+    ensures none { IfErr result (λ e. e ≡ no_answer.NoRequest → HasNoneAtHead entry_bytes IsEntry bytes.now) }
 {
     match text(alloc, bytes) {
         Ok((name, after)) => match line(alloc, after) {
@@ -99,8 +99,8 @@ fn read_words<'a>(
 ) -> Result<&'a [u8], NoAnswer>
     requires empty { words.old.items ≡ [] }
     ensures some { IfOk result (λ rest.
-        Begins (list_bytes part_bytes) (IsListed IsTextPart) bytes.now (map string_bytes words.new.items) rest.now) }
-    ensures none { IfErr result (λ e. e ≡ no_answer.NoRequest → BeginsNot (list_bytes part_bytes) (IsListed IsTextPart) bytes.now) }
+        HasAtHead (list_bytes part_bytes) (IsListed IsTextPart) bytes.now (map string_bytes words.new.items) rest.now) }
+    ensures none { IfErr result (λ e. e ≡ no_answer.NoRequest → HasNoneAtHead (list_bytes part_bytes) (IsListed IsTextPart) bytes.now) }
 {
     let Some((count, body)) = number(bytes) else {
         return Err(NoAnswer::NoRequest);
@@ -126,8 +126,8 @@ fn read_files<'a>(
 ) -> Result<&'a [u8], NoAnswer>
     requires empty { files.old.items ≡ [] }
     ensures some { IfOk result (λ rest.
-        Begins (list_bytes entry_bytes) (IsListed IsEntry) bytes.now (map entry_of files.new.items) rest.now) }
-    ensures none { IfErr result (λ e. e ≡ no_answer.NoRequest → BeginsNot (list_bytes entry_bytes) (IsListed IsEntry) bytes.now) }
+        HasAtHead (list_bytes entry_bytes) (IsListed IsEntry) bytes.now (map entry_of files.new.items) rest.now) }
+    ensures none { IfErr result (λ e. e ≡ no_answer.NoRequest → HasNoneAtHead (list_bytes entry_bytes) (IsListed IsEntry) bytes.now) }
 {
     let Some((count, body)) = number(bytes) else {
         return Err(NoAnswer::NoRequest);
@@ -153,8 +153,8 @@ fn read_lines<'a>(
 ) -> Result<&'a [u8], NoAnswer>
     requires empty { lines.old.items ≡ [] }
     ensures some { IfOk result (λ rest.
-        Begins (list_bytes part_bytes) (IsListed IsPart) bytes.now lines.new.items rest.now) }
-    ensures none { IfErr result (λ e. e ≡ no_answer.NoRequest → BeginsNot (list_bytes part_bytes) (IsListed IsPart) bytes.now) }
+        HasAtHead (list_bytes part_bytes) (IsListed IsPart) bytes.now lines.new.items rest.now) }
+    ensures none { IfErr result (λ e. e ≡ no_answer.NoRequest → HasNoneAtHead (list_bytes part_bytes) (IsListed IsPart) bytes.now) }
 {
     let Some((count, body)) = number(bytes) else {
         return Err(NoAnswer::NoRequest);
@@ -173,7 +173,7 @@ fn read_lines<'a>(
 }
 
 /// The request that these bytes are. They are none exactly where the answer is so, or memory is lacking.
-pub fn read_request(alloc: Global, bytes: &[u8]) -> Result<Request, NoAnswer>
+pub fn read_request(alloc: Global, bytes: &[u8]) -> Result<HeldRequest, NoAnswer>
     ensures some { IfOk result (λ r. IsRequest (asked_by r) bytes.now) }
     ensures none { IfErr result (λ e. e ≡ no_answer.NoRequest → (r : PageRequest) → ¬ (IsRequest r bytes.now)) }
 {
@@ -195,7 +195,7 @@ pub fn read_request(alloc: Global, bytes: &[u8]) -> Result<Request, NoAnswer>
     if after_lines.len() > 0 {
         return Err(NoAnswer::NoRequest);
     }
-    Ok(Request {
+    Ok(HeldRequest {
         words,
         files,
         lines,

@@ -9,7 +9,7 @@ use paw_base::fault::NoRoom;
 use paw_top::outcome::Outcome;
 use std::alloc::Global;
 
-// Puts a part behind what is there: its length, and its bytes.
+// Puts a part after what is there: its length, and its bytes.
 fn put_part(reply: &mut Vec<u8>, bytes: &[u8]) -> Result<(), NoRoom>
     ensures put { OnOk result (reply.new.items ≡ reply.old.items ++ part_bytes bytes.now) }
 {
@@ -21,7 +21,7 @@ fn put_part(reply: &mut Vec<u8>, bytes: &[u8]) -> Result<(), NoRoom>
     Ok(())
 }
 
-// Puts the file that is left behind what is there, where one is.
+// Puts the file that is left after what is there, where one is.
 fn put_left(reply: &mut Vec<u8>, left: &Option<Vec<u8>>) -> Result<(), NoRoom>
     ensures put { OnOk result (reply.new.items ≡ reply.old.items ++ left_bytes (option_map (λ v. v.items) left.now)) }
 {

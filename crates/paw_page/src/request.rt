@@ -11,7 +11,7 @@ pub struct PageFile {
 
 /// What a page asks for: the words of a command, the files that stand there, and the lines to be typed.
 #[derive(Drop)]
-pub struct Request {
+pub struct HeldRequest {
     pub words: Vec<String>,
     pub files: Vec<PageFile>,
     pub lines: Vec<Rows<u8>>,

@@ -5,9 +5,9 @@ ghost use Rattle.std.specs.Option.{option_map};
 ghost use Rattle.paw_stage.specs.inner.Memory.{standing_of};
 ghost use Rattle.paw_page.specs.Stands.{standing_before, file_left};
 ghost use Rattle.paw_page.specs.inner.Read.{asked_by, entry_of};
-ghost use Rattle.paw_page.specs.inner.Standing.{with_entries, with_lines};
+ghost use Rattle.paw_page.specs.inner.Standing.{with_entries, with_more_lines};
 
-use crate::request::{PageFile, Request};
+use crate::request::{HeldRequest, PageFile};
 use paw_base::fault::NoRoom;
 use paw_base::lists::Rows;
 use paw_stage::{LoadRefusal, MemoryStage, Stage};
@@ -27,9 +27,9 @@ fn add_files(stage: &mut MemoryStage, files: &[PageFile]) -> Result<(), NoRoom>
     Ok(())
 }
 
-// Puts lines there, behind those that are left.
+// Puts lines there, after those that are left.
 fn add_lines(alloc: Global, stage: &mut MemoryStage, lines: &[Rows<u8>]) -> Result<(), NoRoom>
-    ensures stands { OnOk result (standing_of stage.new ≡ with_lines lines.now (standing_of stage.old)) }
+    ensures stands { OnOk result (standing_of stage.new ≡ with_more_lines lines.now (standing_of stage.old)) }
 {
     for line in lines {
         match stage.add_line(alloc, line.rows.as_slice()) {
@@ -41,9 +41,9 @@ fn add_lines(alloc: Global, stage: &mut MemoryStage, lines: &[Rows<u8>]) -> Resu
 }
 
 /// A stage with the files and the lines of a request, and with spare room for these numbers of calls and bytes.
-pub fn stage_of(
+pub fn laid_out(
     alloc: Global,
-    request: &Request,
+    request: &HeldRequest,
     calls: u64,
     bytes: u64,
 ) -> Result<MemoryStage, NoRoom>

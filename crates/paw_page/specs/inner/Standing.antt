@@ -8,6 +8,6 @@ use Rattle.paw_page.specs.Stands.{with_entry}
 abbrev pub with_entries : List (Name × Bytes) → Standing → Standing
 with_entries entries s = record s { files = fold with_entry s.files entries }
 
--- What stands once these lines are left too, behind the others.
-abbrev pub with_lines : Lines → Standing → Standing
-with_lines lines s = record s { lines = s.lines ++ lines }
+-- What stands once these lines are left too, after the others.
+abbrev pub with_more_lines : Lines → Standing → Standing
+with_more_lines lines s = record s { lines = s.lines ++ lines }

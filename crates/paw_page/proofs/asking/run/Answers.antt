@@ -16,7 +16,7 @@ returns c = record {
     memory = c.paw.ensures.memory;
     comes = if_some _ _ (command_of (map string_bytes c.args.words.now))
         (λ command h answers are. h answers (c.new-routines.ensures.answers answers
-            (program_stands _ _ answers are (λ n x below small. tt) (λ n x y below small byte called. search rules))))
+        (program_stands _ _ answers are (λ n x below small. tt) (λ n x y below small byte called. search rules))))
         (c.paw.ensures.comes tt);
   };
 }
