@@ -5,6 +5,7 @@ import re
 import unicodedata
 
 import paws
+from letters import UNKNOWN, letter_as_plain
 
 TEXT_LIMIT = 4095
 HEADERS = paws.HEADERS + ["/PRO"]
@@ -356,13 +357,10 @@ class Reading:
             return "a control character (byte 0x%02X) may not stand here: take it out." % byte
         found = self.character(at).encode("latin-1")
         char = found.decode("utf-8") if len(found) > 1 else found.decode("latin-1")
-        plain = {"\u2018": "'", "\u2019": "'", "\u201c": '"', "\u201d": '"', "\u2013": "-", "\u2014": "-", "\u2026": "...",
-                 "\u00a0": " ", "\u00df": "ss", "\ufeff": ""}.get(char)
-        if plain is None:
-            plain = unicodedata.normalize("NFKD", char).encode("ascii", "ignore").decode()
+        plain = letter_as_plain(char)
         name = unicodedata.name(char, "").lower()
         return "a source has plain ASCII only, and here is byte 0x%02X%s%s." % (
-            byte, " (%s)" % name if name else "", ": write %s" % plain if plain.strip() else ": take it out")
+            byte, " (%s)" % name if name else "", ": write %s" % plain if plain.strip(" " + UNKNOWN) else ": take it out")
 
     def text_line(self):
         before = self.length
