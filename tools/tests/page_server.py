@@ -54,7 +54,12 @@ class Handler(http.server.SimpleHTTPRequestHandler):
     protocol_version = "HTTP/1.1"
     extensions_map = {**http.server.SimpleHTTPRequestHandler.extensions_map, ".wasm": "application/wasm", ".js": "text/javascript"}
 
+    def do_GET(self):
+        self.server.asked.append(self.path)
+        super().do_GET()
+
     def do_POST(self):
+        self.server.asked.append(self.path)
         request = self.rfile.read(int(self.headers["Content-Length"]))
         reply = answer(self.server.paw, request)
         self.send_response(200)
@@ -66,11 +71,18 @@ class Handler(http.server.SimpleHTTPRequestHandler):
         """Says nothing."""
 
 
+class Server(http.server.ThreadingHTTPServer):
+    daemon_threads = True
+
+    def handle_error(self, *_):
+        """A browser that goes away in the middle is none."""
+
+
 def begun(folder):
-    """A server of a folder; its address is http://127.0.0.1:PORT/."""
+    """A server of a folder, at the port that it has in server_address; asked are the paths that it was asked for."""
     def handler(*words):
         return Handler(*words, directory=folder)
-    server = http.server.ThreadingHTTPServer(("127.0.0.1", 0), handler)
-    server.paw, server.daemon_threads = paws.program(), True
+    server = Server(("127.0.0.1", 0), handler)
+    server.paw, server.asked = paws.program(), []
     threading.Thread(target=server.serve_forever, daemon=True).start()
     return server
