@@ -1,4 +1,4 @@
-use Rattle.std.proofs.Common.{[], ◌∷◌, refl, sym, subst}
+use Rattle.std.proofs.Common.{[], ◌∷◌, refl, rules, sym, subst}
 use Rattle.paw_base.specs.Bytes.{Bytes}
 use Rattle.paw_page.specs.Answers.{IsReply, no_memory, no_request, replied}
 use Rattle.paw_page.proofs.export.paw_page.Goals as goal
@@ -14,7 +14,7 @@ pub returns-in-Err-NoRequest : goal.returns-in-Err-NoRequest
 returns-in-Err-NoRequest c = record {
   answers = (
     255 ∷ [],
-    no_request (c.in-Err-NoRequest.ensures.none refl) refl,
+    no_request (c.in-Err-NoRequest.ensures.none (search rules)) refl,
     c.put_reply-in-Err-NoRequest.ensures.len,
     c.put_reply-in-Err-NoRequest.ensures.put,
   );
