@@ -161,15 +161,15 @@ fn the_listed_calls_fail(rt: HostRuntime) -> Result<(), Fail> {
 }
 
 /// Calls over real files, and what they answer. A file is named through its folder, and a path through the file itself
-/// isn't a missing name.
+/// isn't a missing name. What was loaded isn't saved over.
 static OF_REAL_FILES: [(Call<'static>, &[u8]); 12] = [
     (Call::Load("./paw_stage_no_such_file", 9), b"ABSENT"),
     (Call::Save("./paw_stage_test", b"abcdef"), b"DONE"),
     (Call::Load("paw_stage_test", 0), b"a"),
     (Call::Load("paw_stage_test", 4), b"abcde"),
     (Call::Load("paw_stage_test", 9), b"abcdef"),
-    (Call::Save("paw_stage_test", b""), b"DONE"),
-    (Call::Load("paw_stage_test", 9), b""),
+    (Call::Save("paw_stage_test", b""), b"FAILED"),
+    (Call::Load("paw_stage_test", 9), b"abcdef"),
     (Call::Load("paw_stage_test/game", 9), b"FAILED"),
     (Call::Save("paw_stage_test/game", b"x"), b"FAILED"),
     (Call::Load(".", 9), b"FAILED"),

@@ -110,11 +110,11 @@ static OF_FILES: [(Call<'static>, &[u8]); 33] = [
     (Call::Attach("paw_stage_store"), &[7]),
     (Call::Read(0, 1), b"a"),
     (Call::Load("paw_stage_store"), b"abcdXYZ"),
-    (Call::Save("paw_stage_store", b"new"), b"DONE"),
-    (Call::Read(0, 3), b"new"),
+    (Call::Save("paw_stage_store", b"new"), b"FAILED"),
+    (Call::Read(0, 3), b"abc"),
     (Call::Write(3, b"er"), b"DONE"),
-    (Call::Load("paw_stage_store"), b"newer"),
-    (Call::Read(0, 6), b"FAILED"),
+    (Call::Load("paw_stage_store"), b"abcerYZ"),
+    (Call::Read(0, 8), b"FAILED"),
     (Call::Load("paw_stage_other"), b"other"),
 ];
 
@@ -194,16 +194,17 @@ fn remove_links(files: &impl Files) -> io::Result<()> {
     fs::remove_dir(files, "paw_stage_folder")
 }
 
-/// Calls over links and what they lead to, and what they answer.
-static OF_LINKS: [(Call<'static>, &[u8]); 9] = [
+/// Calls over links and what they lead to, and what they answer. A store isn't saved over until it is let go.
+static OF_LINKS: [(Call<'static>, &[u8]); 10] = [
     (Call::Attach("paw_stage_link"), &[0]),
     (Call::Write(0, b"abc"), b"DONE"),
     (Call::Sync, b"DONE"),
     (Call::Attach("paw_stage_folder/store"), &[3]),
     (Call::Attach("paw_stage_link"), &[3]),
+    (Call::Save("paw_stage_link", b"longer"), b"FAILED"),
+    (Call::Attach("paw_stage_dead"), b"FAILED"),
     (Call::Save("paw_stage_link", b"longer"), b"DONE"),
     (Call::Load("paw_stage_folder/store"), b"longer"),
-    (Call::Attach("paw_stage_dead"), b"FAILED"),
     (Call::Save("paw_stage_dead", b"x"), b"FAILED"),
 ];
 
@@ -221,25 +222,25 @@ fn a_link_is_the_file_that_it_leads_to(rt: HostRuntime) -> Result<(), Fail> {
 fn save_and_load<R: Files<File = File> + Input + Print + Alloc + Drop>(
     rt: &impl Abort,
     alloc: Global,
-    stage: &mut RealStage<R>,
+    mut stage: RealStage<R>,
     text: &[u8],
 ) -> Result<(), Fail> {
     let calls = [
         (Call::Save("paw_stage_saved", text), b"DONE".as_slice()),
         (Call::Load("paw_stage_saved"), text),
     ];
-    answers(rt, alloc, stage, &calls)
+    answers(rt, alloc, &mut stage, &calls)
 }
 
-/// Texts over a shorter file, one of the same length, a longer one and an empty one.
+/// Texts that are saved in turn, each by a stage of its own: over a shorter file, one of the same length, a longer one and an empty one.
 static SAVED: [&[u8]; 7] = [b"ab", b"abcdef", b"ABCDEF", b"xyz", b"", b"", b"end"];
 
 #[test]
 fn a_file_holds_what_was_saved_last(rt: HostRuntime) -> Result<(), Fail> {
-    let mut stage = RealStage::new(&rt);
     for &text in &SAVED {
-        save_and_load(&rt, rt.alloc(), &mut stage, text)?;
+        save_and_load(&rt, rt.alloc(), RealStage::new(&rt), text)?;
     }
+    let mut stage = RealStage::new(&rt);
     let full: [(Call<'_>, &[u8]); 1] = [(Call::Save("/dev/full", b"x"), b"FAILED")];
     answers(&rt, rt.alloc(), &mut stage, &full)?;
     fs::remove_file(&rt, "paw_stage_saved")?;
