@@ -12,6 +12,7 @@ use Rattle.paw_top.specs.Commands.{command_of, meaning}
 use Rattle.paw_top.specs.Completes.{IsUnhindered}
 use Rattle.paw_top.specs.declared.outcome.Outcome.{Outcome}
 use Rattle.paw_top.specs.declared.outcome.Outcome.TheVariants as ending
+use Rattle.paw_page.specs.declared.export.TheConstants.{NO_REQUEST, NO_MEMORY}
 use Rattle.paw_page.specs.Request.{IsRequest, PageRequest}
 use Rattle.paw_page.specs.Reply.{reply_bytes}
 use Rattle.paw_page.specs.Stands.{file_left, standing_before}
@@ -46,5 +47,5 @@ pub record IsReply (r : PageRequest) (reply : Bytes) : Type 0 where
 -- is lacking.
 pub data AnswersPage (bytes reply : Bytes) : Type 0 where
   replied : (r : PageRequest) → IsRequest r bytes → IsReply r reply → AnswersPage bytes reply
-  no_request : ((r : PageRequest) → ¬ IsRequest r bytes) → reply ≡ 255 ∷ [] → AnswersPage bytes reply
-  no_memory : reply ≡ 254 ∷ [] → AnswersPage bytes reply
+  no_request : ((r : PageRequest) → ¬ IsRequest r bytes) → reply ≡ NO_REQUEST ∷ [] → AnswersPage bytes reply
+  no_memory : reply ≡ NO_MEMORY ∷ [] → AnswersPage bytes reply

@@ -8,9 +8,11 @@ use crate::asking::answer;
 use crate::request::NoAnswer;
 use std::alloc::Global;
 
-const NO_REQUEST: u8 = 255;
+/// What answers bytes that are no request.
+pub const NO_REQUEST: u8 = 255;
 
-const NO_MEMORY: u8 = 254;
+/// What answers a request for which memory is lacking.
+pub const NO_MEMORY: u8 = 254;
 
 // Writes a reply to the head of some room, where it fits there. Its length.
 fn put_reply(reply: &[u8], room: &mut [u8]) -> u64

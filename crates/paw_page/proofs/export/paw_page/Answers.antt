@@ -1,6 +1,7 @@
 use Rattle.std.proofs.Common.{[], ◌∷◌, refl, sym, subst}
 use Rattle.paw_base.specs.Bytes.{Bytes}
 use Rattle.paw_page.specs.Answers.{IsReply, no_memory, no_request, replied}
+use Rattle.paw_page.specs.declared.export.TheConstants.{NO_REQUEST, NO_MEMORY}
 use Rattle.paw_page.proofs.export.paw_page.Goals as goal
 
 pub returns-in-Ok : goal.returns-in-Ok
@@ -13,7 +14,7 @@ returns-in-Ok c =
 pub returns-in-Err-NoRequest : goal.returns-in-Err-NoRequest
 returns-in-Err-NoRequest c = record {
   answers = (
-    255 ∷ [],
+    NO_REQUEST ∷ [],
     no_request (c.in-Err-NoRequest.ensures.none c.in-Err-NoRequest.field-0-is) refl,
     c.put_reply-in-Err-NoRequest.ensures.len,
     c.put_reply-in-Err-NoRequest.ensures.put,
@@ -22,5 +23,5 @@ returns-in-Err-NoRequest c = record {
 
 pub returns-in-Err-Memory : goal.returns-in-Err-Memory
 returns-in-Err-Memory c = record {
-  answers = (254 ∷ [], no_memory refl, c.put_reply-in-Err-Memory.ensures.len, c.put_reply-in-Err-Memory.ensures.put);
+  answers = (NO_MEMORY ∷ [], no_memory refl, c.put_reply-in-Err-Memory.ensures.len, c.put_reply-in-Err-Memory.ensures.put);
 }
