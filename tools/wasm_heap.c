@@ -37,8 +37,6 @@ static Block **list_of(number size) { return &free_blocks[bits_of(size) * 4 + (s
 
 static Block *block_at(void *bytes) { return (Block *)((unsigned char *)bytes - HEAD); }
 
-static int is_last(Block *block) { return (number)block + HEAD + block->size == end; }
-
 // Whether memory reaches up to an address, once it has grown.
 static int reaches(number to) {
     number have = __builtin_wasm_memory_size(0) * PAGE;
