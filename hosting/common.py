@@ -17,6 +17,7 @@ import zlib
 
 TOP = os.path.dirname(os.path.dirname(os.path.abspath(__file__)))
 sys.path.insert(0, os.path.join(TOP, "tools"))
+import letters  # noqa: E402
 import paws  # noqa: E402
 import sessions  # noqa: E402
 

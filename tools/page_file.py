@@ -19,6 +19,7 @@ import zlib
 import letters
 import marks
 import paws
+import signals
 
 FOLDER = os.path.join(paws.TOP, "page")
 SCRIPTS = ["engine.js", "store.js", "game.js", "play.js"]  # one behind the other they are the script of a page
@@ -47,15 +48,14 @@ def is_media(line):
 def media_of(path):
     """What an about file gives for marks, and the cover: of each its kind, its bytes as an address, and what is said of it."""
     found = {}
-    with open(path, encoding="utf-8") as file:
-        for number, line in enumerate(file, 1):
-            match = MEDIA.match(line.strip())
-            if match:
-                name, value = match.group(1).lower(), match.group(2).strip()
-                place = "%s:%d" % (path, number)
-                if name in found:
-                    raise Wrong("%s: %s stands there twice" % (place, name))
-                found[name] = medium(name, value, os.path.dirname(path), place)
+    for number, line in enumerate(paws.bytes_of(path, MOST).decode("utf-8", "replace").split("\n"), 1):
+        match = MEDIA.match(line.strip())
+        if match:
+            name, value = match.group(1).lower(), match.group(2).strip()
+            place = "%s:%d" % (path, number)
+            if name in found:
+                raise Wrong("%s: %s stands there twice" % (place, name))
+            found[name] = medium(name, value, os.path.dirname(path), place)
     return found
 
 
@@ -71,11 +71,8 @@ def medium(name, value, folder, place):
     path = os.path.join(folder, file)
     if not os.path.isfile(path):
         raise Wrong("%s: there is no file %s" % (place, path))
-    with open(path, "rb") as opened:
-        data = opened.read(MOST + 1)
-    if len(data) > MOST:
-        raise Wrong("%s: %s has more than %d bytes" % (place, path, MOST))
-    return {"is": "sound" if kinds is SOUNDS else "picture", "data": "data:%s;base64,%s" % (kind, as_text(data)), "tells": told.strip()}
+    data = "data:%s;base64,%s" % (kind, as_text(paws.bytes_of(path, MOST)))
+    return {"is": "sound" if kinds is SOUNDS else "picture", "data": data, "tells": told.strip()}
 
 
 def mark_of(name):
@@ -110,14 +107,13 @@ def module():
     named = os.environ.get("PAWWASM")
     for path in [named] if named else MODULES:
         if os.path.isfile(path):
-            with open(path, "rb") as file:
-                return file.read()
+            return paws.bytes_of(path, MOST)
     raise Wrong("%s is missing: a page has the program in it, as WebAssembly" % (named or MODULES[0]))
 
 
 def has_score(paw, image):
     """Whether a game counts a score: a condact shows it, or names its flag."""
-    with tempfile.TemporaryDirectory() as room:
+    with signals.room() as room:
         path = os.path.join(room, "image")
         with open(path, "wb") as file:
             file.write(image)
