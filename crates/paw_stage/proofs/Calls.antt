@@ -69,7 +69,7 @@ left_inside kind.Add name bytes l s m (inr e) = inr (ap (with_lines l) e)
 left_inside kind.Load name bytes l s m e = ap (with_lines l) e
 left_inside kind.Save name bytes l s m (inl e) = inl (ap (with_lines l) e)
 left_inside kind.Save name bytes l s m (inr h) =
-    inr (h.0, record { disk = h.1.disk; apart = h.1.apart; store = h.1.store; stands = ap (with_lines l) h.1.stands })
+    inr (h.0, record { disk = h.1.disk; apart = h.1.apart; store = h.1.store; stays = h.1.stays; stands = ap (with_lines l) h.1.stands })
 left_inside kind.Attach name bytes l s m (inl e) = inl (ap (with_lines l) e)
 left_inside kind.Attach name bytes l s m (inr (inl e)) = inr (inl (ap (with_lines l) e))
 left_inside kind.Attach name bytes l s m (inr (inr e)) = inr (inr (ap (with_lines l) e))

@@ -1,24 +1,24 @@
--- What calls leave of a store: its lengths lie in order, and each pick of a crash is among what a crash may leave.
+-- What calls leave of a store: it may stay as it is, and each pick of a crash is among what a crash may leave.
 use Rattle.std.proofs.Common.{◌≡◌, ℕ, zero, suc, ◌+◌, ◌-◌, ◌≤◌, ◌<◌, Bool, true, false, List, [], ◌∷◌, length, min, max}
 use Rattle.std.proofs.Common.{refl, sym, ap, ◌∙◌, arith, slice_index}
 use Rattle.std.specs.Prelude.{nat_le, nat_lt, ◌&&◌, ◌||◌, ◌==◌, if◌then◌else◌}
 use Rattle.std.proofs.lemmas.Bool.Decides.{nat_tests}
 use Rattle.paw_base.specs.Bytes.{Bytes}
-use Rattle.paw_stage.specs.Disk.{Disk, Range, is_dirty, MayLeave, put_at, disk_written, stable}
+use Rattle.paw_stage.specs.Disk.{Disk, Range, is_dirty, MayLeave, MayStay, disk_written, stable}
 use Rattle.paw_stage.specs.Stage.{Standing, bytes_or_none}
 use Rattle.paw_stage.specs.inner.Done.{DoneCall, standing_after, after_call_of, fresh, after, is_attached}
 use Rattle.paw_stage.specs.inner.Crash.{spoiled_if, bytes_spoiled, bytes_after_crash}
 use Rattle.paw_stage.specs.declared.log.CallKind.{CallKind}
 use Rattle.paw_stage.specs.declared.log.CallKind.TheVariants as kind
-use Rattle.paw_stage.proofs.Writes.{length-put, index-put}
+use Rattle.paw_stage.specs.inner.Staying.{stable_stays, written_stays}
+use Rattle.paw_stage.proofs.Writes.{index-put}
 
 pub record IsDisk (d : Disk) : Type 0 where
-  pub low : length d.synced ≤ length d.bytes
-  pub high : length d.bytes ≤ d.longest
+  pub stays : MayStay d
   pub same : (i : ℕ) → i < length d.synced → is_dirty d.dirty i ≡ false → slice_index d.synced i ≡ slice_index d.bytes i
 
 stable_is : (bytes : Bytes) → IsDisk (stable bytes)
-stable_is bytes = record { low = omega arith; high = omega arith; same = λ i l c. refl }
+stable_is bytes = record { stays = stable_stays bytes; same = λ i l c. refl }
 
 either_is : (b : Bool) (x y : Disk) → IsDisk x → IsDisk y → IsDisk (if b then x else y)
 either_is true x y h k = h
@@ -37,15 +37,13 @@ outside at n len i h low = grind (arith, nat_tests)
 
 written_is : (d : Disk) (at : ℕ) (bytes : Bytes) → IsDisk d → IsDisk (disk_written at (length bytes) bytes d)
 written_is d at bytes h =
-    let n : length (put_at at bytes d.bytes) ≡ max (length d.bytes) (min at (length d.bytes) + length bytes) = length-put at bytes d.bytes in
     record {
-      low = omega (arith, n, h.low);
-      high = omega (arith, n, h.high);
+      stays = written_stays at (length bytes) bytes d (omega arith) h.stays;
       same = λ i low clean.
           let t : (nat_le (min at (length d.bytes)) i && nat_lt i (min at (length d.bytes) + length bytes)) ≡ false =
           outside at (length bytes) (length d.bytes) i
           (or_left (nat_le at i && nat_lt i (at + length bytes)) (is_dirty d.dirty i) clean)
-          (omega (arith, h.low, low)) in
+          (omega (arith, h.stays.no_shorter, low)) in
           h.same i low (or_right (nat_le at i && nat_lt i (at + length bytes)) (is_dirty d.dirty i) clean)
           ∙ sym (index-put at bytes d.bytes i ∙ ap (λ b. if b then slice_index bytes (i - min at (length d.bytes)) else slice_index d.bytes i) t);
     }
@@ -73,10 +71,10 @@ after_disk ds = later_disk fresh ds (stable_is [])
 pub synced_leaves : (d : Disk) → IsDisk d → (image : Bytes) → MayLeave (stable d.bytes) image → MayLeave d image
 synced_leaves d h image l =
     record {
-      no_shorter = omega (arith, h.low, l.no_shorter);
-      no_longer = omega (arith, h.high, l.no_longer);
+      no_shorter = omega (arith, h.stays.no_shorter, l.no_shorter);
+      no_longer = omega (arith, h.stays.no_longer, l.no_longer);
       clean =
-          λ i low clean. l.clean i (omega (arith, h.low, low)) refl;
+          λ i low clean. l.clean i (omega (arith, h.stays.no_shorter, low)) refl;
     }
 
 pub length-spoiled : (dirty : List Range) (k : ℕ) (xs : Bytes) → length (bytes_spoiled dirty k xs) ≡ length xs
@@ -91,14 +89,14 @@ index-spoiled dirty k (x ∷ xs) (suc i) h =
     let e : k + 1 + i ≡ k + suc i = omega arith in index-spoiled dirty (k + 1) xs i (omega arith) ∙ ap (λ j. spoiled_if (is_dirty dirty j) (slice_index xs i)) e
 
 leaves : (a b : Bool) (d : Disk) → IsDisk d → MayLeave d (if a then d.synced else if b then d.bytes else bytes_spoiled d.dirty 0 d.bytes)
-leaves true b d h = record { no_shorter = omega arith; no_longer = omega (arith, h.low, h.high); clean = λ i low c. h.same i low c }
-leaves false true d h = record { no_shorter = h.low; no_longer = h.high; clean = λ i low c. refl }
+leaves true b d h = record { no_shorter = omega arith; no_longer = omega (arith, h.stays.no_shorter, h.stays.no_longer); clean = λ i low c. h.same i low c }
+leaves false true d h = h.stays
 leaves false false d h =
     let n : length (bytes_spoiled d.dirty 0 d.bytes) ≡ length d.bytes = length-spoiled d.dirty 0 d.bytes in
     record {
-      no_shorter = omega (arith, n, h.low);
-      no_longer = omega (arith, n, h.high);
-      clean = λ i low c. index-spoiled d.dirty 0 d.bytes i (omega (arith, h.low, low))
+      no_shorter = omega (arith, n, h.stays.no_shorter);
+      no_longer = omega (arith, n, h.stays.no_longer);
+      clean = λ i low c. index-spoiled d.dirty 0 d.bytes i (omega (arith, h.stays.no_shorter, low))
           ∙ ap (λ b. spoiled_if b (slice_index d.bytes i)) (ap (is_dirty d.dirty) (zero_plus i) ∙ c);
     }
   where

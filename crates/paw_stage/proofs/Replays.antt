@@ -7,11 +7,12 @@ use Rattle.std.specs.Str.{bytes_eq}
 use Rattle.std.proofs.lemmas.Slice.Eq.{bytes_eq-Decides}
 use Rattle.std.proofs.Math.Seq.{take-length}
 use Rattle.paw_base.specs.Bytes.{Bytes, Name}
-use Rattle.paw_stage.specs.Disk.{Disk, disk_written, stable}
+use Rattle.paw_stage.specs.Disk.{Disk, MayStay, disk_written, stable}
 use Rattle.paw_stage.specs.Stage.{Standing, Saves, bytes_or_none}
 use Rattle.paw_stage.specs.Moments.{Passes}
 use Rattle.paw_stage.specs.inner.Done.{DoneCall, fresh, standing_after, after_call_of, after, is_attached, file_replaced}
 use Rattle.paw_stage.specs.inner.Replay.{MayStand, StandsInside, StoodInside, since_of}
+use Rattle.paw_stage.specs.inner.Staying.{stable_stays, either_stays, after_stays}
 use Rattle.paw_stage.specs.declared.log.CallKind.{CallKind}
 use Rattle.paw_stage.specs.declared.log.CallKind.TheVariants as kind
 use Rattle.paw_stage.proofs.Logs.{after-push}
@@ -41,28 +42,31 @@ not_attached (Some n) name x y ne = other (bytes_eq n name) (λ e. ne (ap Some (
 attached_yes : (a : Option Name) (name : Name) (x y : Disk) → a ≡ Some name → (if is_attached a name then x else y) ≡ x
 attached_yes a name x y e = ap (λ o. if is_attached o name then x else y) e ∙ ap (λ b. if b then x else y) ((bytes_eq-Decides name name).1 refl)
 
-pub saves : (s new : Standing) (name : Name) (bytes : Option Bytes) → new ≡ file_replaced name bytes s → Saves s new name bytes
-saves s new name bytes e =
+pub saves : (s new : Standing) (name : Name) (bytes : Option Bytes) → MayStay s.disk → new ≡ file_replaced name bytes s →
+    Saves s new name bytes
+saves s new name bytes h e =
     record {
       disk = (file_replaced name bytes s).disk;
       apart = λ ne. not_attached s.attached name (stable (bytes_or_none bytes)) s.disk ne;
-      store = λ h. ap (λ d. d.bytes) (attached_yes s.attached name (stable (bytes_or_none bytes)) s.disk h);
+      store = λ is. ap (λ d. d.bytes) (attached_yes s.attached name (stable (bytes_or_none bytes)) s.disk is);
+      stays = either_stays (is_attached s.attached name) (stable (bytes_or_none bytes)) s.disk (stable_stays (bytes_or_none bytes)) h;
       stands = e;
     }
 
 -- What stands after a call is inside it.
-ends : (k : CallKind) (name bytes : Bytes) (s m : Standing) → m ≡ after_call_of k name bytes s → MayStand k name bytes s m
-ends kind.Add name bytes s m e = inr e
-ends kind.Load name bytes s m e = e
-ends kind.Save name bytes s m e = inr (Some bytes, saves s m name (Some bytes) e)
-ends kind.Attach name bytes s m e = inr (inr e)
-ends kind.Read name bytes s m e = e
-ends (kind.Write at) name bytes s m e =
+ends : (k : CallKind) (name bytes : Bytes) (s m : Standing) → MayStay s.disk → m ≡ after_call_of k name bytes s →
+    MayStand k name bytes s m
+ends kind.Add name bytes s m h e = inr e
+ends kind.Load name bytes s m h e = e
+ends kind.Save name bytes s m h e = inr (Some bytes, saves s m name (Some bytes) h e)
+ends kind.Attach name bytes s m h e = inr (inr e)
+ends kind.Read name bytes s m h e = e
+ends (kind.Write at) name bytes s m h e =
     inr (disk_written at (length bytes) bytes s.disk, length bytes, inr (bytes, omega arith, refl), omega arith, e)
-ends kind.Sync name bytes s m e = inr e
-ends kind.Take name bytes s m e = inr e
-ends kind.End name bytes s m e = e
-ends kind.Show name bytes s m e = (length bytes, e ∙ ap (λ t. record s { shown = s.shown ++ t }) (sym (take-length bytes)))
+ends kind.Sync name bytes s m h e = inr e
+ends kind.Take name bytes s m h e = inr e
+ends kind.End name bytes s m h e = e
+ends kind.Show name bytes s m h e = (length bytes, e ∙ ap (λ t. record s { shown = s.shown ++ t }) (sym (take-length bytes)))
 
 split : (s : Standing) (ds : List DoneCall) (d : DoneCall) (m : Standing) → StoodInside s (ds ++ d ∷ []) m → StoodInside s ds m ⊎ StandsInside (after s ds) d m
 split s [] d m (inl h) = inr h
@@ -105,7 +109,7 @@ passes ds d =
       later = omega (arith, length-append ds (d ∷ []));
       nothing_else = λ t m low h. elim h [
         | inl k ↦
-            let j = ends d.kind d.name d.bytes (after fresh ds) m (subst (λ s. m ≡ s) (after-push fresh ds d) k) in
+            let j = ends d.kind d.name d.bytes (after fresh ds) m (after_stays ds) (subst (λ s. m ≡ s) (after-push fresh ds d) k) in
             inr (since_each ds d m j, j)
         | inr k ↦ let q = take_push t ds d low in
             elim (split (after fresh (take t ds)) (drop t ds) d m

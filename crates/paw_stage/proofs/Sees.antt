@@ -12,7 +12,8 @@ use Rattle.paw_stage.specs.inner.Done.{is_attached}
 use Rattle.paw_stage.specs.inner.Seen.{Sees, IsFiled, laid_over}
 use Rattle.paw_stage.specs.declared.replay.Seen.{Seen}
 use Rattle.paw_stage.proofs.Names.{holds_same}
-use Rattle.paw_stage.proofs.Writes.{length-put, index-put, where_is, laid_before, laid_in, laid_behind}
+use Rattle.paw_stage.specs.inner.Staying.{length-put}
+use Rattle.paw_stage.proofs.Writes.{index-put, where_is, laid_before, laid_in, laid_behind}
 
 attached_is : (a : Option Name) (name : Name) → is_attached a name ≡ true → a ≡ Some name
 attached_is None name h = cc

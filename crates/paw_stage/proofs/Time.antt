@@ -1,7 +1,9 @@
 -- The moments of calls that follow each other.
-use Rattle.std.proofs.Common.{◌≡◌, ℕ, inl, inr, sym, ◌∙◌, arith}
+use Rattle.std.proofs.Common.{◌≡◌, ◌⊎◌, ℕ, ◌≤◌, inl, inr, sym, ◌∙◌, subst, arith}
 use Rattle.paw_stage.specs.Stage.{Standing}
 use Rattle.paw_stage.specs.Moments.{Passes}
+use Rattle.paw_stage.specs.AcrossCalls.{EachMoment, InTwoParts, first_alone, both}
+use Rattle.paw_stage.specs.declared.Stage.{Ghosts}
 
 -- A weaker statement of what stands inside a call.
 pub Passes_map : (b n : ℕ) (past since : ℕ → Standing → Type 0) (P Q : Standing → Type 0) → Passes b n past since P →
@@ -44,3 +46,25 @@ Passes_image b n past since P f g same h = record {
   ];
   stays = λ t x low old. (old.0, h.stays t old.0 low old.1, old.2 ∙ sym (same old.0));
 }
+
+-- ---- what stands now ----
+
+module _ {S : Type 0} (g : Ghosts S) (only : (s : S) (m : Standing) → g.Tells s → g.since s (g.clock s) m → m ≡ g.standing s)
+    (counts : (s : S) (t : ℕ) → g.Tells s → t ≤ g.clock s → g.since s t (g.standing s)) (old new : S) (now : g.Tells new)
+  where
+    -- What stands after calls stood before them, or at a moment inside them.
+    pub now_inside : (Inside : Standing → Type 0) → g.Tells old → EachMoment g old new Inside →
+        (g.standing new ≡ g.standing old) ⊎ Inside (g.standing new)
+    now_inside Inside tells h = elim (h.nothing_else (g.clock old) (g.standing new) (omega arith) (counts new (g.clock old) now h.later)) [
+      | inl past ↦ inl (only old (g.standing new) tells past)
+      | inr inside ↦ inr inside.1
+    ]
+
+    -- Of calls in two parts it is a moment of the first, or of the second.
+    pub now_in_parts : (Before After : Standing → Type 0) → g.Tells old → Before (g.standing old) → InTwoParts g old new Before After →
+        Before (g.standing new) ⊎ After (g.standing new)
+    now_in_parts Before After tells first (first_alone h) = elim (now_inside Before tells h) [
+      | inl same ↦ inl (subst Before (sym same) first)
+      | inr inside ↦ inl inside
+    ]
+    now_in_parts Before After tells first (both mid early late after h) = inr (after (g.standing new) (counts new mid now late))

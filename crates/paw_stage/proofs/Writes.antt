@@ -11,14 +11,7 @@ use Rattle.paw_base.specs.Bytes.{Bytes}
 use Rattle.paw_stage.specs.inner.Crash.{spoiled_if}
 use Rattle.paw_stage.specs.Disk.{put_at}
 use Rattle.paw_stage.specs.inner.Seen.{laid_over}
-
-pub length-put : (at : ℕ) (new old : Bytes) → length (put_at at new old) ≡ max (length old) (min at (length old) + length new)
-length-put at new old =
-    let a : length ((take at old ++ new) ++ drop (at + length new) old)
-    ≡ length (take at old ++ new) + length (drop (at + length new) old) =
-    length-append (take at old ++ new) (drop (at + length new) old) in
-    let b : length (take at old ++ new) ≡ length (take at old) + length new = length-append (take at old) new in
-    omega (arith, a, b, length-take at old, length-drop (at + length new) old)
+use Rattle.paw_stage.specs.inner.Staying.{length-put}
 
 -- An offset lies before n offsets from p on, among them or after them.
 pub where_is : (i p n : ℕ) → (i < p) ⊎ ((p ≤ i) × (i < p + n)) ⊎ (p + n ≤ i)

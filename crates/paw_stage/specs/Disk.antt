@@ -27,6 +27,10 @@ pub record MayLeave (d : Disk) (image : Bytes) : Type 0 where
   pub no_longer : length image ≤ d.longest
   pub clean : (i : ℕ) → i < length d.synced → is_dirty d.dirty i ≡ false → slice_index image i ≡ slice_index d.bytes i
 
+-- A crash may leave the bytes that a read gives.
+abbrev pub MayStay : Disk → Type 0
+MayStay d = MayLeave d d.bytes
+
 -- The bytes, with new ones put at an offset.
 abbrev pub put_at : ℕ → Bytes → Bytes → Bytes
 put_at at new old = take at old ++ new ++ drop (at + length new) old

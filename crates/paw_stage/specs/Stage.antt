@@ -6,7 +6,7 @@ use Rattle.std.specs.declared.alloc.Global.{Global}
 use Rattle.std.specs.Str.{bytes_eq}
 use Rattle.paw_base.specs.Bytes.{Bytes, Line, Lines, Name, Text}
 use Rattle.paw_base.specs.declared.limits.TheConstants.{LINE_LIMIT}
-use Rattle.paw_stage.specs.Disk.{Disk, MayLeave, IsInWrite, stable, disk_written}
+use Rattle.paw_stage.specs.Disk.{Disk, MayLeave, MayStay, IsInWrite, stable, disk_written}
 use Rattle.paw_stage.specs.declared.StageCall.{StageCall}
 use Rattle.paw_stage.specs.declared.StageCall.TheVariants as call
 use Rattle.paw_stage.specs.declared.LoadRefusal.{LoadRefusal}
@@ -112,11 +112,12 @@ LoadsTo s name most (Err refusal.Failed) = Unit {0}
 LoadsTo s name most (Err refusal.Memory) = s.files name ≢ None
 
 -- What a save does: the file of this name now holds these bytes, or is gone where there are none. If it is the file of
--- the attached store, the store has these bytes, and what a crash may leave of it is open.
+-- the attached store, the store has these bytes, and a crash may leave them; what else it may leave of it is open.
 pub record Saves (old new : Standing) (name : Name) (bytes : Option Bytes) : Type 0 where
   pub disk : Disk
   pub apart : old.attached ≢ Some name → disk ≡ old.disk
   pub store : old.attached ≡ Some name → disk.bytes ≡ bytes_or_none bytes
+  pub stays : MayStay disk
   pub stands : new ≡ record old { files = file_holding name bytes old.files; disk = disk }
 
 -- What stands at a moment of a save: nothing changed, or the file holds any bytes, or it is gone.

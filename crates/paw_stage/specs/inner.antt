@@ -12,6 +12,7 @@ pub mod Log
 pub mod LogInside
 pub mod Memory
 pub mod Filed
+pub mod Staying
 pub mod Refusing
 pub mod Failing
 pub mod LineParts

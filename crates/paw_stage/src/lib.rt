@@ -74,7 +74,7 @@ pub trait Stage {
     ghost use Rattle.paw_base.specs.Bytes.{Name};
     ghost use Rattle.paw_stage.specs.declared.StageCall.{StageCall};
     ghost use Rattle.paw_stage.specs.declared.StageCall.TheVariants as call;
-    ghost use Rattle.paw_stage.specs.Disk.{IsStable};
+    ghost use Rattle.paw_stage.specs.Disk.{IsStable, MayStay};
     ghost use Rattle.paw_stage.specs.Stage.{Standing, file_bytes, CountsFailure, failed_in, failed_load, failed_ask};
     ghost use Rattle.paw_stage.specs.Stage.{LoadsTo, SavesTo, AttachesTo, ReadsTo, WritesTo, SyncsTo, AsksTo, ShowsTo};
     ghost use Rattle.paw_stage.specs.Stage.{Still, InAsk, InShow, InSave, InAttach, InWrite, InSync};
@@ -180,6 +180,10 @@ pub trait Stage {
 
     /// This moment is one of those since any earlier time.
     ghost counts_now: { (s : Self) (t : ℕ) → Tells s → t ≤ clock s → since s t (standing s) };
+
+    /// At each moment a crash may leave what a read of the store gives. So where a write or a sync has failed, and no crash
+    /// came, what is there is among what a crash could have left.
+    ghost may_stay: { (s : Self) (t : ℕ) (m : Standing) → Tells s → since s t m → MayStay m.disk };
 
     /// While a store is attached, the file of its name holds the store's bytes.
     ghost files_hold: { (s : Self) (name : Name) → Tells s → (standing s).attached ≡ Some name →

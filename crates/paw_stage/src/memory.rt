@@ -22,6 +22,7 @@ ghost use Rattle.paw_stage.specs.inner.Memory.{AtEachMoment};
 ghost use Rattle.paw_stage.specs.inner.Memory.{can_note, call_recorded, failure_recorded, Notes, found_none};
 ghost use Rattle.paw_stage.specs.inner.Memory.{line_taken, with_file, with_line_left};
 ghost use Rattle.paw_stage.specs.inner.Filed.{file_holds};
+ghost use Rattle.paw_stage.specs.inner.Staying.{moment_stays};
 
 use crate::log::{CallKind, Log};
 use crate::{Asked, Failed, FailureCounts, LoadRefusal, Stage, StageCall};
@@ -312,6 +313,8 @@ impl Stage for MemoryStage {
     ghost only_now = { λ s m _ h. only_moment s m h };
 
     ghost counts_now = { λ s t _ _. now_is_moment s t };
+
+    ghost may_stay = { λ s t m _ h. moment_stays s t m h };
 
     ghost files_hold = { λ s name _ h. file_holds s name h };
 }

@@ -41,8 +41,8 @@ const OUTPUT: &str = "/proc/self/fd/1";
 /// and its folder, so that what it answers is there after a crash too; the store held before is let go first, so that
 /// the same file can be attached again. An attach that fails leaves no file that it made.
 ///
-/// The first write after each sync fails where the store isn't the file of its name any more, or was cut or lengthened:
-/// so a game whose session was taken away is told before its next text is shown.
+/// The first write after each sync fails where the store was cut or lengthened, and at every other sync also where it isn't
+/// the file of its name any more. A turn syncs twice, so it fails before its text is shown where its session was taken away.
 ///
 /// A save replaces a plain file in one step. It fails where the file is locked, where this stage has loaded it, and where
 /// it holds a session. A program that is killed in it may leave a hidden file beside that one, which the next save takes
@@ -103,7 +103,7 @@ impl<R: Files<File = File> + Input + Print + Alloc + Drop> RealStage<R> {
         read_first(alloc, file, most)
     }
 
-    // Whether so many bytes more can be shown: standard output may be a plain file, which has a greatest size. A write
+    // Whether this number of bytes more can be shown: standard output may be a plain file, which has a greatest size. A write
     // past that would end the program by a signal.
     fn has_room_to_show(&self, count: usize) -> bool {
         if self.longest == u64::MAX {
@@ -242,6 +242,8 @@ impl<R: Files<File = File> + Input + Print + Alloc + Drop> Stage for RealStage<R
     ghost only_now = { λ s m no. absurd no };
 
     ghost counts_now = { λ s t no. absurd no };
+
+    ghost may_stay = { λ s t m no. absurd no };
 
     ghost files_hold = { λ s name no. absurd no };
 }

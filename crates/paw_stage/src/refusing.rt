@@ -14,6 +14,7 @@ ghost use Rattle.paw_stage.specs.inner.Done.{end_done, shown_text};
 ghost use Rattle.paw_stage.specs.inner.Memory.{clock_of, moments_of, only_moment, now_is_moment};
 ghost use Rattle.paw_stage.specs.inner.Memory.{call_recorded, line_taken};
 ghost use Rattle.paw_stage.specs.inner.Filed.{file_holds};
+ghost use Rattle.paw_stage.specs.inner.Staying.{moment_stays};
 ghost use Rattle.paw_stage.specs.inner.Refusing.{failures_of, standing_of, AtEachMoment};
 ghost use Rattle.paw_stage.specs.inner.Refusing.{call_refused, passed_on, FailsBelow, CannotPass, Forwards};
 ghost use Rattle.paw_stage.specs.inner.Refusing.{ForwardsLoad};
@@ -216,6 +217,8 @@ impl<R: Refusals + Drop> Stage for RefusingStage<R> {
     ghost only_now = { λ s m _ h. only_moment s.inner m h };
 
     ghost counts_now = { λ s t _ _. now_is_moment s.inner t };
+
+    ghost may_stay = { λ s t m _ h. moment_stays s.inner t m h };
 
     ghost files_hold = { λ s name _ h. file_holds s.inner name h };
 }

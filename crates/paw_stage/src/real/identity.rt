@@ -13,7 +13,7 @@ pub struct FileIdentity {
 }
 
 impl FileIdentity {
-    /// Which file this was told of.
+    /// The file that the system says this of.
     pub fn of(told: &Metadata) -> FileIdentity {
         FileIdentity {
             device: told.dev(),

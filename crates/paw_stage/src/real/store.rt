@@ -8,7 +8,7 @@ use crate::real::identity::FileIdentity;
 use crate::real::opening::open_store;
 use std::alloc::{Alloc, Allocator};
 use std::fs::{self, File};
-use std::io;
+use std::io::{self, Seek, SeekFrom};
 use std::rt::Files;
 
 /// A file that is open as a store.
@@ -23,6 +23,9 @@ pub struct RealStore<A: Allocator + Drop> {
 
     // Whether the file was looked at since the last sync.
     is_seen: bool,
+
+    // Whether the last look was by the file's name.
+    was_by_name: bool,
 }
 
 impl<A: Allocator + Drop> RealStore<A> {
@@ -39,6 +42,7 @@ impl<A: Allocator + Drop> RealStore<A> {
             identity: opened.identity,
             length: opened.length,
             is_seen: false,
+            was_by_name: false,
         };
         Ok((store, opened.length))
     }
@@ -48,9 +52,8 @@ impl<A: Allocator + Drop> RealStore<A> {
         read_part(&mut self.file, at, into)
     }
 
-    /// Writes bytes from an offset on. The first write after each sync looks before whether the store is still the file
-    /// of its name, and as long as it was left: where it was taken away, replaced or cut, nothing would be kept of what
-    /// is written to it.
+    /// Writes bytes from an offset on. The first write after each sync looks before whether the store is as it was left:
+    /// where it was taken away, replaced or cut, nothing would be kept of what is written to it.
     pub fn write<R: Files>(&mut self, rt: &R, at: u64, bytes: &[u8]) -> Result<(), Failed> {
         if !self.is_seen {
             self.look(rt)?;
@@ -66,14 +69,25 @@ impl<A: Allocator + Drop> RealStore<A> {
         sync_bytes(&self.file)
     }
 
-    // Looks whether the name still leads to this file, and whether that is as long as it was left.
+    // Looks whether the file is still as long as it was left, and at every other look whether the name still leads to it.
     fn look<R: Files>(&mut self, rt: &R) -> Result<(), Failed> {
-        match fs::metadata(rt, self.name.as_str()) {
-            Ok(told) if FileIdentity::of(&told) == self.identity && told.len() == self.length => {
-                self.is_seen = true;
-                Ok(())
-            }
-            _ => Err(Failed),
+        let by_name = !self.was_by_name;
+        let length = if by_name {
+            self.length_by_name(rt)
+        } else {
+            self.file.seek(SeekFrom::End(0)).ok()
+        };
+        if length != Some(self.length) {
+            return Err(Failed);
         }
+        self.was_by_name = by_name;
+        self.is_seen = true;
+        Ok(())
+    }
+
+    // The length of the file that the name leads to, where that is still this file.
+    fn length_by_name<R: Files>(&self, rt: &R) -> Option<u64> {
+        let found = fs::metadata(rt, self.name.as_str()).ok()?;
+        (FileIdentity::of(&found) == self.identity).then_some(found.len())
     }
 }
