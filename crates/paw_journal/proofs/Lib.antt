@@ -16,3 +16,4 @@ pub mod Slots
 pub mod ShownPieces
 pub mod Sessions
 pub mod Commits
+pub mod Failed
