@@ -5,7 +5,7 @@ use Rattle.paw_effects.specs.declared.act.Prompt.TheVariants as prompt
 use Rattle.paw_reading.specs.Run.{Run, piece_closed, without_loop, line_dropped}
 use Rattle.paw_reading.specs.Turn.{AtDescribe, Ending, WaitsAt, Halted, Unended, phases_left, opening, reading}
 use Rattle.paw_reading.specs.inner.Pieces.{count, Counted, PiecesOfLines}
-use Rattle.paw_reading.proofs.RunInduction.{RunClaim, RunCarries, TurnCarries, TurnEnds, turn_ends}
+use Rattle.paw_reading.proofs.RunInduction.{RunClaim, RunCarries, TurnCarries, TurnEnds, between, turn_ends}
 
 -- There were v pieces and lines.
 abbrev pub claim : ℕ → RunClaim
@@ -13,7 +13,7 @@ claim v = record {
   on = λ r. count r ≡ v;
   acted = λ r. count r ≡ v;
   closed = λ r lines. length r.pieces + length lines ≡ suc v;
-  wait = λ path r. Counted v (WaitsAt prompt.Main path r);
+  wait = λ p path r. Counted v (WaitsAt prompt.Main path r);
   anew = λ r. count r ≡ v;
   halt = λ halt r. Counted v (Halted halt r);
 }
@@ -33,10 +33,10 @@ carries g v = record {
   taken = λ l o r few k. k;
   no_loop = λ r k. k;
   closes = λ r k. omega (arith, closed_counts r, k);
-  waits = λ f r k. (refl, k);
+  waits = λ p f r k. (refl, k);
   ignored = λ r line lines k. omega (arith, closed_counts (record r { events = lines }), k);
   heard = λ r line lines k. omega (arith, k);
-  above = λ f path r k. k;
+  above = λ p f path r k. k;
   exhausted = λ r k. k;
   too_long = λ r k. k;
   unfit = λ f c r k few. k;
@@ -66,4 +66,5 @@ counted v Unended k = tt
 pub pieces_of_lines : PiecesOfLines
 pieces_of_lines g seed es =
     counted (length es) (reading g seed es)
-    (turn_ends g (claim (length es)) (carries g (length es)) (turns g (length es)) (phases_left (opening g seed es)) AtDescribe (opening g seed es) (omega arith))
+    (turn_ends g (claim (length es)) (between g (claim (length es)) (carries g (length es))) (turns g (length es))
+    (phases_left (opening g seed es)) AtDescribe (opening g seed es) (omega arith))

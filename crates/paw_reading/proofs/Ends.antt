@@ -1,35 +1,20 @@
 -- Turns end, and more phases change nothing.
-use Rattle.std.proofs.Common.{◌≡◌, ◌≢◌, ℕ, zero, suc, ◌+◌, ◌-◌, ◌*◌, ◌≤◌, ◌<◌, Bool, true, false, List, [], ◌∷◌, ◌⊎◌}
-use Rattle.std.proofs.Common.{inl, inr, Option}
-use Rattle.std.proofs.Common.{Some, None, refl, sym, ◌∙◌, length, arith}
-use Rattle.std.specs.Prelude.{if◌then◌else◌}
-use Rattle.paw_base.specs.Bytes.{Lines, Text}
-use Rattle.paw_base.specs.declared.fault.SpentKind.TheVariants as spent
-use Rattle.paw_base.specs.declared.flags.TheConstants.{LOCATION_FLAG, VERB_FLAG, PRONOUN_NOUN_FLAG}
-use Rattle.paw_base.specs.declared.flags.TheConstants.{PRONOUN_ADJECTIVE_FLAG}
-use Rattle.paw_base.specs.declared.messages.TheConstants.{TIMEOUT_MESSAGE}
-use Rattle.paw_base.specs.declared.limits.TheConstants.{READ_LIMIT}
-use Rattle.paw_base.specs.declared.tables.TheConstants.{RESPONSE_TABLE, DESCRIBED_TABLE, FRAME_TABLE}
+use Rattle.std.proofs.Common.{◌≡◌, ◌≢◌, ℕ, zero, suc, ◌+◌, ◌-◌, ◌*◌, ◌≤◌, ◌<◌, List, ◌⊎◌, inl, inr, refl, sym, length, arith}
+use Rattle.paw_phrase.specs.Sentence.{IsSentence, IsUnknown}
 use Rattle.paw_effects.specs.Story.{Story}
-use Rattle.paw_game.specs.Tables.{exit_at}
-use Rattle.paw_world.specs.World.{flag, with_flag}
-use Rattle.paw_phrase.specs.Sentence.{Parsed, IsSentence, IsUnknown, IsNoPhrase}
-use Rattle.paw_phrase.proofs.Phrases.{LeavesBytes, parsed-shorter}
 use Rattle.paw_effects.specs.declared.act.Prompt.{Prompt}
 use Rattle.paw_effects.specs.declared.act.Prompt.TheVariants as prompt
-use Rattle.paw_effects.specs.Texts.{say_text}
 use Rattle.paw_reading.specs.declared.frames.Frame.{Frame}
-use Rattle.paw_reading.specs.Run.{Run, piece_closed, fits, text_printed, with_world, line_dropped, is_timeout, is_ignored, with_line_heard}
-use Rattle.paw_reading.specs.Run.{with_timeout}
-use Rattle.paw_reading.specs.declared.halt.Halt.TheVariants as halt
-use Rattle.paw_reading.specs.Reading.{Redescribes, Restarts, Halts, Out, Left, Waits, Stopped, table_read}
-use Rattle.paw_reading.specs.Turn.{TurnPhase, AtDescribe, AtTimeFrame, AtPhrase, AtResponse, Ending, Halted, Unended}
-use Rattle.paw_reading.specs.Turn.{saying, location_described, time_frame_passed}
-use Rattle.paw_reading.specs.Turn.{view_text, prompt_text, at_main, after_phrase, refusal_text, exit_taken, after_left}
-use Rattle.paw_reading.specs.Turn.{table_done, turn, left_to_read, phases_left, first_table, goes_on}
-use Rattle.paw_reading.specs.inner.Parts.{line_set, in_table, unknown_text}
+use Rattle.paw_reading.specs.Run.{Run}
+use Rattle.paw_reading.specs.Reading.{Out, Left, Waits, Stopped, table_read}
+use Rattle.paw_reading.specs.GoingOn.{on_path}
+use Rattle.paw_reading.specs.Turn.{TurnPhase, AtDescribe, AtTimeFrame, AtPhrase, AtResponse, Ending, Unended, at_main, table_done, turn}
+use Rattle.paw_reading.specs.Turn.{left_to_read, phases_left, first_table, goes_on}
+use Rattle.paw_reading.specs.inner.Parts.{in_table}
 use Rattle.paw_reading.specs.inner.Turn.{TurnsEnd, EndsOnce, GoingOnEnds, GoesOnOnce}
-use Rattle.paw_reading.proofs.Spends.{brought, brought_more, Spends, table_spends, path_spends}
+use Rattle.paw_reading.proofs.EachStep.{itself}
+use Rattle.paw_reading.proofs.EachPhase.{TurnRelation, TurnSteps, EndAlike, AnyWait, ends_itself, turns, table_after, at_prompt}
+use Rattle.paw_reading.proofs.Spends.{brought, brought_more, shorter, Spends, table_spends, path_spends}
 
 -- ---- turns end ----
 
@@ -47,125 +32,86 @@ needed_granted AtTimeFrame r = omega arith
 needed_granted AtDescribe r = omega arith
 needed_granted AtResponse r = omega arith
 
--- From every phase that needs at most n phases the turn ends.
-abbrev pub EndsWithin : ℕ → (TurnPhase → Run → Ending) → Type 0
-EndsWithin n go = (s : TurnPhase) (r : Run) → phases_needed s r ≤ n → go s r ≢ Unended
-
-saying_ends : (text : Text) (go : Run → Ending) (r : Run) → go (text_printed text r) ≢ Unended → saying text go r ≢ Unended
-saying_ends text go r h = by_test (fits r text)
-  where
-    by_test : (b : Bool) → (if b then go (text_printed text r) else Halted (halt.Spent spent.Text) r) ≢ Unended
-    by_test true = h
-    by_test false = λ e. cc
-
-connected_ends : (g : Story) (n : ℕ) (go : TurnPhase → Run → Ending) → EndsWithin n go → (r : Run) → 4 * left_to_read r + 3 ≤ n → (to : Option ℕ) →
-    exit_taken g go r to ≢ Unended
-connected_ends g n go h r k None =
-    saying_ends (refusal_text g.game r.world) (go AtTimeFrame) (line_dropped r)
-    (h AtTimeFrame (text_printed (refusal_text g.game r.world) (line_dropped r)) (omega arith))
-connected_ends g n go h r k (Some to) = h AtDescribe (with_world (with_flag r.world LOCATION_FLAG to) r) (omega arith)
-
 -- How many phases a table needs after it.
 abbrev pub rank_after : ℕ → ℕ
 rank_after zero = 3
 rank_after (suc zero) = 2
 rank_after (suc (suc t)) = 1
 
-after_left_ends : (g : Story) (n : ℕ) (go : TurnPhase → Run → Ending) → EndsWithin n go → (t : ℕ) (acted : Bool) (r : Run) →
-    4 * left_to_read r + rank_after t ≤ n →
-    after_left g go t acted r ≢ Unended
-after_left_ends g n go h zero true r k = h AtTimeFrame r (omega arith)
-after_left_ends g n go h zero false r k =
-    connected_ends g n go h r k (exit_at g.game (flag r.world LOCATION_FLAG) (flag r.world VERB_FLAG))
-after_left_ends g n go h (suc zero) acted r k = h AtTimeFrame r k
-after_left_ends g n go h (suc (suc t)) acted r k = h AtPhrase (with_world (time_frame_passed r.world) r) k
-
 rank_after-pos : (t : ℕ) → 1 ≤ rank_after t
 rank_after-pos zero = omega arith
 rank_after-pos (suc zero) = omega arith
 rank_after-pos (suc (suc t)) = omega arith
 
-table_done_ends : (g : Story) (n : ℕ) (go : TurnPhase → Run → Ending) → EndsWithin n go → (t v : ℕ) → 4 * v + rank_after t ≤ n → (x : Out) → Spends v x →
-    table_done g go t x ≢ Unended
-table_done_ends g n go h t v k (Left a r) s = after_left_ends g n go h t a r (omega arith)
-table_done_ends g n go h t v k (Stopped Redescribes r) s = h AtDescribe r (omega (arith, rank_after-pos t))
-table_done_ends g n go h t v k (Stopped Restarts r) s = h AtDescribe r (omega (arith, rank_after-pos t))
-table_done_ends g n go h t v k (Stopped (Halts halt) r) s = λ e. cc
-table_done_ends g n go h t v k (Waits p path r) s = λ e. cc
+-- From every phase that needs at most n phases the turn ends, after a table that spends, and at the main prompt.
+abbrev ending : TurnRelation
+ending = record {
+  phase = λ n s r x y. phases_needed s r ≤ n → y ≢ Unended;
+  after = λ n t z x y. (v : ℕ) → 4 * v + rank_after t ≤ n → Spends v z → y ≢ Unended;
+  prompt = λ n r lines x y. 4 * (length r.pending + brought lines) ≤ n → y ≢ Unended;
+}
 
-at_main_ends : (g : Story) (n : ℕ) (go : TurnPhase → Run → Ending) → EndsWithin n go → (r : Run) (lines : Lines) →
-    4 * (length r.pending + brought lines) ≤ n →
-    at_main g go r lines ≢ Unended
-unfolding at_main
-at_main_ends g n go h r [] k = λ e. cc
-at_main_ends g n go h r (line ∷ lines) k =
-    let m : brought (line ∷ lines) ≡ length line + (READ_LIMIT + 1) + brought lines = brought_more line lines in
-    let s : Run = record r { events = lines } in
-    let said : Text = say_text g.game (with_timeout true r.world) TIMEOUT_MESSAGE in
-    by_test (is_ignored r.world line) (is_timeout line)
-    (at_main_ends g n go h (piece_closed s) lines (omega (arith, m, k)))
-    (saying_ends said (go AtTimeFrame) (with_line_heard line s) (h AtTimeFrame (text_printed said (with_line_heard line s)) (omega (arith, m, k))))
-    (h AtPhrase (line_set line s) (omega (arith, m, k)))
+ending_steps : (g : Story) → TurnSteps g itself (λ n. n) AnyWait ending
+ending_steps g = record {
+  unended = needs_some;
+  describes = λ n r. (λ fit x y h k. h (left_to_read r) (omega (arith, k)) (table_spends g 1 _), λ long k e. cc);
+  frames = λ n r x y h k. h (left_to_read r) (omega (arith, k)) (table_spends g 2 r);
+  responds = λ n r x y h k. h (left_to_read r) (omega (arith, k)) (table_spends g 0 r);
+  sentence = λ n r s left x y e h k. h (omega (arith, k, shorter g r (IsSentence s left) e));
+  unknown = λ n r left e. (λ fit x y h k. h (omega (arith, k, shorter g r (IsUnknown left) e)), λ long k q. cc);
+  no_phrase = λ n r e. (λ fit x y h k. h (omega (arith, k)), λ long k q. cc);
+  acted = λ n r x y h v k s. h (omega (arith, k, s));
+  leaves = λ n to r x y e h v k s. h (omega (arith, k, s));
+  refuses = λ n r e. (λ fit x y h v k s. h (omega (arith, k, s)), λ long v k s q. cc);
+  described_so = λ n a r x y h v k s. h (omega (arith, k, s));
+  framed = λ n t a r x y h v k s. h (omega (arith, k, s));
+  waits = λ n t p path r x w v k s e. cc;
+  again = λ n t r x y h v k s. h (omega (arith, k, s, rank_after-pos t));
+  restarts = λ n t r x y h v k s. h (omega (arith, k, s, rank_after-pos t));
+  halts = λ n t halt r v k s e. cc;
+  awaits = λ n r k e. cc;
+  ignored = λ n r line lines x y h k. h (omega (arith, brought_more line lines, k));
+  times_out = λ n r line lines. (λ fit x y h k. h (omega (arith, brought_more line lines, k)), λ long k e. cc);
+  takes_line = λ n r line lines x y h k. h (omega (arith, brought_more line lines, k));
+}
   where
-    by_test : (ignored timeout : Bool) → {x y z : Ending} → x ≢ Unended → y ≢ Unended → z ≢ Unended →
-        (if ignored then x else if timeout then y else z) ≢ Unended
-    by_test true timeout hx hy hz = hx
-    by_test false true hx hy hz = hy
-    by_test false false hx hy hz = hz
-
-after_phrase_ends : (g : Story) (n : ℕ) (go : TurnPhase → Run → Ending) → EndsWithin n go → (r : Run) → 4 * left_to_read r ≤ n → (p : Parsed) →
-    LeavesBytes (λ rest. length rest < length r.pending) p → after_phrase g go r p ≢ Unended
-after_phrase_ends g n go h r k (IsSentence s rest) less = h AtResponse _ (omega arith)
-after_phrase_ends g n go h r k (IsUnknown rest) less =
-    let text : Text = unknown_text g.game r.world in
-    saying_ends text (go AtTimeFrame) (line_dropped r) (h AtTimeFrame (text_printed text (line_dropped r)) (omega arith))
-after_phrase_ends g n go h r k IsNoPhrase less =
-    let text : Text = prompt_text g.game r.world in
-    let shown : Run = piece_closed (text_printed text (line_dropped r)) in
-    saying_ends text (λ s. at_main g go (piece_closed s) s.events) (line_dropped r)
-    (at_main_ends g n go h shown r.events (omega arith))
+    needs_some : (s : TurnPhase) (r : Run) → phases_needed s r ≤ zero → Unended ≢ Unended
+    needs_some AtDescribe r h = absurd (omega arith)
+    needs_some AtTimeFrame r h = absurd (omega arith)
+    needs_some AtPhrase r h = absurd (omega arith)
+    needs_some AtResponse r h = absurd (omega arith)
 
 -- With this number of phases each turn ends.
-turn_ends : (g : Story) (n : ℕ) → EndsWithin n (turn g n)
-unfolding turn
-turn_ends g zero AtDescribe r h = absurd (omega arith)
-turn_ends g zero AtTimeFrame r h = absurd (omega arith)
-turn_ends g zero AtPhrase r h = absurd (omega arith)
-turn_ends g zero AtResponse r h = absurd (omega arith)
-turn_ends g (suc n) AtDescribe r h =
-    let text : Text = view_text g.game (location_described r.world) in
-    let s : Run = with_world (location_described r.world) r in
-    saying_ends text (λ q. table_done g (turn g n) 1 (table_read g 1 q)) s
-    (table_done_ends g n (turn g n) (turn_ends g n) 1 (left_to_read r) (omega arith) _ (table_spends g 1 (text_printed text s)))
-turn_ends g (suc n) AtTimeFrame r h =
-    table_done_ends g n (turn g n) (turn_ends g n) 2 (left_to_read r) (omega arith) _ (table_spends g 2 r)
-turn_ends g (suc n) AtPhrase r h =
-    after_phrase_ends g n (turn g n) (turn_ends g n) r (omega arith) _
-    (parsed-shorter g.game r.pending r.earlier (flag r.world PRONOUN_NOUN_FLAG)
-    (flag r.world PRONOUN_ADJECTIVE_FLAG))
-turn_ends g (suc n) AtResponse r h =
-    table_done_ends g n (turn g n) (turn_ends g n) 0 (left_to_read r) (omega arith) _ (table_spends g 0 r)
+turn_ends : (g : Story) (n : ℕ) (s : TurnPhase) (r : Run) → phases_needed s r ≤ n → turn g n s r ≢ Unended
+turn_ends g n s r h = turns g itself (λ n. n) (λ n. refl) AnyWait (λ t r. ends_itself (table_read g t r)) ending (ending_steps g) n s r h
 
 -- The phases that are granted are enough.
 pub turns_end : TurnsEnd
 turns_end g s r = turn_ends g (phases_left r) s r (needed_granted s r)
 
-in_table_ends : (g : Story) (n : ℕ) (p : Prompt) (path : List Frame) (r : Run) → 4 * left_to_read r + 3 ≤ n → in_table g n p path r ≢ Unended
-in_table_ends g n p path r h =
-    table_done_ends g n (turn g n) (turn_ends g n) (first_table path) (left_to_read r) (omega (arith, h, rank_after-le (first_table path))) _
-    (path_spends g p 0 path r)
+goes_on_ends : (g : Story) (n : ℕ) (p : Prompt) (path : List Frame) (r : Run) → 4 * left_to_read r + 3 ≤ n → goes_on g n p path r ≢ Unended
+goes_on_ends g n p path r h = by_prompt p
   where
+    again : (s : TurnPhase) (q : Run) → phases_needed s q ≤ n → turn g n s q ≢ Unended
+    again s q = turn_ends g n s q
+
     rank_after-le : (t : ℕ) → rank_after t ≤ 3
     rank_after-le zero = omega arith
     rank_after-le (suc zero) = omega arith
     rank_after-le (suc (suc t)) = omega arith
 
-goes_on_ends : (g : Story) (n : ℕ) (p : Prompt) (path : List Frame) (r : Run) → 4 * left_to_read r + 3 ≤ n → goes_on g n p path r ≢ Unended
-goes_on_ends g n prompt.Main path r h = at_main_ends g n (turn g n) (turn_ends g n) r r.events (omega arith)
-goes_on_ends g n prompt.Quit path r h = in_table_ends g n prompt.Quit path r h
-goes_on_ends g n prompt.Again path r h = in_table_ends g n prompt.Again path r h
-goes_on_ends g n prompt.Key path r h = in_table_ends g n prompt.Key path r h
-goes_on_ends g n prompt.Over path r h = λ e. cc
+    in_table_ends : (q : Prompt) → in_table g n q path r ≢ Unended
+    in_table_ends q =
+        table_after g itself (λ m. m) (λ m. refl) AnyWait (λ t s. ends_itself (table_read g t s)) ending (ending_steps g) n again (first_table path) _ _
+        (ends_itself (on_path g q 0 path r)) (left_to_read r) (omega (arith, h, rank_after-le (first_table path))) (path_spends g q 0 path r)
+
+    by_prompt : (q : Prompt) → goes_on g n q path r ≢ Unended
+    by_prompt prompt.Main =
+        at_prompt g itself (λ m. m) (λ m. refl) AnyWait (λ t s. ends_itself (table_read g t s)) ending (ending_steps g) n again r r.events (omega (arith, h))
+    by_prompt prompt.Quit = in_table_ends prompt.Quit
+    by_prompt prompt.Again = in_table_ends prompt.Again
+    by_prompt prompt.Key = in_table_ends prompt.Key
+    by_prompt prompt.Over = λ e. cc
 
 -- Going on from a prompt ends.
 pub going_on_ends : GoingOnEnds
@@ -177,80 +123,72 @@ going_on_ends g p path r = goes_on_ends g (phases_left r) p path r (omega arith)
 abbrev pub Refines : (TurnPhase → Run → Ending) → (TurnPhase → Run → Ending) → Type 0
 Refines go more = (s : TurnPhase) (r : Run) → go s r ≢ Unended → more s r ≡ go s r
 
-saying_more : (text : Text) (go more : Run → Ending) (r : Run) → ((s : Run) → go s ≢ Unended → more s ≡ go s) → saying text go r ≢ Unended →
-    saying text more r ≡ saying text go r
-saying_more text go more r h = by_test (fits r text)
-  where
-    by_test : (b : Bool) → (if b then go (text_printed text r) else Halted (halt.Spent spent.Text) r) ≢ Unended →
-        (if b then more (text_printed text r) else Halted (halt.Spent spent.Text) r)
-        ≡ (if b then go (text_printed text r) else Halted (halt.Spent spent.Text) r)
-    by_test true k = h (text_printed text r) k
-    by_test false k = refl
+abbrev SameWait : Prompt → List Frame → Run → Out → Type 0
+SameWait p path r x = x ≡ Waits p path r
 
-connected_more : (g : Story) (go more : TurnPhase → Run → Ending) → Refines go more → (r : Run) (to : Option ℕ) →
-    exit_taken g go r to ≢ Unended → exit_taken g more r to ≡ exit_taken g go r to
-connected_more g go more h r None k = saying_more _ (go AtTimeFrame) (more AtTimeFrame) _ (h AtTimeFrame) k
-connected_more g go more h r (Some to) k = h AtDescribe _ k
+abbrev refining : TurnRelation
+refining = record {
+  phase = λ n s r x y. y ≢ Unended → x ≡ y;
+  after = λ n t z x y. y ≢ Unended → x ≡ y;
+  prompt = λ n r lines x y. y ≢ Unended → x ≡ y;
+}
 
-after_left_more : (g : Story) (go more : TurnPhase → Run → Ending) → Refines go more → (t : ℕ) (acted : Bool) (r : Run) →
-    after_left g go t acted r ≢ Unended → after_left g more t acted r ≡ after_left g go t acted r
-after_left_more g go more h zero true r k = h AtTimeFrame r k
-after_left_more g go more h zero false r k = connected_more g go more h r _ k
-after_left_more g go more h (suc zero) acted r k = h AtTimeFrame r k
-after_left_more g go more h (suc (suc t)) acted r k = h AtPhrase _ k
-
-pub table_done_more : (g : Story) (go more : TurnPhase → Run → Ending) → Refines go more → (t : ℕ) (x : Out) →
-    table_done g go t x ≢ Unended → table_done g more t x ≡ table_done g go t x
-table_done_more g go more h t (Left a r) k = after_left_more g go more h t a r k
-table_done_more g go more h t (Stopped Redescribes r) k = h AtDescribe r k
-table_done_more g go more h t (Stopped Restarts r) k = h AtDescribe r k
-table_done_more g go more h t (Stopped (Halts halt) r) k = refl
-table_done_more g go more h t (Waits p path r) k = refl
-
-pub at_main_more : (g : Story) (go more : TurnPhase → Run → Ending) → Refines go more → (r : Run) (lines : Lines) →
-    at_main g go r lines ≢ Unended → at_main g more r lines ≡ at_main g go r lines
+refining_steps : (g : Story) (phases : ℕ → ℕ) → TurnSteps g itself phases SameWait refining
 unfolding at_main
-at_main_more g go more h r [] k = refl
-at_main_more g go more h r (line ∷ lines) k =
-    by_test (is_ignored r.world line) (is_timeout line)
-    (at_main_more g go more h (piece_closed (record r { events = lines })) lines)
-    (saying_more _ (go AtTimeFrame) (more AtTimeFrame) _ (h AtTimeFrame))
-    (h AtPhrase _) k
-  where
-    by_test : (ignored timeout : Bool) → {x y z x' y' z' : Ending} → (x ≢ Unended → x' ≡ x) → (y ≢ Unended → y' ≡ y) → (z ≢ Unended → z' ≡ z) →
-        (if ignored then x else if timeout then y else z) ≢ Unended →
-        (if ignored then x' else if timeout then y' else z') ≡ (if ignored then x else if timeout then y else z)
-    by_test true timeout hx hy hz = hx
-    by_test false true hx hy hz = hy
-    by_test false false hx hy hz = hz
+refining_steps g phases = record {
+  unended = λ s r e. absurd (e refl);
+  describes = λ n r. (λ fit x y h. h, λ long e. refl);
+  frames = λ n r x y h. h;
+  responds = λ n r x y h. h;
+  sentence = λ n r s left x y e h. h;
+  unknown = λ n r left e. (λ fit x y h. h, λ long q. refl);
+  no_phrase = λ n r e. (λ fit x y h. h, λ long q. refl);
+  acted = λ n r x y h. h;
+  leaves = λ n to r x y e h. h;
+  refuses = λ n r e. (λ fit x y h. h, λ long q. refl);
+  described_so = λ n a r x y h. h;
+  framed = λ n t a r x y h. h;
+  waits = λ n t p path r x w e. rw w refl;
+  again = λ n t r x y h. h;
+  restarts = λ n t r x y h. h;
+  halts = λ n t halt r e. refl;
+  awaits = λ n r e. refl;
+  ignored = λ n r line lines x y h. h;
+  times_out = λ n r line lines. (λ fit x y h. h, λ long e. refl);
+  takes_line = λ n r line lines x y h. h;
+}
 
-after_phrase_more : (g : Story) (go more : TurnPhase → Run → Ending) → Refines go more → (r : Run) (p : Parsed) →
-    after_phrase g go r p ≢ Unended →
-    after_phrase g more r p ≡ after_phrase g go r p
-after_phrase_more g go more h r (IsSentence s rest) k = h AtResponse _ k
-after_phrase_more g go more h r (IsUnknown rest) k = saying_more _ (go AtTimeFrame) (more AtTimeFrame) _ (h AtTimeFrame) k
-after_phrase_more g go more h r IsNoPhrase k =
-    saying_more _ (λ s. at_main g go (piece_closed s) s.events) (λ s. at_main g more (piece_closed s) s.events) _
-    (λ s. at_main_more g go more h (piece_closed s) s.events) k
+same_wait : (x : Out) → EndAlike itself SameWait x x
+same_wait (Left a r) = refl
+same_wait (Waits p path r) = refl
+same_wait (Stopped stop r) = refl
 
-pub turn_more : (g : Story) (n : ℕ) → Refines (turn g n) (turn g (suc n))
-unfolding turn
-turn_more g zero s r k = absurd (k refl)
-turn_more g (suc n) AtDescribe r k =
-    saying_more _ (λ q. table_done g (turn g n) DESCRIBED_TABLE (table_read g DESCRIBED_TABLE q))
-    (λ q. table_done g (turn g (suc n)) DESCRIBED_TABLE (table_read g DESCRIBED_TABLE q)) _
-    (λ q. table_done_more g (turn g n) (turn g (suc n)) (turn_more g n) DESCRIBED_TABLE (table_read g DESCRIBED_TABLE q)) k
-turn_more g (suc n) AtTimeFrame r k = table_done_more g (turn g n) (turn g (suc n)) (turn_more g n) FRAME_TABLE (table_read g FRAME_TABLE r) k
-turn_more g (suc n) AtPhrase r k = after_phrase_more g (turn g n) (turn g (suc n)) (turn_more g n) r _ k
-turn_more g (suc n) AtResponse r k = table_done_more g (turn g n) (turn g (suc n)) (turn_more g n) RESPONSE_TABLE (table_read g RESPONSE_TABLE r) k
+module _ (g : Story) (k : ℕ) where
+  one_more : (n : ℕ) → suc n + k ≡ suc (n + k)
+  one_more n = omega arith
 
--- Any number of phases more.
-pub many_more : (f : ℕ → Ending) → ((n : ℕ) → f n ≢ Unended → f (suc n) ≡ f n) → (k n : ℕ) → f n ≢ Unended → f (k + n) ≡ f n
-many_more f h zero n e = let z : 0 + n ≡ n = omega arith in rw z refl
-many_more f h (suc k) n e =
-    let before : f (k + n) ≡ f n = many_more f h k n e in
-    let s : suc k + n ≡ suc (k + n) = omega arith in
-    rw s (h (k + n) (λ u. e (sym before ∙ u)) ∙ before)
+  same_tables : (t : ℕ) (r : Run) → EndAlike itself SameWait (table_read g t r) (table_read g t r)
+  same_tables t r = same_wait (table_read g t r)
+
+  -- More phases, by this number, change nothing in a turn, after a table and at the main prompt.
+  pub turn_more : (n : ℕ) → Refines (turn g n) (turn g (n + k))
+  turn_more n s r = turns g itself (λ j. j + k) one_more SameWait same_tables refining (refining_steps g (λ j. j + k)) n s r
+
+  pub done_more : (n t : ℕ) (x : Out) → table_done g (turn g n) t x ≢ Unended → table_done g (turn g (n + k)) t x ≡ table_done g (turn g n) t x
+  done_more n t x =
+      table_after g itself (λ j. j + k) one_more SameWait same_tables refining (refining_steps g (λ j. j + k)) n (turn_more n) t x x (same_wait x)
+
+  pub main_more : (n : ℕ) (r : Run) → at_main g (turn g n) r r.events ≢ Unended →
+      at_main g (turn g (n + k)) r r.events ≡ at_main g (turn g n) r r.events
+  main_more n r =
+      at_prompt g itself (λ j. j + k) one_more SameWait same_tables refining (refining_steps g (λ j. j + k)) n (turn_more n) r r.events
+
+  goes_on_more : (p : Prompt) (path : List Frame) (r : Run) (n : ℕ) → goes_on g n p path r ≢ Unended → goes_on g (n + k) p path r ≡ goes_on g n p path r
+  goes_on_more prompt.Main path r n = main_more n r
+  goes_on_more prompt.Quit path r n = done_more n (first_table path) _
+  goes_on_more prompt.Again path r n = done_more n (first_table path) _
+  goes_on_more prompt.Key path r n = done_more n (first_table path) _
+  goes_on_more prompt.Over path r n = λ e. refl
 
 suc_order : (n m : ℕ) → (n ≤ m) ⊎ (m < n) → (suc n ≤ suc m) ⊎ (suc m < suc n)
 suc_order n m (inl h) = inl (omega arith)
@@ -262,26 +200,18 @@ in_order (suc n) zero = inr (omega arith)
 in_order (suc n) (suc m) = suc_order n m (in_order n m)
 
 -- Two numbers of phases at which it ends give the same.
-same_ending : (f : ℕ → Ending) → ((n : ℕ) → f n ≢ Unended → f (suc n) ≡ f n) → (n m : ℕ) → f n ≢ Unended → f m ≢ Unended → f n ≡ f m
+same_ending : (f : ℕ → Ending) → ((k n : ℕ) → f n ≢ Unended → f (n + k) ≡ f n) → (n m : ℕ) → f n ≢ Unended → f m ≢ Unended → f n ≡ f m
 same_ending f h n m en em = by_order (in_order n m)
   where
     by_order : (n ≤ m) ⊎ (m < n) → f n ≡ f m
-    by_order (inl le) = let s : m ≡ (m - n) + n = omega arith in sym (rw s (many_more f h (m - n) n en))
-    by_order (inr lt) = let s : n ≡ (n - m) + m = omega arith in rw s (many_more f h (n - m) m em)
+    by_order (inl le) = let s : m ≡ n + (m - n) = omega arith in sym (rw s (h (m - n) n en))
+    by_order (inr lt) = let s : n ≡ m + (n - m) = omega arith in rw s (h (n - m) m em)
 
 -- A turn that ends is the turn.
 pub ends_once : EndsOnce
-ends_once g n s r e = same_ending (λ m. turn g m s r) (λ m. turn_more g m s r) n (phases_left r) e (turns_end g s r)
-
-goes_on_more : (g : Story) (p : Prompt) (path : List Frame) (r : Run) (n : ℕ) → goes_on g n p path r ≢ Unended →
-    goes_on g (suc n) p path r ≡ goes_on g n p path r
-goes_on_more g prompt.Main path r n k = at_main_more g (turn g n) (turn g (suc n)) (turn_more g n) r r.events k
-goes_on_more g prompt.Quit path r n k = table_done_more g (turn g n) (turn g (suc n)) (turn_more g n) (first_table path) _ k
-goes_on_more g prompt.Again path r n k = table_done_more g (turn g n) (turn g (suc n)) (turn_more g n) (first_table path) _ k
-goes_on_more g prompt.Key path r n k = table_done_more g (turn g n) (turn g (suc n)) (turn_more g n) (first_table path) _ k
-goes_on_more g prompt.Over path r n k = refl
+ends_once g n s r e = same_ending (λ m. turn g m s r) (λ k m. turn_more g k m s r) n (phases_left r) e (turns_end g s r)
 
 -- Going on that ends is going on.
 pub goes_on_once : GoesOnOnce
 goes_on_once g n p path r e =
-    same_ending (λ m. goes_on g m p path r) (goes_on_more g p path r) n (phases_left r) e (going_on_ends g p path r)
+    same_ending (λ m. goes_on g m p path r) (λ k. goes_on_more g k p path r) n (phases_left r) e (going_on_ends g p path r)

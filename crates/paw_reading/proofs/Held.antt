@@ -230,7 +230,7 @@ carries g v = record {
 
 -- ---- tables and paths ----
 
-held : (g : GameLists) (ts : List ℕ) (u : ℕ) (x : Out) → Outside (claim g) (record { tables = ts; table = u }) (length ts) x → Held g ts ts u x
+held : (g : GameLists) (ts : List ℕ) (u : ℕ) (x : Out) → Outside (claim g) (record { tables = ts; table = u }) x → Held g ts ts u x
 held g ts u (Left a r) k = narrowed g ts (length ts) u r.world r.turning refl k.1 k.0
 held g ts u (Waits p path r) k = k
 held g ts u (Stopped stop r) k = k

@@ -1,49 +1,42 @@
--- One induction over the reading of tables: what each step of it keeps holds of how it ends. It is the way to prove a law
--- of play; `TurnInduction` has the same for turns, and `Kept` both for what holds of a run alone.
-use Rattle.std.proofs.Common.{◌≡◌, ℕ, zero, suc, ◌-◌, ◌≤◌, ◌<◌, Bool, true, false, ◌||◌, List, [], ◌∷◌, ◌++◌, Some}
-use Rattle.std.proofs.Common.{None, refl, sym, ap, ◌∙◌, subst, length, drop, arith}
-use Rattle.std.specs.Prelude.{nat_lt}
-use Rattle.std.proofs.lemmas.Bool.{ltb-true}
+-- What each step of reading a table keeps holds of how it ends. It is the way to prove a law of play, over the one induction of
+-- `EachStep`; `RunInduction` has the same for turns, and `Kept` both for what holds of a run alone.
+use Rattle.std.proofs.Common.{◌≡◌, ℕ, zero, suc, ◌-◌, ◌≤◌, ◌<◌, Bool, true, false, ◌||◌, List, [], ◌∷◌, ◌++◌, Some, None, inl, inr}
+use Rattle.std.proofs.Common.{refl, sym, subst, length, arith}
 use Rattle.paw_base.specs.Bytes.{Bytes, Line, Lines, Text}
-use Rattle.paw_base.specs.declared.codes.TheConstants.{QUIT, PROCESS, DOALL}
+use Rattle.paw_base.specs.declared.codes.TheConstants.{PROCESS, DOALL}
 use Rattle.paw_base.specs.declared.limits.TheConstants.{LEVEL_LIMIT, READ_LIMIT}
 use Rattle.paw_base.specs.declared.messages.TheConstants.{QUIT_MESSAGE, GOODBYE_MESSAGE}
 use Rattle.paw_base.specs.declared.parts.Condact.{Condact}
 use Rattle.paw_base.specs.declared.fault.SpentKind.TheVariants as spent
-use Rattle.paw_game.specs.declared.parts.Entry.{Entry}
 use Rattle.paw_game.specs.Game.{GameLists}
-use Rattle.paw_game.specs.Tables.{table_at, entry_at, condacts_of, condact_at}
 use Rattle.paw_world.specs.World.{World}
 use Rattle.paw_phrase.specs.declared.Sentence.{Sentence}
-use Rattle.paw_phrase.specs.Sentence.{Parsed, IsSentence, IsUnknown, IsNoPhrase}
+use Rattle.paw_phrase.specs.Sentence.{IsSentence, IsUnknown}
 use Rattle.paw_effects.specs.Story.{Story}
 use Rattle.paw_effects.specs.declared.act.Prompt.{Prompt}
 use Rattle.paw_effects.specs.declared.act.Prompt.TheVariants as prompt
-use Rattle.paw_effects.specs.declared.act.Truth.{Truth}
-use Rattle.paw_effects.specs.declared.act.Truth.TheVariants as truth
 use Rattle.paw_effects.specs.declared.act.Effect.{Effect}
 use Rattle.paw_effects.specs.declared.act.Effect.TheVariants as effect
 use Rattle.paw_effects.specs.Presence.{named_place}
 use Rattle.paw_effects.specs.Texts.{put_text, say_text, location_text}
-use Rattle.paw_effects.specs.Holds.{is_condition, holds}
-use Rattle.paw_effects.specs.Effects.{Done, effect_of}
+use Rattle.paw_effects.specs.Holds.{holds}
+use Rattle.paw_effects.specs.Effects.{effect_of}
 use Rattle.paw_effects.proofs.Asking.{AsksAt, Leads}
 use Rattle.paw_effects.proofs.EachRow.{effect_leads, condition_asks}
 use Rattle.paw_reading.specs.declared.frames.Frame.{Frame}
 use Rattle.paw_reading.specs.declared.frames.OpenLoop.{OpenLoop}
 use Rattle.paw_reading.specs.declared.halt.Halt.TheVariants as halt
-use Rattle.paw_reading.specs.Run.{Run, piece_closed, fits, text_printed, with_world, without_loop, line_dropped, anew, is_ignored}
-use Rattle.paw_reading.specs.Run.{with_line_heard, reply, is_yes, is_no, taken_phrase}
-use Rattle.paw_reading.specs.Reading.{Stop, Redescribes, Restarts, Halts, Out, Left, Waits, Stopped, halts, step_noted, after_call}
-use Rattle.paw_reading.specs.Reading.{at_level, next_object_or, is_taken, object_taken, over_objects, loop_of, over, prompt_answered}
-use Rattle.paw_reading.specs.Reading.{prompt_asked, after_test, after_parse, coming_phrase, after_action, carried_out, reads_one}
-use Rattle.paw_reading.specs.Reading.{condacts, is_for_now, entries, from_condact, rest_of_loop, read_at_level, table_called, deeper}
+use Rattle.paw_reading.specs.Run.{Run, piece_closed, fits, text_printed, with_world, without_loop, line_dropped, anew, with_line_heard}
+use Rattle.paw_reading.specs.Run.{taken_phrase}
+use Rattle.paw_reading.specs.Reading.{Stop, Redescribes, Restarts, Halts, Out, Left, Waits, Stopped, Called, step_noted, after_call, at_level}
+use Rattle.paw_reading.specs.Reading.{next_object_or, object_taken, loop_of, coming_phrase, carried_out, rest_of_loop, table_called, deeper}
 use Rattle.paw_reading.specs.Reading.{rest_of_table}
 use Rattle.paw_reading.specs.GoingOn.{on_path}
 use Rattle.paw_reading.specs.inner.Parts.{goodbye, quit_question}
-use Rattle.paw_reading.proofs.Lists.{drop_more}
-use Rattle.paw_reading.proofs.EachCondact.{by_test}
-use Rattle.paw_reading.proofs.LeavesLoop.{either, open_or_not, at_level_is}
+use Rattle.paw_reading.proofs.Cases.{open_or_not}
+use Rattle.paw_reading.proofs.Rules.{at_level_is}
+use Rattle.paw_reading.proofs.EachStep.{Relation, Steps, Levels, Paths, Point, BeforeEntry, AtCondact, table_of, past_condact, from, afresh, itself, StandsAt}
+use Rattle.paw_reading.proofs.EachStep.{tested, noted_printed, hearing, levels, rest, along}
 
 -- A text that the reading itself prints of a game, besides what condacts print.
 pub data IsSaid (g : GameLists) : Text → Type 0 where
@@ -83,13 +76,16 @@ abbrev pub Inside : (i : Claim) → i.At → Out → Type 0
 Inside i j x = Ends i j (i.on j) x
 
 -- The table is left, and no loop of its level is open.
-abbrev pub Outside : (i : Claim) → i.At → ℕ → Out → Type 0
-Outside i j lv x = Ends i j (λ r. i.on j r × (at_level lv r.turning ≡ None)) x
+abbrev pub LeftSo : (i : Claim) → i.At → Run → Type 0
+LeftSo i j r = i.on j r × (at_level (i.level j) r.turning ≡ None)
 
-pub inside : (i : Claim) (j : i.At) (lv : ℕ) (x : Out) → Outside i j lv x → Inside i j x
-inside i j lv (Left a r) on = on.0
-inside i j lv (Waits p path r) on = on
-inside i j lv (Stopped stop r) on = on
+abbrev pub Outside : (i : Claim) → i.At → Out → Type 0
+Outside i j x = Ends i j (LeftSo i j) x
+
+pub inside : (i : Claim) (j : i.At) (x : Out) → Outside i j x → Inside i j x
+inside i j (Left a r) on = on.0
+inside i j (Waits p path r) on = on
+inside i j (Stopped stop r) on = on
 
 -- A run that may wait at this prompt along these frames, the first of which is at this place.
 abbrev pub Along : (i : Claim) → Prompt → Run → i.At → List Frame → Type 0
@@ -104,14 +100,6 @@ pub along_any : (i : Claim) (p : Prompt) (r : Run) → ((j : i.At) (u : ℕ) →
 along_any i p r opens calls asks closed j f [] own = (asks f, (own, closed j))
 along_any i p r opens calls asks closed j f (h ∷ path) own =
     (own, (calls f h.table, along_any i p r opens calls asks closed (i.called j h.table) h path (opens j h.table)))
-
--- This condact stands at the frame.
-abbrev pub StandsAt : Story → Frame → Condact → Type 0
-StandsAt g f c = condact_at g.game f.table f.entry f.at ≡ Some c
-
--- The run once an action noted its step, and printed this text.
-abbrev pub noted_printed : Frame → Condact → Text → Run → Run
-noted_printed f c text r = text_printed text (step_noted f c true r)
 
 -- Each step of reading keeps it.
 pub record Carries (g : Story) (i : Claim) : Type 0 where
@@ -129,7 +117,8 @@ pub record Carries (g : Story) (i : Claim) : Type 0 where
   -- the object loop
   pub opened : (j : i.At) (f : Frame) (c : Condact) (r : Run) → StandsAt g f c → c.code ≡ DOALL → i.on j r →
       i.loop (loop_of (i.level j) f (named_place r.world c.a))
-  pub own : (j : i.At) (t : ℕ) (r : Run) (l : OpenLoop) → i.table j t → i.on j r → r.turning ≡ Some l → l.level ≡ i.level j → i.table j l.table × i.loop (record l { last = 0 })
+  pub own : (j : i.At) (t : ℕ) (r : Run) (l : OpenLoop) → i.table j t → i.on j r → r.turning ≡ Some l → l.level ≡ i.level j →
+      i.table j l.table × i.loop (record l { last = 0 })
   pub taken : (j : i.At) (l : OpenLoop) (o : ℕ) (r : Run) → l.level ≡ i.level j → i.table j l.table → i.loop l → o < length g.game.objects → i.on j r →
       i.on j (object_taken g.game l o r)
   pub no_loop : (j : i.At) (r : Run) → i.on j r → i.on j (without_loop r)
@@ -156,202 +145,151 @@ pub record Carries (g : Story) (i : Claim) : Type 0 where
   pub restarted : (j : i.At) (r : Run) → i.acted j r → i.stop Restarts (anew r)
   pub ended : (j : i.At) (r : Run) → i.on j r → i.stop (Halts halt.Over) (piece_closed (without_loop (line_dropped r)))
 
-all_left : {A : Type 0} (xs : List A) → drop 0 xs ≡ xs
-all_left [] = refl
-all_left (x ∷ xs) = refl
-
 -- ---- from each step to a whole table ----
 
 module _ (g : Story) (i : Claim) (k : Carries g i) where
-  abbrev GoesOn : i.At → (Bool → Run → Out) → Type 0
-  GoesOn j go = (a : Bool) (r : Run) → i.on j r → Inside i j (go a r)
+  again : (j : i.At) (next : OpenLoop → Run → Out) → ((l : OpenLoop) (r : Run) → at_level (i.level j) r.turning ≡ Some l → i.on j r → Outside i j (next l r)) →
+      (x : Out) → Inside i j x → Outside i j (next_object_or (i.level j) next x)
+  again j next h (Left a r) on =
+      open_or_not (Outside i j) (λ l. next l r) (Left a r) (at_level (i.level j) r.turning) (λ l e. h l r e on) (λ none. (on, none))
+  again j next h (Waits p path r) on = on
+  again j next h (Stopped stop r) on = on
 
-  again : (j : i.At) (lv : ℕ) (next : OpenLoop → Run → Out) →
-      ((l : OpenLoop) (r : Run) → at_level lv r.turning ≡ Some l → i.on j r → Outside i j lv (next l r)) → (x : Out) → Inside i j x →
-      Outside i j lv (next_object_or lv next x)
-  again j lv next h (Left a r) on =
-      open_or_not (Outside i j lv) (λ l. next l r) (Left a r) (at_level lv r.turning) (λ l e. h l r e on) (λ none. (on, none))
-  again j lv next h (Waits p path r) on = on
-  again j lv next h (Stopped stop r) on = on
-
-  passes : (j : i.At) (lv : ℕ) → i.level j ≡ lv → (l : OpenLoop) (body : Run → Out) → l.level ≡ lv → i.table j l.table → i.loop l →
-      ((r : Run) → i.on j r → Inside i j (body r)) → (n : ℕ) → n ≤ length g.game.objects → (r : Run) → i.on j r →
-      Outside i j lv (over_objects g lv l body n r)
-  unfolding over_objects
-  passes j lv at l body is own may h zero few r on = (k.no_loop j r on, refl)
-  passes j lv at l body is own may h (suc n) few r on =
-      let o : ℕ = length g.game.objects - suc n in
-      either (Outside i j lv) (is_taken g.game r.world l o) _ _
-      (again j lv (λ _. over_objects g lv l body n) (λ m s e q. passes j lv at l body is own may h n (omega arith) s q) (body (object_taken g.game l o r))
-      (h (object_taken g.game l o r) (k.taken j l o r (is ∙ sym at) own may (omega arith) on)))
-      (passes j lv at l body is own may h n (omega arith) r on)
-
-  after : (Leaves : Run → Type 0) (j : i.At) (lv u : ℕ) → i.level j ≡ lv → (f : Frame) (go : Bool → Run → Out) → i.table j f.table → i.call f u →
-      ((a : Bool) (r : Run) → i.on j r → Ends i j Leaves (go a r)) → (x : Out) → Outside i (i.called j u) (suc lv) x → Ends i j Leaves (after_call f go x)
-  after Leaves j lv u at f go own call h (Left b r) on =
-      h (f.acted || b) r (k.up j u r on.0 (subst (λ n. at_level (suc n) r.turning ≡ None) (sym at) on.1))
-  after Leaves j lv u at f go own call h (Waits p path r) on = k.above j u p f path r own call on
-  after Leaves j lv u at f go own call h (Stopped stop r) on = on
-
-  -- ---- prompts and phrases ----
-
-  over_ends : (j : i.At) (r : Run) → i.on j r → Inside i j (over g r)
-  over_ends j r on =
-      by_test (Inside i j) (fits r (goodbye g r)) _ (halts (halt.Spent spent.Text) r)
-      (λ fit. k.ended j (text_printed (goodbye g r) r) (k.printed j r (goodbye g r) on (Says r.world GOODBYE_MESSAGE) fit)) (k.too_long j r on)
-
-  answered : (j : i.At) (p : Prompt) (f : Frame) (go : Bool → Run → Out) → GoesOn j go → (line : Line) (r : Run) → i.acted j r →
-      Inside i j (prompt_answered g p f go line r)
-  answered j prompt.Quit f go h line r on = either (Inside i j) (is_yes line) _ (Left true r) (h f.acted r (k.reads_on j r on)) (k.reads_on j r on)
-  answered j prompt.Again f go h line r on =
-      either (Inside i j) (is_no line) (over g r) (Stopped Restarts (anew r)) (over_ends j r (k.reads_on j r on)) (k.restarted j r on)
-  answered j _ f go h line r on = h true r (k.reads_on j r on)
-
-  asked : (j : i.At) (p : Prompt) (f : Frame) (go : Bool → Run → Out) → i.asks f p → i.table j f.table → GoesOn j go → (r : Run) (lines : Lines) →
-      i.closed j r lines → Inside i j (prompt_asked g p f go r lines)
-  unfolding prompt_asked
-  asked j p f go asks own h r [] on = k.waits j p f r asks own on
-  asked j p f go asks own h r (line ∷ lines) on =
-      either (Inside i j) (is_ignored r.world line) _ _
-      (asked j p f go asks own h (piece_closed (record r { events = lines })) lines (k.ignored j r line lines on))
-      (answered j p f go h (reply line) (with_line_heard line (record r { events = lines })) (k.heard j r line lines on))
-
-  parsed : (j : i.At) (f : Frame) (next go : Bool → Run → Out) → GoesOn j next → GoesOn j go → (r : Run) (p : Parsed) → coming_phrase g r ≡ p → i.on j r →
-      Inside i j (after_parse f next go r p)
-  parsed j f next go hn hg r (IsSentence s left) e on = hn f.acted (taken_phrase s left r) (k.sentence j r s left on e)
-  parsed j f next go hn hg r (IsUnknown left) e on = hg f.acted (record r { pending = left }) (k.unknown j r left on e)
-  parsed j f next go hn hg r IsNoPhrase e on = hg f.acted r on
-
-  -- ---- one condact ----
+  after : (Leaves : Run → Type 0) (j : i.At) (u : ℕ) (f : Frame) (go : Bool → Run → Out) → i.table j f.table → i.call f u →
+      ((a : Bool) (r : Run) → i.on j r → Ends i j Leaves (go a r)) → (x : Out) → Outside i (i.called j u) x → Ends i j Leaves (after_call f go x)
+  after Leaves j u f go own call h (Left b r) on =
+      h (f.acted || b) r (k.up j u r on.0 (subst (λ n. at_level n r.turning ≡ None) (k.deeper j u) on.1))
+  after Leaves j u f go own call h (Waits p path r) on = k.above j u p f path r own call on
+  after Leaves j u f go own call h (Stopped stop r) on = on
 
   -- What an effect at a frame leads to.
-  abbrev LeadsSo : i.At → ℕ → Frame → Effect → Type 0
-  LeadsSo j lv f (effect.Call u) = i.call f u
-  LeadsSo j lv f (effect.Loop p) = i.loop (loop_of lv f p)
-  LeadsSo j lv f (effect.Ask p) = i.asks f p
-  LeadsSo j lv f _ = Unit {0}
+  abbrev LeadsSo : i.At → Frame → Effect → Type 0
+  LeadsSo j f (effect.Call u) = i.call f u
+  LeadsSo j f (effect.Loop p) = i.loop (loop_of (i.level j) f p)
+  LeadsSo j f (effect.Ask p) = i.asks f p
+  LeadsSo j f _ = Unit {0}
 
-  leads_so : (j : i.At) (lv : ℕ) → i.level j ≡ lv → (f : Frame) (c : Condact) (r : Run) → StandsAt g f c → i.on j r → (e : Effect) → Leads r.world c e →
-      LeadsSo j lv f e
-  leads_so j lv at f c r stands on effect.Go leads = tt
-  leads_so j lv at f c r stands on (effect.Exit a) leads = tt
-  leads_so j lv at f c r stands on effect.Redescribe leads = tt
-  leads_so j lv at f c r stands on (effect.Call u) leads = subst (i.call f) (sym leads.1) (k.calls f c stands leads.0)
-  leads_so j lv at f c r stands on (effect.Loop p) leads =
-      subst (λ n. i.loop (loop_of n f p)) at (subst (λ q. i.loop (loop_of (i.level j) f q)) (sym leads.1) (k.opened j f c r stands leads.0 on))
-  leads_so j lv at f c r stands on (effect.Ask p) leads = k.asked f c p stands leads
-  leads_so j lv at f c r stands on effect.Parse leads = tt
-  leads_so j lv at f c r stands on effect.Spent leads = tt
+  leads_so : (j : i.At) (f : Frame) (c : Condact) (r : Run) → StandsAt g f c → i.on j r → (e : Effect) → Leads r.world c e → LeadsSo j f e
+  leads_so j f c r stands on effect.Go leads = tt
+  leads_so j f c r stands on (effect.Exit a) leads = tt
+  leads_so j f c r stands on effect.Redescribe leads = tt
+  leads_so j f c r stands on (effect.Call u) leads = subst (i.call f) (sym leads.1) (k.calls f c stands leads.0)
+  leads_so j f c r stands on (effect.Loop p) leads =
+      subst (λ q. i.loop (loop_of (i.level j) f q)) (sym leads.1) (k.opened j f c r stands leads.0 on)
+  leads_so j f c r stands on (effect.Ask p) leads = k.asked f c p stands leads
+  leads_so j f c r stands on effect.Parse leads = tt
+  leads_so j f c r stands on effect.Spent leads = tt
 
-  module _ (sub : ℕ → Run → Out) (j : i.At) (lv : ℕ) (at : i.level j ≡ lv)
-      (calls : (u : ℕ) (r : Run) → i.on j r → Outside i (i.called j u) (suc lv) (sub u r)) where
-    after_tested : (f : Frame) (next go : Bool → Run → Out) → i.table j f.table → GoesOn j next → GoesOn j go → (c : Condact) → StandsAt g f c → (r : Run) →
-        (t : Truth) → (t ≡ truth.Ask → c.code ≡ QUIT) → ((b : Bool) → i.on j (step_noted f c b r)) → Inside i j (after_test g f next go c r t)
-    after_tested f next go own hn hg c stands r truth.Yes asks on = hg f.acted (step_noted f c true r) (on true)
-    after_tested f next go own hn hg c stands r truth.No asks on = hn f.acted (step_noted f c false r) (on false)
-    after_tested f next go own hn hg c stands r truth.Ask asks on =
-        let shown : Run = noted_printed f c (quit_question g r) r in
-        by_test (Inside i j) (fits (step_noted f c true r) (quit_question g r)) _ (halts (halt.Spent spent.Text) (step_noted f c true r))
-        (λ fit. asked j prompt.Quit f go (k.asked f c prompt.Quit stands (asks refl)) own hg (piece_closed shown) r.events
-        (k.closes j shown (k.printed j (step_noted f c true r) (quit_question g r) (on true) (Puts r.world QUIT_MESSAGE) fit)))
-        (k.too_long j (step_noted f c true r) (on true))
+  -- From a run of which it holds, so does how reading on ends.
+  abbrev relation : i.At → Relation
+  relation j = record {
+    on = λ p r x y. i.table j (table_of p) → i.on j r → Inside i j y;
+    acted = λ f c w e r x y. i.table j f.table → LeadsSo j f e → i.acted j r → Inside i j y;
+    asked = λ f p r lines x y. i.table j f.table → i.asks f p → i.closed j r lines → Inside i j y;
+    loop = λ l n r x y. i.table j l.table → i.loop (afresh l) → i.on j r → Outside i j y;
+    call = λ u r x y. i.on j r → Outside i (i.called j u) y;
+    whole = λ t r x y. i.table j t → i.on j r → Outside i j y;
+  }
 
-    after_acted : (f : Frame) (next go : Bool → Run → Out) → i.table j f.table → GoesOn j next → GoesOn j go → (e : Effect) → LeadsSo j lv f e → (r : Run) →
-        i.acted j r → Inside i j (after_action g sub lv f next go e r)
-    after_acted f next go own hn hg effect.Go leads r on = hg true r (k.reads_on j r on)
-    after_acted f next go own hn hg (effect.Exit a) leads r on = k.reads_on j r on
-    after_acted f next go own hn hg effect.Redescribe leads r on = k.redescribed j r on
-    after_acted f next go own hn hg (effect.Call u) leads r on = after (i.on j) j lv u at f go own leads hg (sub u r) (calls u r (k.reads_on j r on))
-    after_acted f next go own hn hg (effect.Loop p) leads r on =
-        inside i j lv _ (passes j lv at (loop_of lv f p) (go true) refl own leads (hg true) (length g.game.objects) (omega arith) r (k.reads_on j r on))
-    after_acted f next go own hn hg (effect.Ask p) leads r on =
-        asked j p f go leads own hg (piece_closed r) r.events (k.closes j r (k.reads_on j r on))
-    after_acted f next go own hn hg effect.Parse leads r on = parsed j f next go hn hg r (coming_phrase g r) refl (k.reads_on j r on)
-    after_acted f next go own hn hg effect.Spent leads r on = k.too_long j r (k.reads_on j r on)
+  heard : (j : i.At) (r : Run) (line : Line) (lines : Lines) → i.closed j r (line ∷ lines) → i.on j (hearing line lines r)
+  heard j r line lines on = k.reads_on j (hearing line lines r) (k.heard j r line lines on)
 
-    one : (f : Frame) (next go : Bool → Run → Out) → i.table j f.table → GoesOn j next → GoesOn j go → (c : Condact) → StandsAt g f c → (r : Run) →
-        length r.read < READ_LIMIT → i.on j r → Inside i j (reads_one g sub lv f next go c r)
-    one f next go own hn hg c stands r few on =
-        let d : Done = effect_of g r.world c in
-        let s : Run = step_noted f c true r in
-        either (Inside i j) (is_condition c) _ _
-        (after_tested f next go own hn hg c stands (with_world (holds g.game r.world c).world r) (holds g.game r.world c).answer
-        (condition_asks g.game r.world c) (λ b. k.tested j f c b r stands on few))
-        (by_test (Inside i j) (fits s d.text) _ (halts (halt.Spent spent.Text) s)
-        (λ fit. after_acted f next go own hn hg d.act.effect (leads_so j lv at f c r stands on d.act.effect (effect_leads g r.world c))
-        (carried_out d (text_printed d.text s)) (k.acts j f c r stands on few fit))
-        (k.unfit j f c r on few))
+  own_round : (j : i.At) (t : ℕ) → i.table j t → (next : OpenLoop → Run → Out) →
+      ((l : OpenLoop) (s : Run) → l.level ≡ i.level j → i.table j l.table → i.loop (afresh l) → i.on j s → Outside i j (next l s)) → (x : Out) →
+      Inside i j x → Outside i j (next_object_or (i.level j) next x)
+  own_round j t own next more x on =
+      again j next (λ l s e q.
+      let found = at_level_is (i.level j) s.turning l e in
+      let may = k.own j t s l own q found.1 found.0 in more l s found.0 may.0 may.1 q) x on
 
-    -- ---- entries, tables ----
+  steps : (sub over_sub : Called) (j : i.At) → Steps g itself sub over_sub (i.level j) (relation j)
+  steps sub over_sub j = record {
+    left = λ t e a r none own on. on;
+    passed = λ t e en r x y is not_so h. h;
+    matched = λ t e en r x y is now h. h;
+    ended = λ t e n r x y none h. h;
+    exhausted = λ f c r stands many own on. k.exhausted j r on;
+    holds_so = λ f c r x y stands few is h own on. h own (k.tested j f c true r stands on few);
+    fails = λ f c r x y stands few is h own on. h own (k.tested j f c false r stands on few);
+    asks = λ f c r x y stands few is e fit h own on.
+        let s : Run = tested g f c true r in
+        h own (k.asked f c prompt.Quit stands (condition_asks g.game r.world c e)) (k.closes j (text_printed (quit_question g s) s)
+        (k.printed j s (quit_question g s) (k.tested j f c true r stands on few) (Puts s.world QUIT_MESSAGE) fit));
+    question_long = λ f c r stands few is e long own on. k.too_long j (tested g f c true r) (k.tested j f c true r stands on few);
+    acts = λ f c r x y stands few is fit h own on.
+        h own (leads_so j f c r stands on (effect_of g r.world c).act.effect (effect_leads g r.world c)) (k.acts j f c r stands on few fit);
+    text_long = λ f c r stands few is long own on. k.unfit j f c r on few;
+    goes = λ f c w r x y h own leads on. h own (k.reads_on j r on);
+    exits = λ f c w a r own leads on. k.reads_on j r on;
+    redescribes = λ f c w r own leads on. k.redescribed j r on;
+    calls = λ f c w u r x y h go own leads on.
+        after (i.on j) j u f (from g over_sub (i.level j) (past_condact f)) own leads (λ a s. go a s own) y (h (k.reads_on j r on));
+    loops = λ f c w p r x y h own leads on. inside i j y (h own leads (k.reads_on j r on));
+    prompts = λ f c w p r x y h own leads on. h own leads (k.closes j r (k.reads_on j r on));
+    sentence = λ f c w r s left x y e h own leads on. h own (k.sentence j r s left (k.reads_on j r on) e);
+    unknown = λ f c w r left x y e h own leads on. h own (k.unknown j r left (k.reads_on j r on) e);
+    no_phrase = λ f c w r x y h own leads on. h own (k.reads_on j r on);
+    too_long = λ f c w r own leads on. k.too_long j r (k.reads_on j r on);
+    waits = λ f p r own asks on. k.waits j p f r asks own on;
+    ignored = λ f p r line lines x y h own asks on. h own asks (k.ignored j r line lines on);
+    answered = λ f p r line lines x y h own asks on. h own (heard j r line lines on);
+    quits = λ f r line lines own asks on. heard j r line lines on;
+    restarts = λ f r line lines own asks on. k.restarted j (hearing line lines r) (k.heard j r line lines on);
+    is_over = λ f r line lines fit own asks on.
+        let s : Run = hearing line lines r in
+        k.ended j (text_printed (goodbye g s) s) (k.printed j s (goodbye g s) (heard j r line lines on) (Says s.world GOODBYE_MESSAGE) fit);
+    goodbye_long = λ f r line lines long own asks on. k.too_long j (hearing line lines r) (heard j r line lines on);
+    loop_ends = λ l r own may on. (k.no_loop j r on, refl);
+    loop_passes = λ l n r x y few h. h;
+    loop_takes = λ l n r x y is few h more own may on.
+        again j _ (λ m s e q. more s own may q) y
+        (h own (k.taken j (afresh l) (length g.game.objects - suc n) r is own may (omega (arith, few)) on));
+    goes_round = λ p r x y h more own on. own_round j (table_of p) own (rest_of_loop g over_sub (i.level j)) more y (h own on);
+  }
 
-    row : (t e : ℕ) → i.table j t → (next : Bool → Run → Out) → GoesOn j next → (n : ℕ) (cs : List Condact) →
-        drop n (condacts_of (entry_at g.game t e)) ≡ cs → GoesOn j (condacts g sub lv t e next n cs)
-    unfolding condacts
-    row t e own next hn n [] d a r on = hn a r on
-    row t e own next hn n (c ∷ cs) d a r on =
-        let here = drop_more (condacts_of (entry_at g.game t e)) cs n c d in
-        by_test (Inside i j) (nat_lt (length r.read) READ_LIMIT) _ (halts (halt.Spent spent.Condacts) r)
-        (λ few. one (record { table = t; entry = e; at = n; acted = a }) next _ own hn (row t e own next hn (suc n) cs here.1) c here.0 r
-        (ltb-true (length r.read) READ_LIMIT few) on) (k.exhausted j r on)
+  -- As many levels are left both ways, and no more than there are.
+  abbrev Enough : ℕ → ℕ → ℕ → Type 0
+  Enough n o lv = (n ≡ o) × (n ≤ LEVEL_LIMIT - lv)
 
-    rows : (t : ℕ) → i.table j t → (e : ℕ) (es : List Entry) → drop e (table_at g.game t) ≡ es → GoesOn j (entries g sub lv t e es)
-    unfolding entries
-    rows t own e [] d a r on = on
-    rows t own e (en ∷ es) d a r on =
-        let here = drop_more (table_at g.game t) es e en d in
-        either (Inside i j) (is_for_now r en) _ _
-        (row t e own (entries g sub lv t (suc e) es) (rows t own (suc e) es here.1) 0 en.condacts
-        (all_left (condacts_of (entry_at g.game t e)) ∙ ap condacts_of here.0) a r on)
-        (rows t own (suc e) es here.1 a r on)
+  at_levels : Levels g itself i.At i.level Enough relation
+  at_levels = record {
+    below = i.called;
+    one_more = k.deeper;
+    fewer = λ n o lv enough. (omega (arith, enough.0), omega (arith, enough.1));
+    steps = λ j n o enough. steps (table_called g n (i.level j)) (table_called g o (i.level j)) j;
+    too_deep = λ j u r on. k.too_deep j u r on;
+    deep_once = λ j n u r x y odd. elim odd [ inl e ↦ absurd (omega (arith, e.0)) | inr e ↦ absurd (omega (arith, e.0)) ];
+    called = λ j n o u r x y enough h on. h (k.opens j u (omega (arith, enough.1))) (k.down j u r on);
+  }
 
-    plain : (t e n : ℕ) → i.table j t → GoesOn j (from_condact g sub lv t e n)
-    plain t e zero own a r on = rows t own e (drop e (table_at g.game t)) refl a r on
-    plain t e (suc n) own a r on =
-        row t e own _ (rows t own (suc e) (drop (suc e) (table_at g.game t)) refl) (suc n) (drop (suc n) (condacts_of (entry_at g.game t e))) refl a r on
+  enough : (lv : ℕ) → Enough (LEVEL_LIMIT - lv) (LEVEL_LIMIT - lv) lv
+  enough lv = (refl, omega arith)
 
-    looped : (t : ℕ) → i.table j t → (l : OpenLoop) (r : Run) → at_level lv r.turning ≡ Some l → i.on j r → Outside i j lv (rest_of_loop g sub lv l r)
-    looped t own l r e on =
-        let here = at_level_is lv r.turning l e in
-        let may = k.own j t r l own on here.1 (here.0 ∙ sym at) in
-        passes j lv at (record l { last = 0 }) _ here.0 may.0 may.1 (plain l.table l.entry (suc l.at) may.0 true)
-        (length g.game.objects - suc l.last) (omega arith) r on
-
-    reads : (t e n : ℕ) → i.table j t → (a : Bool) (r : Run) → i.on j r → Outside i j lv (read_at_level g sub lv t e n a r)
-    reads t e n own a r on = again j lv (rest_of_loop g sub lv) (looped t own) _ (plain t e n own a r on)
-
-  -- ---- levels and paths ----
-
-  called : (n lv : ℕ) → n ≤ LEVEL_LIMIT - lv → (j : i.At) → i.level j ≡ lv → (u : ℕ) (r : Run) → i.on j r →
-      Outside i (i.called j u) (suc lv) (table_called g n lv u r)
-  unfolding table_called
-  called zero lv levels j at u r on = k.too_deep j u r on
-  called (suc n) lv levels j at u r on =
-      let next : i.level (i.called j u) ≡ suc lv = k.deeper j u ∙ ap suc at in
-      reads (table_called g n (suc lv)) (i.called j u) (suc lv) next (called n (suc lv) (omega (arith, levels)) (i.called j u) next) u 0 0
-      (k.opens j u (omega (arith, levels, at))) false r (k.down j u r on)
-
-  below : (j : i.At) (lv : ℕ) → i.level j ≡ lv → (u : ℕ) (r : Run) → i.on j r → Outside i (i.called j u) (suc lv) (deeper g lv u r)
-  below j lv at = called (LEVEL_LIMIT - lv) lv (omega arith) j at
-
-  ways : (p : Prompt) (j : i.At) (lv : ℕ) → i.level j ≡ lv → (f : Frame) (path : List Frame) (r : Run) → Along i p r j (f ∷ path) →
-      Outside i j lv (on_path g p lv (f ∷ path) r)
-  ways p j lv at f [] r here =
-      let own : i.table j f.table = here.1.0 in
-      again j lv (rest_of_loop g (deeper g lv) lv) (looped (deeper g lv) j lv at (below j lv at) f.table own) _
-      (asked j p f _ here.0 own (plain (deeper g lv) j lv at (below j lv at) f.table f.entry (suc f.at) own) r r.events here.1.1)
-  ways p j lv at f (h ∷ path) r here =
-      after (λ s. i.on j s × (at_level lv s.turning ≡ None)) j lv h.table at f _ here.0 here.1.0
-      (reads (deeper g lv) j lv at (below j lv at) f.table f.entry (suc f.at) here.0) _
-      (ways p (i.called j h.table) (suc lv) (k.deeper j h.table ∙ ap suc at) h path r here.1.1)
+  paths : Paths g itself i.At i.level Enough relation at_levels (λ j p path r x y. Along i p r j path → Outside i j y)
+  unfolding at_levels
+  paths = record {
+    enough = enough;
+    at_prompt = λ j p f r x y h more on.
+        own_round j f.table on.1.0 (rest_of_loop g (deeper g (i.level j)) (i.level j)) more y (h on.1.0 on.0 on.1.1);
+    above = λ j p f h path r x y on go along.
+        after (LeftSo i j) j h.table f (rest_of_table g (i.level j) f.table f.entry (suc f.at)) along.0 along.1.0 (λ a s. go a s along.0) y (on along.1.1);
+  }
 
   -- So it holds wherever a table that is called ends, the rest of a table, and going on along a path.
-  pub deeper_carries : (j : i.At) (u : ℕ) (r : Run) → i.on j r → Outside i (i.called j u) (suc (i.level j)) (deeper g (i.level j) u r)
-  deeper_carries j = below j (i.level j) refl
+  pub deeper_carries : (j : i.At) (u : ℕ) (r : Run) → i.on j r → Outside i (i.called j u) (deeper g (i.level j) u r)
+  deeper_carries j u r on =
+      levels g itself i.At i.level Enough relation at_levels (LEVEL_LIMIT - i.level j) (LEVEL_LIMIT - i.level j) j (enough (i.level j)) u r on
 
-  pub rest_carries : (j : i.At) (t e n : ℕ) → i.table j t → (a : Bool) (r : Run) → i.on j r →
-      Outside i j (i.level j) (rest_of_table g (i.level j) t e n a r)
-  rest_carries j t e n own a r on = reads (deeper g (i.level j)) j (i.level j) refl (deeper_carries j) t e n own a r on
+  from_point : (j : i.At) (p : Point) → i.table j (table_of p) → (a : Bool) (r : Run) → i.on j r →
+      Outside i j (next_object_or (i.level j) (rest_of_loop g (deeper g (i.level j)) (i.level j)) (from g (deeper g (i.level j)) (i.level j) p a r))
+  from_point j p own a r on =
+      rest g itself i.At i.level Enough relation at_levels (LEVEL_LIMIT - i.level j) (LEVEL_LIMIT - i.level j) j (enough (i.level j)) p a r own on
+
+  pub rest_carries : (j : i.At) (t e n : ℕ) → i.table j t → (a : Bool) (r : Run) → i.on j r → Outside i j (rest_of_table g (i.level j) t e n a r)
+  rest_carries j t e zero own = from_point j (BeforeEntry t e) own
+  rest_carries j t e (suc n) own = from_point j (AtCondact t e (suc n)) own
 
   pub path_carries : (p : Prompt) (j : i.At) (f : Frame) (path : List Frame) (r : Run) → Along i p r j (f ∷ path) →
-      Outside i j (i.level j) (on_path g p (i.level j) (f ∷ path) r)
-  path_carries p j f path r here = ways p j (i.level j) refl f path r here
+      Outside i j (on_path g p (i.level j) (f ∷ path) r)
+  path_carries p j f path r here =
+      along g itself i.At i.level Enough relation at_levels (λ j p path r x y. Along i p r j path → Outside i j y) paths p j f path r here

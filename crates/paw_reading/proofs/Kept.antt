@@ -21,8 +21,9 @@ use Rattle.paw_reading.specs.Turn.{TurnPhase, Ending, WaitsAt, Halted, Unended, 
 use Rattle.paw_reading.specs.Turn.{goes_on}
 use Rattle.paw_reading.specs.inner.Parts.{line_set}
 use Rattle.paw_reading.specs.inner.Always.{EndsIn}
-use Rattle.paw_reading.proofs.Induction.{IsSaid, StandsAt, noted_printed}
-use Rattle.paw_reading.proofs.RunInduction.{RunClaim, RunCarries, TurnCarries, TurnEnds, turn_ends, goes_on_ends}
+use Rattle.paw_reading.proofs.EachStep.{StandsAt, noted_printed}
+use Rattle.paw_reading.proofs.Induction.{IsSaid}
+use Rattle.paw_reading.proofs.RunInduction.{RunClaim, RunCarries, TurnCarries, TurnEnds, between, turn_ends, goes_on_ends}
 
 -- Each step keeps what holds of a run.
 pub record IsKept (g : Story) (P : Run → Type 0) : Type 0 where
@@ -58,7 +59,7 @@ module _ (g : Story) (P : Run → Type 0) (k : IsKept g P) where
     on = P;
     acted = P;
     closed = λ r lines. P (record r { events = lines });
-    wait = λ path r. P r;
+    wait = λ p path r. P r;
     anew = P;
     halt = λ halt r. P r;
   }
@@ -74,10 +75,10 @@ module _ (g : Story) (P : Run → Type 0) (k : IsKept g P) where
     taken = k.taken;
     no_loop = k.no_loop;
     closes = k.closed;
-    waits = λ f r on. on;
+    waits = λ p f r on. on;
     ignored = λ r line lines on. k.closed (record r { events = lines }) (k.next r line lines on);
     heard = λ r line lines on. k.heard line (record r { events = lines }) (k.next r line lines on);
-    above = λ f path r on. on;
+    above = λ p f path r on. on;
     exhausted = λ r on. on;
     too_long = λ r on. on;
     unfit = k.noted;
@@ -106,7 +107,7 @@ module _ (g : Story) (P : Run → Type 0) (k : IsKept g P) where
 
   -- So it holds wherever a turn ends, and where going on from a prompt does.
   pub turn_kept : (n : ℕ) (s : TurnPhase) (r : Run) → P r → EndsIn P (turn g n s r)
-  turn_kept n s r on = in_ending (turn g n s r) (turn_ends g claim carries turns n s r on)
+  turn_kept n s r on = in_ending (turn g n s r) (turn_ends g claim (between g claim carries) turns n s r on)
 
   pub goes_on_kept : (n : ℕ) (p : Prompt) (path : List Frame) (r : Run) → P r → EndsIn P (goes_on g n p path r)
   goes_on_kept n p path r on = in_ending (goes_on g n p path r) (goes_on_ends g claim carries turns n p path r on on on)

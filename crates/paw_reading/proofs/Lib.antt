@@ -1,7 +1,9 @@
 pub mod Lists
-pub mod EachCondact
-pub mod LeavesLoop
+pub mod Cases
 pub mod Rules
+pub mod EachStep
+pub mod EachPhase
+pub mod LeavesLoop
 pub mod Onward
 pub mod Induction
 pub mod RunInduction
@@ -18,9 +20,11 @@ pub mod Past
 pub mod Waiting
 pub mod Counts
 pub mod Held
+pub mod WorldSteps
 pub mod Sounding
 pub mod Rightly
 pub mod Saving
 pub mod HoldingBytes
+pub mod SpokenActions
 pub mod PrintedBytes
 pub mod ShowingBytes

@@ -1,11 +1,8 @@
 -- Reading on follows its rules.
-use Rattle.std.proofs.Common.{◌≡◌, ℕ, suc, ◌-◌, Bool, true, false, [], ◌∷◌, Some, None, inl, inr, refl, sym, ap, ◌∙◌}
+use Rattle.std.proofs.Common.{◌≡◌, ℕ, suc, ◌-◌, Bool, true, false, [], ◌∷◌, Some, inl, inr, refl, sym, ap, ◌∙◌}
 use Rattle.std.proofs.Common.{length, arith}
-use Rattle.std.specs.Prelude.{if◌then◌else◌}
 use Rattle.paw_base.specs.declared.parts.Condact.{Condact}
-use Rattle.paw_game.specs.declared.parts.Entry.{Entry}
 use Rattle.paw_effects.specs.Story.{Story}
-use Rattle.paw_game.specs.Tables.{table_at, entry_at}
 use Rattle.paw_effects.specs.declared.act.Prompt.{Prompt}
 use Rattle.paw_effects.specs.declared.act.Effect.TheVariants as effect
 use Rattle.paw_reading.specs.declared.frames.Frame.{Frame}
@@ -13,31 +10,17 @@ use Rattle.paw_reading.specs.declared.frames.OpenLoop.{OpenLoop}
 use Rattle.paw_reading.specs.Run.{Run, without_loop, with_line_heard}
 use Rattle.paw_reading.specs.Reading.{Out, Left, Waits, Stopped, after_call, at_level, next_object_or, is_taken, object_taken}
 use Rattle.paw_reading.specs.Reading.{over_objects, loop_of, over, prompt_asked}
-use Rattle.paw_reading.specs.Reading.{reads_one, entries, is_for_now, rest_of_entry, from_condact, rest_of_loop, deeper}
+use Rattle.paw_reading.specs.Reading.{reads_one, from_condact, rest_of_loop, deeper}
 use Rattle.paw_reading.specs.Reading.{rest_of_table, game_over}
 use Rattle.paw_reading.specs.inner.Parts.{goodbye}
 use Rattle.paw_reading.specs.GoingOn.{on_path}
 use Rattle.paw_reading.specs.inner.Rules.{past, at_frame, leaves, looks, goes, MayRead, ReadsEntries, ReadsCondacts}
 use Rattle.paw_reading.specs.inner.Rules.{FollowsActions}
 use Rattle.paw_reading.specs.inner.Rules.{LoopRules, AnswersPrompts, ReadingOn}
-use Rattle.paw_reading.proofs.Lists.{drop_none, drop_some}
-use Rattle.paw_reading.proofs.LeavesLoop.{LeavesLoop, prints, at_level_own, passes_closes, plain_leaves_loop, deeper_leaves_loop}
-use Rattle.paw_reading.proofs.Rules.{within_budget, within_none, inside_end, inside_condact, again_closed}
+use Rattle.paw_reading.proofs.Cases.{prints}
+use Rattle.paw_reading.proofs.Rules.{at_level_own, within_budget, within_none, inside_end, inside_condact, plain_end, plain_entry}
 use Rattle.paw_reading.proofs.Rules.{after_call_again, deeper_rest, deeper_none}
-
--- ---- entries ----
-
-module _ (g : Story) (sub : ℕ → Run → Out) (lv : ℕ) where
-  -- Past the last entry.
-  pub plain_end : (t e : ℕ) (a : Bool) (r : Run) → entry_at g.game t e ≡ None → from_condact g sub lv t e 0 a r ≡ Left a r
-  unfolding entries
-  plain_end t e a r h = rw (drop_none (table_at g.game t) e h) refl
-
-  -- At an entry.
-  pub plain_entry : (t e : ℕ) (en : Entry) (a : Bool) (r : Run) → entry_at g.game t e ≡ Some en →
-      from_condact g sub lv t e 0 a r ≡ (if is_for_now r en then rest_of_entry g sub lv t e 0 a r else from_condact g sub lv t (suc e) 0 a r)
-  unfolding entries
-  plain_entry t e en a r h = rw (drop_some (table_at g.game t) e en h, h) refl
+use Rattle.paw_reading.proofs.LeavesLoop.{LeavesLoop, passes_closes, plain_leaves_loop, deeper_leaves_loop, again_closed}
 
 -- ---- the loop ----
 
@@ -89,9 +72,8 @@ module _ (g : Story) (lv : ℕ) where
   begins : (f : Frame) (p : ℕ) (r : Run) → goes g lv f (effect.Loop p) r ≡ looks g lv (loop_of lv f p) 0 r
   begins f p r =
       let all : length g.game.objects - 0 ≡ length g.game.objects = omega arith in
-      rw all (again_closed g (deeper g lv) lv _ _
-      (passes_closes g lv (loop_of lv f p) _ refl (plain_leaves_loop g (deeper g lv) lv (deeper_leaves_loop g lv) f.table f.entry (suc f.at) true)
-      (length g.game.objects) r))
+      rw all (again_closed lv _ _
+      (passes_closes g (deeper g lv) lv (deeper_leaves_loop g lv) (loop_of lv f p) refl (length g.game.objects) (omega arith) r))
 
   follows_actions : FollowsActions g lv
   follows_actions = record {

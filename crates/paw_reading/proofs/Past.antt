@@ -1,39 +1,31 @@
 -- What was closed before changes nothing, and stays in front.
-use Rattle.std.proofs.Common.{◌≡◌, ◌≢◌, ℕ, zero, suc, Bool, true, false, List, [], ◌∷◌, ◌++◌, Option, Some, None, refl}
+use Rattle.std.proofs.Common.{◌≡◌, ◌≢◌, ℕ, suc, false, List, [], ◌∷◌, ◌++◌, refl}
 use Rattle.std.proofs.Common.{sym, ap, ◌∙◌, append_assoc, append-nil}
-use Rattle.std.specs.Prelude.{if◌then◌else◌}
 use Rattle.std.specs.List.{concat}
 use Rattle.std.proofs.lemmas.List.Folds.{concat-append}
-use Rattle.paw_base.specs.Bytes.{Lines, Text, Texts}
-use Rattle.paw_base.specs.declared.fault.SpentKind.TheVariants as spent
-use Rattle.paw_base.specs.declared.flags.TheConstants.{LOCATION_FLAG, VERB_FLAG}
-use Rattle.paw_base.specs.declared.tables.TheConstants.{RESPONSE_TABLE, DESCRIBED_TABLE, FRAME_TABLE}
+use Rattle.paw_base.specs.Bytes.{Texts}
 use Rattle.paw_effects.specs.Story.{Story}
-use Rattle.paw_game.specs.Tables.{exit_at}
-use Rattle.paw_world.specs.World.{flag, with_flag}
-use Rattle.paw_phrase.specs.Sentence.{Parsed, IsSentence, IsUnknown, IsNoPhrase}
 use Rattle.paw_effects.specs.declared.act.Prompt.{Prompt}
 use Rattle.paw_effects.specs.declared.act.Prompt.TheVariants as prompt
 use Rattle.paw_reading.specs.declared.frames.Frame.{Frame}
-use Rattle.paw_reading.specs.Run.{Run, StepRow, piece_closed, fits, text_printed, with_world, line_dropped, is_timeout, is_ignored}
-use Rattle.paw_reading.specs.Run.{with_line_heard, taken_phrase}
-use Rattle.paw_reading.specs.declared.halt.Halt.TheVariants as halt
-use Rattle.paw_reading.specs.Reading.{Redescribes, Restarts, Halts, Out, Left, Waits, Stopped}
-use Rattle.paw_reading.specs.Reading.{table_read, coming_phrase}
+use Rattle.paw_reading.specs.Run.{Run, StepRow}
+use Rattle.paw_reading.specs.Reading.{Out, Left, Waits, Stopped}
+use Rattle.paw_reading.specs.Reading.{table_read}
 use Rattle.paw_reading.specs.GoingOn.{on_path}
 use Rattle.paw_reading.specs.inner.GoingOn.{with_lines}
-use Rattle.paw_reading.specs.Turn.{TurnPhase, AtDescribe, AtTimeFrame, AtPhrase, AtResponse, Ending, WaitsAt, Halted}
-use Rattle.paw_reading.specs.Turn.{Unended, saying}
-use Rattle.paw_reading.specs.Turn.{location_described, time_frame_passed, view_text, turn_counted, prompt_text, at_main, after_phrase}
-use Rattle.paw_reading.specs.Turn.{refusal_text}
-use Rattle.paw_reading.specs.Turn.{exit_taken, after_left, table_done, turn, phases_left, first_table, goes_on}
+use Rattle.paw_reading.specs.Turn.{TurnPhase, Ending, WaitsAt, Halted}
+use Rattle.paw_reading.specs.Turn.{Unended}
+use Rattle.paw_reading.specs.Turn.{at_main}
+use Rattle.paw_reading.specs.Turn.{turn, phases_left, first_table, goes_on}
 use Rattle.paw_reading.specs.Turn.{going_on_from, reading}
-use Rattle.paw_reading.specs.Turn.{text_of, timeout_text}
-use Rattle.paw_reading.specs.inner.Parts.{line_set, in_table, unknown_text}
+use Rattle.paw_reading.specs.Turn.{text_of}
+use Rattle.paw_reading.specs.inner.Parts.{in_table}
 use Rattle.paw_reading.specs.inner.Longer.{with_past, without_past, ending_with_past, PastStays, LongerReading}
 use Rattle.paw_reading.specs.inner.Longer.{LongerText}
 use Rattle.paw_reading.proofs.Onward.{waits_on}
 use Rattle.paw_reading.proofs.Stops.{Stops, rest_stops, path_stops}
+use Rattle.paw_reading.proofs.EachStep.{Beside}
+use Rattle.paw_reading.proofs.EachPhase.{TurnRelation, TurnSteps, EndAlike, turns, table_after, at_prompt}
 use Rattle.paw_reading.proofs.Extends.{around, extends, rest_extends, path_extends}
 use Rattle.paw_reading.proofs.Ends.{going_on_ends}
 use Rattle.paw_reading.proofs.Followed.{going_on_is_reading}
@@ -50,9 +42,6 @@ module _ (g : Story) (ps : Texts) (ts : List (List StepRow)) where
   out_with_past (Left a r) = Left a (with_past ps ts r)
   out_with_past (Waits p path r) = Waits p path (with_past ps ts r)
   out_with_past (Stopped stop r) = Stopped stop (with_past ps ts r)
-
-  closed_past : (r : Run) → piece_closed (with_past ps ts r) ≡ with_past ps ts (piece_closed r)
-  closed_past r = rw (append_assoc ps r.pieces (r.current ∷ []), append_assoc ts r.traces (r.read ∷ [])) refl
 
   -- With no lines more.
   past_around : (r : Run) → around ps ts [] r ≡ with_past ps ts r
@@ -73,89 +62,70 @@ module _ (g : Story) (ps : Texts) (ts : List (List StepRow)) where
 
   -- ---- turns ----
 
-  saying_past : (text : Text) (go : Run → Ending) (r : Run) → go (with_past ps ts (text_printed text r)) ≡ ending_with_past ps ts (go (text_printed text r)) →
-      saying text go (with_past ps ts r) ≡ ending_with_past ps ts (saying text go r)
-  saying_past text go r h = by_test (fits r text)
-    where
-      by_test : (b : Bool) →
-          (if b then go (with_past ps ts (text_printed text r)) else Halted (halt.Spent spent.Text) (with_past ps ts r))
-          ≡ ending_with_past ps ts (if b then go (text_printed text r) else Halted (halt.Spent spent.Text) r)
-      by_test true = h
-      by_test false = refl
+  abbrev past : Beside
+  past = record {
+    pieces = λ qs. ps ++ qs;
+    traces = λ us. ts ++ us;
+    events = λ es. es;
+    closes = λ qs p. sym (append_assoc ps qs (p ∷ []));
+    traced = λ us t. sym (append_assoc ts us (t ∷ []));
+    takes = λ line es. refl;
+  }
 
-  module _ (go : TurnPhase → Run → Ending) (pasts : (s : TurnPhase) (r : Run) → go s (with_past ps ts r) ≡ ending_with_past ps ts (go s r)) where
-    connected_past : (r : Run) (to : Option ℕ) →
-        exit_taken g go (with_past ps ts r) to ≡ ending_with_past ps ts (exit_taken g go r to)
-    connected_past r None =
-        saying_past (refusal_text g.game r.world) (go AtTimeFrame) (line_dropped r)
-        (pasts AtTimeFrame (text_printed (refusal_text g.game r.world) (line_dropped r)))
-    connected_past r (Some to) = pasts AtDescribe (with_world (with_flag r.world LOCATION_FLAG to) r)
+  abbrev WaitsPast : Prompt → List Frame → Run → Out → Type 0
+  WaitsPast p path r x = x ≡ Waits p path (with_past ps ts r)
 
-    after_left_past : (t : ℕ) (a : Bool) (r : Run) → after_left g go t a (with_past ps ts r) ≡ ending_with_past ps ts (after_left g go t a r)
-    after_left_past zero true r = pasts AtTimeFrame r
-    after_left_past zero false r = connected_past r
-        (exit_at g.game (flag r.world LOCATION_FLAG) (flag r.world VERB_FLAG))
-    after_left_past (suc zero) a r = pasts AtTimeFrame r
-    after_left_past (suc (suc t)) a r = pasts AtPhrase (with_world (time_frame_passed r.world) r)
+  ends_past : (x : Out) → EndAlike past WaitsPast (out_with_past x) x
+  ends_past (Left a r) = refl
+  ends_past (Waits p path r) = refl
+  ends_past (Stopped stop r) = refl
 
-    table_done_past : (t : ℕ) (x : Out) → table_done g go t (out_with_past x) ≡ ending_with_past ps ts (table_done g go t x)
-    table_done_past t (Left a r) = after_left_past t a r
-    table_done_past t (Waits p path r) = refl
-    table_done_past t (Stopped Redescribes r) = pasts AtDescribe r
-    table_done_past t (Stopped Restarts r) = pasts AtDescribe r
-    table_done_past t (Stopped (Halts halt) r) = refl
+  tables_past : (t : ℕ) (r : Run) → EndAlike past WaitsPast (table_read g t (with_past ps ts r)) (table_read g t r)
+  tables_past t r = rw (table_past t r) (ends_past (table_read g t r))
 
-    read_past : (t : ℕ) (r : Run) → table_done g go t (table_read g t (with_past ps ts r)) ≡ ending_with_past ps ts (table_done g go t (table_read g t r))
-    read_past t r = rw (table_past t r) (table_done_past t (table_read g t r))
+  abbrev with_it : TurnRelation
+  with_it = record {
+    phase = λ n s r x y. x ≡ ending_with_past ps ts y;
+    after = λ n t z x y. x ≡ ending_with_past ps ts y;
+    prompt = λ n r es x y. x ≡ ending_with_past ps ts y;
+  }
 
-    at_main_past : (r : Run) (es : Lines) →
-        at_main g go (with_past ps ts r) es ≡ ending_with_past ps ts (at_main g go r es)
-    unfolding at_main
-    at_main_past r [] = refl
-    at_main_past r (line ∷ es) =
-        by_test (is_ignored r.world line) (is_timeout line)
-        (at_main g go (piece_closed (record r { events = es })) es)
-        (saying (timeout_text g.game r.world) (go AtTimeFrame) (with_line_heard line (record r { events = es })))
-        (go AtPhrase (line_set line (record r { events = es })))
-        (rw (closed_past (record r { events = es })) (at_main_past (piece_closed (record r { events = es })) es))
-        (saying_past (timeout_text g.game r.world) (go AtTimeFrame) (with_line_heard line (record r { events = es }))
-        (pasts AtTimeFrame (text_printed (timeout_text g.game r.world) (with_line_heard line (record r { events = es })))))
-        (pasts AtPhrase (line_set line (record r { events = es })))
-      where
-        by_test : (ignored timeout : Bool) (x y z : Ending) → {x' y' z' : Ending} → x' ≡ ending_with_past ps ts x → y' ≡ ending_with_past ps ts y →
-            z' ≡ ending_with_past ps ts z →
-            (if ignored then x' else if timeout then y' else z') ≡ ending_with_past ps ts (if ignored then x else if timeout then y else z)
-        by_test true timeout x y z hx hy hz = hx
-        by_test false true x y z hx hy hz = hy
-        by_test false false x y z hx hy hz = hz
-
-    after_phrase_past : (r : Run) (p : Parsed) → after_phrase g go (with_past ps ts r) p
-        ≡ ending_with_past ps ts (after_phrase g go r p)
-    after_phrase_past r (IsSentence s rest) = pasts AtResponse (with_world (turn_counted (taken_phrase s rest r).world) (taken_phrase s rest r))
-    after_phrase_past r (IsUnknown rest) =
-        let text : Text = unknown_text g.game r.world in
-        saying_past text (go AtTimeFrame) (line_dropped r) (pasts AtTimeFrame (text_printed text (line_dropped r)))
-    after_phrase_past r IsNoPhrase =
-        saying_past (prompt_text g.game r.world) (λ s. at_main g go (piece_closed s) s.events) (line_dropped r)
-        (rw (closed_past (text_printed (prompt_text g.game r.world) (line_dropped r)))
-        (at_main_past (piece_closed (text_printed (prompt_text g.game r.world) (line_dropped r))) r.events))
+  steps : TurnSteps g past (λ n. n) WaitsPast with_it
+  unfolding turn at_main
+  steps = record {
+    unended = λ s r. refl;
+    describes = λ n r. (λ fit x y h. h, λ long. refl);
+    frames = λ n r x y h. h;
+    responds = λ n r x y h. h;
+    sentence = λ n r s left x y e h. h;
+    unknown = λ n r left e. (λ fit x y h. h, λ long. refl);
+    no_phrase = λ n r e. (λ fit x y h. h, λ long. refl);
+    acted = λ n r x y h. h;
+    leaves = λ n to r x y e h. h;
+    refuses = λ n r e. (λ fit x y h. h, λ long. refl);
+    described_so = λ n a r x y h. h;
+    framed = λ n t a r x y h. h;
+    waits = λ n t p path r x is. rw is refl;
+    again = λ n t r x y h. h;
+    restarts = λ n t r x y h. h;
+    halts = λ n t halt r. refl;
+    awaits = λ n r. refl;
+    ignored = λ n r line es x y h. h;
+    times_out = λ n r line es. (λ fit x y h. h, λ long. refl);
+    takes_line = λ n r line es x y h. h;
+  }
 
   turn_past : (n : ℕ) (s : TurnPhase) (r : Run) → turn g n s (with_past ps ts r) ≡ ending_with_past ps ts (turn g n s r)
-  unfolding turn
-  turn_past zero s r = refl
-  turn_past (suc n) AtDescribe r =
-      saying_past (view_text g.game (location_described r.world)) (λ q. table_done g (turn g n) DESCRIBED_TABLE (table_read g DESCRIBED_TABLE q))
-      (with_world (location_described r.world) r)
-      (read_past (turn g n) (turn_past n) 1 (text_printed (view_text g.game (location_described r.world)) (with_world (location_described r.world) r)))
-  turn_past (suc n) AtTimeFrame r = read_past (turn g n) (turn_past n) FRAME_TABLE r
-  turn_past (suc n) AtPhrase r = after_phrase_past (turn g n) (turn_past n) r (coming_phrase g r)
-  turn_past (suc n) AtResponse r = read_past (turn g n) (turn_past n) RESPONSE_TABLE r
+  turn_past = turns g past (λ n. n) (λ n. refl) WaitsPast tables_past with_it steps
 
   in_table_past : (n : ℕ) (p : Prompt) (path : List Frame) (r : Run) → in_table g n p path (with_past ps ts r) ≡ ending_with_past ps ts (in_table g n p path r)
-  in_table_past n p path r = rw (path_past p 0 path r) (table_done_past (turn g n) (turn_past n) (first_table path) (on_path g p 0 path r))
+  in_table_past n p path r =
+      rw (path_past p 0 path r)
+      (table_after g past (λ j. j) (λ j. refl) WaitsPast tables_past with_it steps n (turn_past n) (first_table path) _ (on_path g p 0 path r)
+      (ends_past (on_path g p 0 path r)))
 
   goes_on_past : (n : ℕ) (p : Prompt) (path : List Frame) (r : Run) → goes_on g n p path (with_past ps ts r) ≡ ending_with_past ps ts (goes_on g n p path r)
-  goes_on_past n prompt.Main path r = at_main_past (turn g n) (turn_past n) r r.events
+  goes_on_past n prompt.Main path r = at_prompt g past (λ j. j) (λ j. refl) WaitsPast tables_past with_it steps n (turn_past n) r r.events
   goes_on_past n prompt.Quit path r = in_table_past n prompt.Quit path r
   goes_on_past n prompt.Again path r = in_table_past n prompt.Again path r
   goes_on_past n prompt.Key path r = in_table_past n prompt.Key path r

@@ -1,7 +1,7 @@
 -- What a game prints has only bytes of its texts, of numbers and of marks.
 use Rattle.std.proofs.Common.{◌≡◌, ℕ, zero, suc, ◌<◌, ◌^◌, ◌==◌, ◌||◌, Bool, true, false, List, [], ◌∷◌, ◌++◌, Option, Some, None}
 use Rattle.std.proofs.Common.{refl, sym, ◌∙◌, ◌-◌, subst, map, slice_get, IsTrue, arith}
-use Rattle.std.specs.Prelude.{if◌then◌else◌, decimal, codes, nat_le, IfSome}
+use Rattle.std.specs.Prelude.{if◌then◌else◌, decimal, codes, nat_le}
 use Rattle.std.specs.List.{list_any, list_all, slice_index_or}
 use Rattle.std.specs.Option.{option_map, option_map_or, unwrap_or}
 use Rattle.std.specs.Str.Parse.{AllDigits}
@@ -32,7 +32,7 @@ use Rattle.paw_game.specs.Game.{GameLists}
 use Rattle.paw_game.specs.Valid.{Valid, is_argument}
 use Rattle.paw_game.specs.inner.Valid.{is_right}
 use Rattle.paw_game.proofs.Right.{right-first, right-second}
-use Rattle.paw_world.specs.World.{World, Position, flag, place, object_moved, is_somewhere}
+use Rattle.paw_world.specs.World.{World, Position, flag, place, is_somewhere}
 use Rattle.paw_world.specs.Weight.{objects_at}
 use Rattle.paw_effects.specs.Standing.{AreBytes}
 use Rattle.paw_effects.specs.Story.{Story}
@@ -43,9 +43,8 @@ use Rattle.paw_effects.specs.Lists.{texts_at, held_text, inventory_text, here_li
 use Rattle.paw_effects.specs.Presence.{named_place, held_objects}
 use Rattle.paw_effects.specs.Signs.{parameter_text, sign_text}
 use Rattle.paw_effects.specs.ObjectWords.{spoken_words}
-use Rattle.paw_effects.specs.Referring.{object_referred}
-use Rattle.paw_effects.specs.ObjectSearch.{first_fitting, some_fits}
-use Rattle.paw_effects.specs.ObjectActions.{destination, first_that_holds, hindrances, outcome, action_tried, acted_on}
+use Rattle.paw_effects.specs.ObjectSearch.{first_fitting}
+use Rattle.paw_effects.specs.ObjectActions.{hindrances, outcome, acted_on}
 use Rattle.paw_effects.specs.AutoActions.{missing_reply, looks_at, acted_on_found}
 use Rattle.paw_effects.specs.Positions.{position_number, position_loaded}
 use Rattle.paw_world.specs.World.{kept_position}
@@ -56,7 +55,8 @@ use Rattle.paw_effects.proofs.Actions.{get, drop, wear, remove, put_in, take_out
 use Rattle.paw_effects.proofs.Worlds.{argument_small, byte_at}
 use Rattle.paw_reading.specs.inner.Always.{is_byte_of, may_be_shown}
 use Rattle.paw_reading.proofs.Induction.{IsSaid, Puts, Says, Shows, Both}
-use Rattle.paw_reading.proofs.LeavesLoop.{either}
+use Rattle.paw_reading.proofs.Cases.{either}
+use Rattle.paw_reading.proofs.SpokenActions.{AllSaid, acted_so, found_so}
 
 -- ---- bytes of texts ----
 
@@ -273,38 +273,14 @@ module _ (g : GameLists) where
 
 -- ---- actions on objects ----
 
--- A fact of what is said at each test.
-abbrev AllSaid : {A : Type 0} → (A → Type 0) → List (Bool × A) → Type 0
-AllSaid P [] = Unit {0}
-AllSaid P ((b, x) ∷ tests) = P x × AllSaid P tests
-
-one_of : {A : Type 0} (P : A → Type 0) (b : Bool) (x : A) (rest : Option A) → P x → IfSome rest P → IfSome (if b then Some x else rest) P
-one_of P true x rest h k = h
-one_of P false x rest h k = k
-
-first_said : (P : _ → Type 0) (tests : _) → AllSaid P tests → IfSome (first_that_holds tests) P
-first_said P [] all = tt
-first_said P ((b, x) ∷ tests) all = one_of P b x (first_that_holds tests) all.0 (first_said P tests all.1)
-
 -- An action, with all that may be said against it and what is said where it is done.
 module _ (g : GameLists) (a : _) (hinders : (u : World) (o : ℕ) → AllSaid (λ x. (v : World) → Only g (spoken_words g v x)) (hindrances u o a))
     (comes : (u : World) → Only g (spoken_words g u (outcome a))) where
-  tried : (w : World) (o : ℕ) (reply : Option _) → IfSome reply (λ x. (v : World) → Only g (spoken_words g v x)) → Only g (action_tried g w o a reply).text
-  tried w o None h = comes (object_moved w o (destination w a))
-  tried w o (Some x) h = h w
-
   acted : (w : World) (o : ℕ) → Only g (acted_on g w o a).text
-  acted w o =
-      tried (object_referred w o) o (first_that_holds (hindrances (object_referred w o) o a))
-      (first_said (λ x. (v : World) → Only g (spoken_words g v x)) (hindrances (object_referred w o) o a) (hinders (object_referred w o) o))
-
-  misses : (w : World) (b : Bool) (x y : _) → Only g (spoken_words g w x) → Only g (spoken_words g w y) → Only g (spoken_words g w (if b then x else y))
-  misses w true x y h k = h
-  misses w false x y h k = k
+  acted = acted_so (Only g) g a hinders comes (λ u. say g u IMPOSSIBLE_MESSAGE)
 
   found : (w : World) (o : Option ℕ) → Only g (spoken_words g w (missing_reply a)) → Only g (acted_on_found g w a o).text
-  found w None missing = misses w (some_fits w) (missing_reply a) _ missing (say g w IMPOSSIBLE_MESSAGE)
-  found w (Some o) missing = acted w o
+  found = found_so (Only g) g a hinders comes (λ u. say g u IMPOSSIBLE_MESSAGE)
 
 -- A message, and one with the name of a container.
 abbrev Told : GameLists → ℕ → Type 0

@@ -1,22 +1,19 @@
 -- Each reading of a valid game stops rightly.
-use Rattle.std.proofs.Common.{◌≡◌, ◌≢◌, ℕ, zero, suc, ◌+◌, ◌*◌, ◌≤◌, Bool, true, false, List, [], ◌∷◌, Option, Some}
+use Rattle.std.proofs.Common.{◌≡◌, ◌≢◌, ℕ, suc, ◌+◌, ◌*◌, ◌≤◌, Bool, true, false, List, [], ◌∷◌, Option, Some}
 use Rattle.std.proofs.Common.{None, refl, sym, ap}
 use Rattle.std.proofs.Common.{subst, length, arith, append-nil}
 use Rattle.std.specs.Prelude.{All}
 use Rattle.std.proofs.Math.ListN.{get_or}
-use Rattle.paw_base.specs.Bytes.{Lines, Text, Seed, Texts}
+use Rattle.paw_base.specs.Bytes.{Seed, Texts}
 use Rattle.paw_base.specs.declared.limits.TheConstants.{READ_LIMIT, LEVEL_LIMIT}
-use Rattle.paw_base.specs.declared.fault.SpentKind.TheVariants as spent
-use Rattle.paw_base.specs.declared.flags.TheConstants.{LOCATION_FLAG, VERB_FLAG, UNLIT_VIEW_FLAG, DARK_VIEW_FLAG}
+use Rattle.paw_base.specs.declared.flags.TheConstants.{UNLIT_VIEW_FLAG, DARK_VIEW_FLAG}
 use Rattle.paw_base.specs.declared.flags.TheConstants.{VIEW_FLAG, LAST_FRAME_FLAG, FIRST_FRAME_FLAG, UNLIT_FRAME_FLAG}
 use Rattle.paw_base.specs.declared.flags.TheConstants.{DARK_FRAME_FLAG}
 use Rattle.paw_base.specs.declared.codes.TheConstants.{QUIT, END, ANYKEY}
-use Rattle.paw_base.specs.declared.tables.TheConstants.{RESPONSE_TABLE, DESCRIBED_TABLE, FRAME_TABLE}
+use Rattle.paw_base.specs.declared.tables.TheConstants.{FRAME_TABLE}
 use Rattle.paw_game.specs.Game.{GameLists}
-use Rattle.paw_game.specs.Tables.{exit_at}
 use Rattle.paw_game.specs.Valid.{Valid}
-use Rattle.paw_world.specs.World.{World, Position, flag, with_flag, is_dark, is_unlit, flag_lowered, flag_lowered_if}
-use Rattle.paw_phrase.specs.Sentence.{Parsed, IsSentence, IsUnknown, IsNoPhrase}
+use Rattle.paw_world.specs.World.{World, Position, is_dark, is_unlit, flag_lowered, flag_lowered_if}
 use Rattle.paw_effects.specs.inner.Worlds.{StandsIn}
 use Rattle.paw_effects.specs.inner.Standing.{MayBePosition}
 use Rattle.paw_effects.specs.Story.{Story}
@@ -26,18 +23,13 @@ use Rattle.paw_effects.proofs.Asking.{AsksAt}
 use Rattle.paw_effects.proofs.Placed.{IsPlaced, opened_placed}
 use Rattle.paw_reading.specs.declared.frames.Frame.{Frame}
 use Rattle.paw_reading.specs.declared.frames.OpenLoop.{OpenLoop}
-use Rattle.paw_reading.specs.Run.{Run, StepRow, piece_closed, fits, text_printed, with_world, line_dropped, is_timeout, is_ignored}
-use Rattle.paw_reading.specs.Run.{with_line_heard, taken_phrase}
+use Rattle.paw_reading.specs.Run.{Run, StepRow}
+use Rattle.paw_reading.specs.declared.halt.Halt.{Halt}
 use Rattle.paw_reading.specs.declared.halt.Halt.TheVariants as halt
 use Rattle.paw_reading.specs.Reading.{Redescribes, Restarts, Halts, Out, Left, Waits, Stopped, table_read}
-use Rattle.paw_reading.specs.Reading.{coming_phrase}
-use Rattle.paw_reading.specs.Turn.{TurnPhase, AtDescribe, AtTimeFrame, AtPhrase, AtResponse, Ending, WaitsAt, Halted}
-use Rattle.paw_reading.specs.Turn.{reading, going_on_from, saying}
-use Rattle.paw_reading.specs.Turn.{location_described, time_frame_passed, view_text, turn_counted, prompt_text, at_main, after_phrase}
-use Rattle.paw_reading.specs.Turn.{refusal_text}
-use Rattle.paw_reading.specs.Turn.{exit_taken, after_left, table_done, turn, phases_left, opening, first_table, goes_on}
-use Rattle.paw_reading.specs.Turn.{timeout_text}
-use Rattle.paw_reading.specs.inner.Parts.{line_set, in_table, unknown_text}
+use Rattle.paw_reading.specs.Turn.{AtDescribe, Ending, WaitsAt, Halted, reading, going_on_from, location_described, time_frame_passed}
+use Rattle.paw_reading.specs.Turn.{phases_left, opening, first_table, goes_on}
+use Rattle.paw_reading.specs.inner.Parts.{in_table}
 use Rattle.paw_reading.specs.Bounds.{IsLine, ValidStory}
 use Rattle.paw_reading.specs.inner.Bounds.{IsBounded}
 use Rattle.paw_reading.specs.inner.Longer.{without_past, with_past, ending_with_past}
@@ -45,8 +37,8 @@ use Rattle.paw_reading.specs.inner.Waits.{LeadsTo, tables_of, AreOpenTo, AreFram
 use Rattle.paw_reading.specs.inner.Waits.{StopsRightly, StopsBounded}
 use Rattle.paw_reading.specs.inner.Waits.{ReadingsStopRightly, GoingOnStopsRightly, ReadingsAreBounded}
 use Rattle.paw_reading.specs.inner.Waits.{GoingOnIsBounded}
+use Rattle.paw_reading.proofs.RunInduction.{RunClaim, Ends, TurnEnds, TurnCarries, Between, turn_ends, path_goes_on, main_goes_on}
 use Rattle.paw_reading.proofs.Held.{Sound, Held, none_open, table_held, path_held}
-use Rattle.paw_reading.proofs.LeavesLoop.{either}
 use Rattle.paw_reading.proofs.Past.{past_stays}
 use Rattle.paw_effects.proofs.Worlds.{world_at, world_is}
 use Rattle.paw_reading.proofs.Sounding.{IsResting, EndsSound, are_lines, reading_sounds, going_on_sounds}
@@ -97,108 +89,79 @@ record IsPlacedRightly (g : GameLists) (p : Prompt) (path : List Frame) (r : Run
   frames : AreFramesAndLoop g p path r.turning
   line : IsLineTaken path r
 
+-- Between tables the objects of the world stand at places of the game, and no loop is open.
+record IsBetween (g : GameLists) (r : Run) : Type 0 where
+  of : IsPlaced g r.world
+  none : r.turning ≡ None
+
+abbrev HaltsPlaced : GameLists → Halt → Run → Type 0
+HaltsPlaced g halt.Over r = IsPlacedRightly g prompt.Over [] r
+HaltsPlaced g _ r = Unit {0}
+
+abbrev claim : GameLists → RunClaim
+claim g = record {
+  on = IsBetween g;
+  acted = IsBetween g;
+  closed = λ r lines. IsBetween g r × (r.pending ≡ []);
+  wait = λ p path r. (p ≢ prompt.Over) × IsPlacedRightly g p path r;
+  anew = IsBetween g;
+  halt = HaltsPlaced g;
+}
+
 abbrev StopsPlaced : GameLists → Ending → Type 0
-StopsPlaced g (WaitsAt p path r) = (p ≢ prompt.Over) × IsPlacedRightly g p path r
-StopsPlaced g (Halted halt.Over r) = IsPlacedRightly g prompt.Over [] r
-StopsPlaced g _ = Unit {0}
+StopsPlaced g e = TurnEnds (claim g) e
+
+placed : (g : GameLists) (r : Run) → Sound g [] r.world r.turning → IsBetween g r
+placed g r k = record { of = k.of; none = none_open g r.world r.turning k }
+
+table_placed : (g : GameLists) (t : ℕ) → t ≤ FRAME_TABLE → (x : Out) → Held g [] [] t x → Ends (claim g) x
+table_placed g t low (Left a r) k = placed g r k
+table_placed g t low (Waits p path r) k =
+    let rightly = waits_rightly g t k.code p path r low k.asks (omega (arith, k.few)) k.first k.leads k.sound in
+    (rightly.0, record { frames = rightly.1; line = some_path g k.code path r k.leads })
+table_placed g t low (Stopped Redescribes r) k = placed g r k
+table_placed g t low (Stopped Restarts r) k = placed g r k
+table_placed g t low (Stopped (Halts halt.Over) r) k = record { frames = (refl, k.0); line = λ e. k.1.0 }
+table_placed g t low (Stopped (Halts _) r) k = tt
 
 module _ (g : Story) (v : Valid g.game) where
-  abbrev IsRightly : Ending → Type 0
-  IsRightly e = StopsPlaced g.game e
+  turns : TurnCarries g (claim g.game)
+  turns = record {
+    begins = λ r k. k;
+    described = λ r k. record { of = described_placed g.game r.world k.of; none = k.none };
+    passed = λ r k. record { of = time_frame_placed g.game r.world k.of; none = k.none };
+    went = λ r to k is. record { of = k.of; none = k.none };
+    counted = λ r k. record { of = k.of; none = k.none };
+    dropped = λ r k. record { of = k.of; none = k.none };
+    set = λ r line lines k. record { of = k.0.of; none = k.0.none };
+    awaits = λ r k. (λ e. cc, record { frames = (refl, k.0.none); line = λ e. k.1 });
+  }
 
-  -- The objects of the world stand at places of the game, and no loop is open.
-  record IsBetween (r : Run) : Type 0 where
-    of : IsPlaced g.game r.world
-    none : r.turning ≡ None
-
-  abbrev GoRightly : (Run → Ending) → Type 0
-  GoRightly go = (r : Run) → IsBetween r → IsRightly (go r)
-
-  saying_rightly : (text : Text) (go : Run → Ending) → GoRightly go → GoRightly (saying text go)
-  saying_rightly text go h r k =
-      let printed_so : IsBetween (text_printed text r) = record { of = k.of; none = k.none } in
-      either IsRightly (fits r text) _ (Halted (halt.Spent spent.Text) r) (h (text_printed text r) printed_so) tt
-
-  module _ (go : TurnPhase → Run → Ending) (goes : (s : TurnPhase) → GoRightly (go s)) where
-    connected_rightly : (to : Option ℕ) → GoRightly (λ r. exit_taken g go r to)
-    connected_rightly None r k =
-        saying_rightly (refusal_text g.game r.world) (go AtTimeFrame) (goes AtTimeFrame) (line_dropped r) (record { of = k.of; none = k.none })
-    connected_rightly (Some to) r k =
-        goes AtDescribe (with_world (with_flag r.world LOCATION_FLAG to) r) (record { of = k.of; none = k.none })
-
-    after_left_rightly : (t : ℕ) (a : Bool) → GoRightly (after_left g go t a)
-    after_left_rightly zero true r k = goes AtTimeFrame r k
-    after_left_rightly zero false r k =
-        connected_rightly (exit_at g.game (flag r.world LOCATION_FLAG) (flag r.world VERB_FLAG)) r k
-    after_left_rightly (suc zero) a r k = goes AtTimeFrame r k
-    after_left_rightly (suc (suc t)) a r k =
-        goes AtPhrase (with_world (time_frame_passed r.world) r) (record { of = time_frame_placed g.game r.world k.of; none = k.none })
-
-    between : (r : Run) → Sound g.game [] r.world r.turning → IsBetween r
-    between r k = record { of = k.of; none = none_open g.game r.world r.turning k }
-
-    table_done_rightly : (t : ℕ) → t ≤ FRAME_TABLE → (x : Out) → Held g.game [] [] t x → IsRightly (table_done g go t x)
-    table_done_rightly t low (Left a r) k = after_left_rightly t a r (between r k)
-    table_done_rightly t low (Waits p path r) k =
-        let rightly = waits_rightly g.game t k.code p path r low k.asks (omega (arith, k.few)) k.first k.leads k.sound in
-        (rightly.0, record { frames = rightly.1; line = some_path g.game k.code path r k.leads })
-    table_done_rightly t low (Stopped Redescribes r) k = goes AtDescribe r (between r k)
-    table_done_rightly t low (Stopped Restarts r) k = goes AtDescribe r (between r k)
-    table_done_rightly t low (Stopped (Halts halt.Over) r) k = record { frames = (refl, k.0); line = λ e. k.1.0 }
-    table_done_rightly t low (Stopped (Halts _) r) k = tt
-
-    read_rightly : (t : ℕ) → t ≤ FRAME_TABLE → GoRightly (λ r. table_done g go t (table_read g t r))
-    read_rightly t low r k = table_done_rightly t low (table_read g t r) (table_held g v t r k.of k.none)
-
-    at_main_rightly : (r : Run) (lines : Lines) → IsBetween r → r.pending ≡ [] → IsRightly (at_main g go r lines)
-    unfolding at_main
-    at_main_rightly r [] k empty = (λ e. cc, record { frames = (refl, k.none); line = λ e. empty })
-    at_main_rightly r (line ∷ lines) k empty =
-        let s : Run = record r { events = lines } in
-        either IsRightly (is_ignored r.world line) _ _
-        (at_main_rightly (piece_closed s) lines (record { of = k.of; none = k.none }) empty)
-        (either IsRightly (is_timeout line) _ _
-        (saying_rightly (timeout_text g.game r.world) (go AtTimeFrame) (goes AtTimeFrame) (with_line_heard line s)
-        (record { of = k.of; none = k.none }))
-        (goes AtPhrase (line_set line s) (record { of = k.of; none = k.none })))
-
-    after_phrase_rightly : (p : Parsed) → GoRightly (λ r. after_phrase g go r p)
-    after_phrase_rightly (IsSentence s rest) r k =
-        goes AtResponse (with_world (turn_counted (taken_phrase s rest r).world) (taken_phrase s rest r)) (record { of = k.of; none = k.none })
-    after_phrase_rightly (IsUnknown rest) r k =
-        saying_rightly (unknown_text g.game r.world) (go AtTimeFrame) (goes AtTimeFrame) (line_dropped r)
-        (record { of = k.of; none = k.none })
-    after_phrase_rightly IsNoPhrase r k =
-        either IsRightly (fits (line_dropped r) (prompt_text g.game r.world)) _
-        (Halted (halt.Spent spent.Text) (line_dropped r))
-        (at_main_rightly (piece_closed (text_printed (prompt_text g.game r.world) (line_dropped r))) r.events (record { of = k.of; none = k.none }) refl) tt
-
-  turn_rightly : (n : ℕ) (s : TurnPhase) → GoRightly (turn g n s)
-  unfolding turn
-  turn_rightly zero s r k = tt
-  turn_rightly (suc n) AtDescribe r k =
-      saying_rightly (view_text g.game (location_described r.world)) (λ q. table_done g (turn g n) DESCRIBED_TABLE (table_read g DESCRIBED_TABLE q))
-      (read_rightly (turn g n) (turn_rightly n) 1 (omega arith))
-      (with_world (location_described r.world) r) (record { of = described_placed g.game r.world k.of; none = k.none })
-  turn_rightly (suc n) AtTimeFrame r k = read_rightly (turn g n) (turn_rightly n) FRAME_TABLE (omega arith) r k
-  turn_rightly (suc n) AtPhrase r k =
-      after_phrase_rightly (turn g n) (turn_rightly n) (coming_phrase g r) r k
-  turn_rightly (suc n) AtResponse r k = read_rightly (turn g n) (turn_rightly n) RESPONSE_TABLE (omega arith) r k
+  tables : Between g (claim g.game)
+  tables = record {
+    printed = λ r text k is fit. record { of = k.of; none = k.none };
+    too_long = λ r k. tt;
+    sentence = λ r s left k is. record { of = k.of; none = k.none };
+    asks = λ r text k. (record { of = k.of; none = k.none }, refl);
+    ignored = λ r line lines k. (record { of = k.0.of; none = k.0.none }, k.1);
+    heard = λ r line lines k. record { of = k.0.of; none = k.0.none };
+    tables = λ t r low k. table_placed g.game t low (table_read g t r) (table_held g v t r k.of k.none);
+  }
 
   -- ---- going on ----
 
   in_table_rightly : (n : ℕ) (p : Prompt) (code : ℕ) (path : List Frame) (r : Run) → IsPlaced g.game r.world → AsksAt code p →
-      AreOpenTo g.game code path r.turning
-      → IsRightly (in_table g n p path r)
+      AreOpenTo g.game code path r.turning → StopsPlaced g.game (in_table g n p path r)
   in_table_rightly n p code [] r of asks at = absurd at.leads
   in_table_rightly n p code (f ∷ path) r of asks at =
-      table_done_rightly (turn g n) (turn_rightly n) f.table at.outermost _
-      (path_held g v p code [] 0 f path r refl asks (omega (arith, at.few)) at.leads (record { of = of; loop = at.loop }))
+      path_goes_on g (claim g.game) tables turns n f.table _
+      (table_placed g.game f.table at.outermost _
+      (path_held g v p code [] 0 f path r refl asks (omega (arith, at.few)) at.leads (record { of = of; loop = at.loop })))
 
   goes_on_rightly : (n : ℕ) (p : Prompt) (path : List Frame) (r : Run) → IsPlaced g.game r.world → IsPlacedRightly g.game p path r →
-      IsRightly (goes_on g n p path r)
+      StopsPlaced g.game (goes_on g n p path r)
   goes_on_rightly n prompt.Main path r of at =
-      at_main_rightly (turn g n) (turn_rightly n) r r.events (record { of = of; none = at.frames.1 }) (at.line at.frames.0)
+      main_goes_on g (claim g.game) tables turns n r (record { of = of; none = at.frames.1 }, at.line at.frames.0)
   goes_on_rightly n prompt.Quit path r of at = in_table_rightly n prompt.Quit QUIT path r of refl at.frames
   goes_on_rightly n prompt.Again path r of at = in_table_rightly n prompt.Again END path r of refl at.frames
   goes_on_rightly n prompt.Key path r of at = in_table_rightly n prompt.Key ANYKEY path r of refl at.frames
@@ -242,7 +205,7 @@ stop_bounded g valid seed n _ k = tt
 pub readings_stop_rightly : ReadingsStopRightly
 readings_stop_rightly g seed es valid lines =
     stop_rightly g valid seed 0 (reading g seed es)
-    (turn_rightly g valid.game (phases_left (opening g seed es)) AtDescribe (opening g seed es)
+    (turn_ends g (claim g.game) (tables g valid.game) (turns g valid.game) (phases_left (opening g seed es)) AtDescribe (opening g seed es)
     (record { of = opened_placed g.game seed valid.game; none = refl }))
     (reading_sounds g valid seed 0 es (are_lines es lines))
 

@@ -1,9 +1,9 @@
 -- The rules of reading, as equations.
 use Rattle.std.proofs.Common.{◌≡◌, ℕ, zero, suc, ◌+◌, ◌-◌, ◌≤◌, ◌<◌, Bool, true, false, List, [], ◌∷◌, Option, Some}
-use Rattle.std.proofs.Common.{None, inl, inr, refl, length, drop, arith}
-use Rattle.std.specs.Prelude.{if◌then◌else◌, nat_lt}
-use Rattle.std.specs.Option.{option_map_or}
+use Rattle.std.proofs.Common.{None, refl, sym, ap, ◌∙◌, length, drop, arith}
+use Rattle.std.specs.Prelude.{◌==◌, if◌then◌else◌, nat_lt}
 use Rattle.std.proofs.lemmas.Bool.Decides.{nat_tests}
+use Rattle.std.proofs.lemmas.Bool.{eqb-true}
 use Rattle.std.proofs.lemmas.List.{length-drop}
 use Rattle.std.proofs.lemmas.Option.{slice_get_past}
 use Rattle.paw_base.specs.declared.limits.TheConstants.{READ_LIMIT, LEVEL_LIMIT}
@@ -25,7 +25,6 @@ use Rattle.paw_reading.specs.Reading.{reads_one, condacts, is_for_now, entries, 
 use Rattle.paw_reading.specs.Reading.{rest_of_loop}
 use Rattle.paw_reading.specs.Reading.{table_called, deeper, rest_of_table}
 use Rattle.paw_reading.proofs.Lists.{drop_none, drop_some, drop_more}
-use Rattle.paw_reading.proofs.LeavesLoop.{LeavesLoop, CallsLeavingLoop, at_level_is, looped_closes}
 
 -- The budget holds, or is used up.
 pub within_budget : (r : Run) (x : Out) → length r.read < READ_LIMIT → within r x ≡ x
@@ -33,6 +32,22 @@ within_budget r x h = let t : nat_lt (length r.read) READ_LIMIT ≡ true = grind
 
 pub within_none : (r : Run) (x : Out) → READ_LIMIT ≤ length r.read → within r x ≡ halts (halt.Spent spent.Condacts) r
 within_none r x h = let t : nat_lt (length r.read) READ_LIMIT ≡ false = grind (arith, nat_tests) in rw t refl
+
+-- ---- the loop of a level ----
+
+pub at_level_own : (lv : ℕ) (l : OpenLoop) → l.level ≡ lv → at_level lv (Some l) ≡ Some l
+at_level_own lv l h = grind (arith, nat_tests)
+
+chosen : (b : Bool) (l l' : OpenLoop) → ◌≡◌ {A = Option OpenLoop} (if b then Some l else None) (Some l') → (b ≡ true) × (l ≡ l')
+chosen true l l' h = (refl, cc)
+chosen false l l' h = cc
+
+pub at_level_is : (lv : ℕ) (o : Option OpenLoop) (l : OpenLoop) → at_level lv o ≡ Some l → (l.level ≡ lv) × (o ≡ Some l)
+at_level_is lv None l h = cc
+at_level_is lv (Some l') l h =
+    let t = chosen (l'.level == lv) l' l h in (ap (λ x. x.level) (sym t.1) ∙ eqb-true _ _ t.0, ap Some t.1)
+
+-- ---- a table ----
 
 module _ (g : Story) (sub : ℕ → Run → Out) (lv : ℕ) where
   -- Past the last condact of an entry.
@@ -108,27 +123,16 @@ module _ (g : Story) (sub : ℕ → Run → Out) (lv : ℕ) where
   unfolding entries
   plain_past t e a r h = rw (drop_none (table_at g.game t) e (slice_get_past (table_at g.game t) e h)) refl
 
-  -- ---- the loop of the level ----
+  -- Past the last entry.
+  pub plain_end : (t e : ℕ) (a : Bool) (r : Run) → entry_at g.game t e ≡ None → from_condact g sub lv t e 0 a r ≡ Left a r
+  unfolding entries
+  plain_end t e a r h = rw (drop_none (table_at g.game t) e h) refl
 
-  -- What is closed already stays.
-  pub again_closed : (next : OpenLoop → Run → Out) (x : Out) → LeavesLoop None x → next_object_or lv next x ≡ x
-  again_closed next (Left a r) (inl k) = rw k refl
-  again_closed next (Left a r) (inr k) = rw k refl
-  again_closed next (Waits p path r) k = refl
-  again_closed next (Stopped stop r) k = refl
-
-  -- Once is as good as twice.
-  pub again_again : CallsLeavingLoop sub → (x : Out) → next_object_or lv (rest_of_loop g sub lv) (next_object_or lv (rest_of_loop g sub lv) x)
-      ≡ next_object_or lv (rest_of_loop g sub lv) x
-  again_again calls (Left a r) = go (at_level lv r.turning) refl
-    where
-      go : (o : Option OpenLoop) → at_level lv r.turning ≡ o →
-          next_object_or lv (rest_of_loop g sub lv) (option_map_or (λ l. rest_of_loop g sub lv l r) o (Left a r))
-          ≡ option_map_or (λ l. rest_of_loop g sub lv l r) o (Left a r)
-      go None e = rw e refl
-      go (Some l) e = again_closed _ _ (looped_closes g sub lv calls l r (at_level_is lv r.turning l e).0)
-  again_again calls (Waits p path r) = refl
-  again_again calls (Stopped stop r) = refl
+  -- At an entry.
+  pub plain_entry : (t e : ℕ) (en : Entry) (a : Bool) (r : Run) → entry_at g.game t e ≡ Some en →
+      from_condact g sub lv t e 0 a r ≡ (if is_for_now r en then rest_of_entry g sub lv t e 0 a r else from_condact g sub lv t (suc e) 0 a r)
+  unfolding entries
+  plain_entry t e en a r h = rw (drop_some (table_at g.game t) e en h, h) refl
 
   -- The loop goes on after the call.
   pub after_call_again : (f : Frame) (go : Bool → Run → Out) (x : Out) →

@@ -1,35 +1,26 @@
 -- What stays true through a reading: of the world, the line, the text and the lines to come.
-use Rattle.std.proofs.Common.{◌≡◌, ℕ, zero, suc, ◌+◌, ◌-◌, ◌*◌, ◌<◌, ◌≤◌, ◌/◌, ◌%◌, Bool, true, false, List, []}
+use Rattle.std.proofs.Common.{◌≡◌, ℕ, zero, suc, ◌+◌, ◌*◌, ◌<◌, ◌≤◌, Bool, true, false, List, []}
 use Rattle.std.proofs.Common.{◌∷◌, Option, Some}
-use Rattle.std.proofs.Common.{None, refl, length, min, arith, length-append}
+use Rattle.std.proofs.Common.{None, refl, length, arith, length-append}
 use Rattle.std.specs.Prelude.{if◌then◌else◌, All}
-use Rattle.std.proofs.Math.Nat.{min-le_left}
 use Rattle.std.proofs.lemmas.Bool.{leb-true}
 use Rattle.std.proofs.lemmas.List.Elements.{All-append}
 use Rattle.paw_base.specs.Bytes.{Bytes, Line, Lines, Text, Seed}
 use Rattle.paw_base.specs.declared.limits.TheConstants.{READ_LIMIT, PIECE_LIMIT}
 use Rattle.paw_base.specs.declared.parts.Condact.{Condact}
-use Rattle.paw_base.specs.declared.parts.ObjectFacts.{ObjectFacts}
-use Rattle.paw_base.specs.declared.flags.TheConstants.{TIMED_OUT_FLAG, PRONOUN_NOUN_FLAG, PRONOUN_ADJECTIVE_FLAG}
-use Rattle.paw_base.specs.declared.flags.TheConstants.{NOUN_FLAG, ADJECTIVE_FLAG, LOOP_FLAG, LOW_TURNS_FLAG}
-use Rattle.paw_base.specs.declared.flags.TheConstants.{HIGH_TURNS_FLAG, LOCATION_FLAG, VERB_FLAG, PREPOSITION_FLAG}
-use Rattle.paw_base.specs.declared.flags.TheConstants.{ADVERB_FLAG, SECOND_NOUN_FLAG, SECOND_ADJECTIVE_FLAG}
-use Rattle.paw_base.specs.declared.flags.TheConstants.{TIMED_OUT_BIT, UNLIT_VIEW_FLAG, DARK_VIEW_FLAG, VIEW_FLAG}
-use Rattle.paw_base.specs.declared.flags.TheConstants.{LAST_FRAME_FLAG, FIRST_FRAME_FLAG, UNLIT_FRAME_FLAG}
-use Rattle.paw_base.specs.declared.flags.TheConstants.{DARK_FRAME_FLAG}
+use Rattle.paw_base.specs.declared.flags.TheConstants.{PRONOUN_NOUN_FLAG, PRONOUN_ADJECTIVE_FLAG}
+use Rattle.paw_base.specs.declared.flags.TheConstants.{LOCATION_FLAG}
 use Rattle.paw_base.specs.declared.words.TheConstants.{NO_WORD}
 use Rattle.paw_game.specs.Game.{GameLists}
-use Rattle.paw_game.specs.Tables.{facts_at}
 use Rattle.paw_game.specs.Valid.{Valid}
-use Rattle.paw_game.proofs.ValidGames.{condact_follows, exit-leads}
-use Rattle.paw_world.specs.World.{World, flag, with_flag, is_dark, is_unlit, flag_lowered, flag_lowered_if}
+use Rattle.paw_game.proofs.ValidGames.{condact_follows}
+use Rattle.paw_world.specs.World.{World, flag, with_flag}
 use Rattle.paw_phrase.specs.declared.Sentence.{Sentence}
 use Rattle.paw_phrase.specs.Sentence.{IsSentence, IsUnknown}
 use Rattle.paw_phrase.proofs.Phrases.{IsRest as IsRestOf, rest-shorter, rest-all, sentence-rest, unknown-rest}
-use Rattle.paw_phrase.proofs.SentenceBytes.{AreBytes as AreWords, parsed-bytes}
+use Rattle.paw_phrase.proofs.SentenceBytes.{AreBytes as AreWords}
 use Rattle.paw_effects.specs.Story.{Story}
 use Rattle.paw_effects.specs.declared.act.Prompt.{Prompt}
-use Rattle.paw_effects.specs.Counts.{turns_taken}
 use Rattle.paw_effects.specs.Holds.{holds}
 use Rattle.paw_effects.specs.Effects.{Done, effect_of}
 use Rattle.paw_reading.specs.declared.frames.Frame.{Frame}
@@ -40,7 +31,7 @@ use Rattle.paw_reading.specs.Run.{with_timeout, with_sentence, taken_phrase}
 use Rattle.paw_reading.specs.declared.halt.Halt.{Halt}
 use Rattle.paw_reading.specs.declared.halt.Halt.TheVariants as halt
 use Rattle.paw_reading.specs.Reading.{step_noted}
-use Rattle.paw_reading.specs.Reading.{object_named, object_taken}
+use Rattle.paw_reading.specs.Reading.{object_taken}
 use Rattle.paw_reading.specs.Reading.{carried_out}
 use Rattle.paw_reading.specs.Reading.{coming_phrase}
 use Rattle.paw_reading.specs.Turn.{AtDescribe, Ending}
@@ -48,13 +39,13 @@ use Rattle.paw_reading.specs.Turn.{location_described, time_frame_passed}
 use Rattle.paw_reading.specs.Turn.{turn_counted}
 use Rattle.paw_reading.specs.Turn.{phases_left, opening, reading, going_on_from}
 use Rattle.paw_reading.specs.inner.Parts.{line_set}
-use Rattle.paw_reading.proofs.Induction.{noted_printed}
+use Rattle.paw_reading.proofs.EachStep.{noted_printed}
+use Rattle.paw_reading.proofs.WorldSteps.{described_so, time_frame_so, counted_so, went_so, timeout_so, taken_so, spoken_so, phrase_words}
 use Rattle.paw_reading.proofs.Kept.{IsKept}
-use Rattle.paw_reading.proofs.RunInduction.{RunClaim, RunCarries, TurnCarries, TurnEnds, turn_ends, goes_on_ends}
+use Rattle.paw_reading.proofs.RunInduction.{RunClaim, RunCarries, TurnCarries, TurnEnds, between, turn_ends, goes_on_ends}
 use Rattle.paw_reading.specs.Bounds.{IsLine, ValidStory}
-use Rattle.paw_effects.proofs.Worlds.{IsWorldAt, few_locations, few_objects, facts_small, later, flag_small, flagged}
+use Rattle.paw_effects.proofs.Worlds.{IsWorldAt, few_objects, later}
 use Rattle.paw_effects.proofs.Worlds.{start_so, anew_so}
-use Rattle.paw_effects.proofs.Changes.{referred_so}
 use Rattle.paw_effects.proofs.EachRow.{effect_so, condition_so}
 
 -- Each of these is a line.
@@ -176,32 +167,11 @@ module _ (g : Story) (valid : ValidStory g) (seed : Seed) (base : ℕ) where
         read = refl;
       }
 
-  timeout_so : (n : ℕ) (b : Bool) (w : World) → IsWorldAt g.game seed n w → IsWorldAt g.game seed n (with_timeout b w)
-  timeout_so n true w k = flagged g.game v seed n w k TIMED_OUT_FLAG (TIMED_OUT_BIT + flag w TIMED_OUT_FLAG % TIMED_OUT_BIT)
-      (low (flag w TIMED_OUT_FLAG))
-    where
-      low : (x : ℕ) → 128 + x % 128 < 256
-      low x = omega arith
-  timeout_so n false w k = flagged g.game v seed n w k TIMED_OUT_FLAG (flag w TIMED_OUT_FLAG % TIMED_OUT_BIT)
-      (low (flag w TIMED_OUT_FLAG))
-    where
-      low : (x : ℕ) → x % 128 < 256
-      low x = omega arith
-
   heard_so : (line : Line) (r : Run) → Is r → Is (with_line_heard line r)
-  heard_so line r k = in_world r k (with_timeout (is_timeout line) r.world) (timeout_so (bound r) (is_timeout line) r.world k.world)
+  heard_so line r k = in_world r k (with_timeout (is_timeout line) r.world) (timeout_so g.game v seed (bound r) (is_timeout line) r.world k.world)
 
   anew_run : (r : Run) → Is r → Is (anew r)
   anew_run r k = changed r k _ (anew_so g.game v seed (bound r) r.world k.world) [] no_line NO_WORD (omega arith) None
-
-  spoken_so : (n : ℕ) (s : Sentence) (w : World) → AreWords s → IsWorldAt g.game seed n w → IsWorldAt g.game seed n (with_sentence s w)
-  spoken_so n s w b k =
-      let set : (u : World) → IsWorldAt g.game seed n u → (f x : ℕ) → x < 256 → IsWorldAt g.game seed n (with_flag u f x) = λ u. flagged g.game v seed n u in
-      set _ (set _ (set _ (set _ (set _ (set _ (set _ (set _ (set w k VERB_FLAG s.verb b.verb) NOUN_FLAG s.noun b.noun)
-      ADJECTIVE_FLAG s.adjective b.adjective) ADVERB_FLAG s.adverb b.adverb)
-      PREPOSITION_FLAG s.preposition b.preposition) SECOND_NOUN_FLAG s.second_noun b.second_noun)
-      SECOND_ADJECTIVE_FLAG s.second_adjective b.second_adjective)
-      PRONOUN_NOUN_FLAG s.pronoun_noun b.pronoun_noun) PRONOUN_ADJECTIVE_FLAG s.pronoun_adjective b.pronoun_adjective
 
   left_line : (pending left : Bytes) → IsRestOf pending left → IsLine pending → IsLine left
   left_line pending left at k = record {
@@ -213,12 +183,8 @@ module _ (g : Story) (valid : ValidStory g) (seed : Seed) (base : ℕ) where
   phrase_so : (r : Run) → Is r → (s : Sentence) (left : Bytes) → coming_phrase g r ≡ IsSentence s left →
       Is (taken_phrase s left r)
   phrase_so r k s left e =
-      let words =
-      parsed-bytes g.game r.pending r.earlier (flag r.world PRONOUN_NOUN_FLAG) (flag r.world PRONOUN_ADJECTIVE_FLAG) s
-      left v k.earlier
-      (flag_small g.game v seed (bound r) r.world k.world PRONOUN_NOUN_FLAG)
-      (flag_small g.game v seed (bound r) r.world k.world PRONOUN_ADJECTIVE_FLAG) e in
-      changed r k (with_sentence s r.world) (spoken_so (bound r) s r.world words k.world) left
+      let words : AreWords s = phrase_words g.game v seed (bound r) g.answers r k.world k.earlier s left e in
+      changed r k (with_sentence s r.world) (spoken_so g.game v seed (bound r) s r.world words k.world) left
       (left_line r.pending left (sentence-rest g.game r.pending r.earlier (flag r.world PRONOUN_NOUN_FLAG)
       (flag r.world PRONOUN_ADJECTIVE_FLAG) s left e) k.line) s.verb words.verb r.turning
 
@@ -229,21 +195,9 @@ module _ (g : Story) (valid : ValidStory g) (seed : Seed) (base : ℕ) where
       (unknown-rest g.game r.pending r.earlier (flag r.world PRONOUN_NOUN_FLAG) (flag r.world PRONOUN_ADJECTIVE_FLAG)
       left e) k.line)
 
-  named_so : (n : ℕ) (w : World) → IsWorldAt g.game seed n w → (o : ℕ) (f : Option ObjectFacts) → facts_at g.game o ≡ f →
-      IsWorldAt g.game seed n (object_named w f)
-  named_so n w k o None e = k
-  named_so n w k o (Some f) e =
-      let small = facts_small g.game v o f e in
-      flagged g.game v seed n (with_flag w NOUN_FLAG f.noun) (flagged g.game v seed n w k NOUN_FLAG f.noun small.noun)
-      ADJECTIVE_FLAG f.adjective small.adjective
-
-  taken_so : (l : OpenLoop) (o : ℕ) (r : Run) → o < 256 → Is r → Is (object_taken g.game l o r)
-  taken_so l o r small k =
-      let w : World = object_named r.world (facts_at g.game o) in
-      let w_so : IsWorldAt g.game seed (bound r) w = named_so (bound r) r.world k.world o (facts_at g.game o) refl in
-      changed r k _ (referred_so g.game v seed (bound r) (with_flag w LOOP_FLAG o)
-      (flagged g.game v seed (bound r) w w_so LOOP_FLAG o small) o small)
-      r.pending k.line r.earlier k.earlier (Some (record l { last = o }))
+  taken_sound : (l : OpenLoop) (o : ℕ) (r : Run) → o < 256 → Is r → Is (object_taken g.game l o r)
+  taken_sound l o r small k =
+      changed r k _ (taken_so g.game v seed (bound r) l o r small k.world) r.pending k.line r.earlier k.earlier (Some (record l { last = o }))
 
   -- ---- each step ----
 
@@ -255,40 +209,8 @@ module _ (g : Story) (valid : ValidStory g) (seed : Seed) (base : ℕ) where
   carried_so d r k world = changed r k d.world world _ (dropped_if d.act.drop_line r.pending k.line) r.earlier k.earlier _
 
   line_set_so : (line : Line) (r : Run) → IsLine line → Is r → Is (line_set line r)
-  line_set_so line r is k = changed r k _ (timeout_so (bound r) false r.world k.world) line is NO_WORD
+  line_set_so line r is k = changed r k _ (timeout_so g.game v seed (bound r) false r.world k.world) line is NO_WORD
       (omega arith) r.turning
-
-  fallen_so : (n f : ℕ) (w : World) → IsWorldAt g.game seed n w → IsWorldAt g.game seed n (flag_lowered f w)
-  fallen_so n f w k = flagged g.game v seed n w k f (flag w f - 1) (omega (arith, flag_small g.game v seed n w k f))
-
-  fallen_if_so : (n : ℕ) (b : Bool) (f : ℕ) (w : World) → IsWorldAt g.game seed n w → IsWorldAt g.game seed n (flag_lowered_if b f w)
-  fallen_if_so n true f w k = fallen_so n f w k
-  fallen_if_so n false f w k = k
-
-  described_so : (n : ℕ) (w : World) → IsWorldAt g.game seed n w → IsWorldAt g.game seed n (location_described w)
-  described_so n w k =
-      fallen_if_so n (is_unlit w) UNLIT_VIEW_FLAG (flag_lowered_if (is_dark w) DARK_VIEW_FLAG (flag_lowered VIEW_FLAG w))
-      (fallen_if_so n (is_dark w) DARK_VIEW_FLAG (flag_lowered VIEW_FLAG w) (fallen_so n VIEW_FLAG w k))
-
-  time_frame_so : (n : ℕ) (w : World) → IsWorldAt g.game seed n w → IsWorldAt g.game seed n (time_frame_passed w)
-  time_frame_so n w k =
-      let first : World = flag_lowered LAST_FRAME_FLAG (flag_lowered 7 (flag_lowered 6 (flag_lowered FIRST_FRAME_FLAG w))) in
-      fallen_if_so n (is_unlit w) UNLIT_FRAME_FLAG (flag_lowered_if (is_dark w) DARK_FRAME_FLAG first) (fallen_if_so n (is_dark w) DARK_FRAME_FLAG first
-      (fallen_so n LAST_FRAME_FLAG _ (fallen_so n 7 _ (fallen_so n 6 _ (fallen_so n FIRST_FRAME_FLAG w k)))))
-
-  counted_so : (n : ℕ) (w : World) → IsWorldAt g.game seed n w → IsWorldAt g.game seed n (turn_counted w)
-  counted_so n w k =
-      let turns_now : ℕ = min 65535 (turns_taken w + 1) in
-      flagged g.game v seed n (with_flag w LOW_TURNS_FLAG (turns_now % 256))
-      (flagged g.game v seed n w k LOW_TURNS_FLAG (turns_now % 256) (low turns_now)) HIGH_TURNS_FLAG
-      (turns_now / 256)
-      (high turns_now (min-le_left 65535 (turns_taken w + 1)))
-    where
-      low : (x : ℕ) → x % 256 < 256
-      low x = omega arith
-
-      high : (x : ℕ) → x ≤ 65535 → x / 256 < 256
-      high x most = omega arith
 
   -- Each step keeps a run sound.
   pub sound_kept : IsKept g Is
@@ -314,19 +236,13 @@ module _ (g : Story) (valid : ValidStory g) (seed : Seed) (base : ℕ) where
     heard = λ line r k. heard_so line r k;
     set = λ r line lines k.
         line_set_so line (record r { events = lines }) k.lines.0 (with_events (record r { events = line ∷ lines }) k lines k.lines.1);
-    taken = λ l o r few k. taken_so l o r (omega (arith, few, few_objects g.game v)) k;
+    taken = λ l o r few k. taken_sound l o r (omega (arith, few, few_objects g.game v)) k;
     no_loop = λ r k. no_loop r k None;
-    described = λ r k. in_world r k (location_described r.world) (described_so (bound r) r.world k.world);
-    passed = λ r k. in_world r k (time_frame_passed r.world) (time_frame_so (bound r) r.world k.world);
+    described = λ r k. in_world r k (location_described r.world) (described_so g.game v seed (bound r) r.world k.world);
+    passed = λ r k. in_world r k (time_frame_passed r.world) (time_frame_so g.game v seed (bound r) r.world k.world);
     went = λ r to k is.
-        in_world r k (with_flag r.world LOCATION_FLAG to)
-        (flagged g.game v seed (bound r) r.world k.world LOCATION_FLAG to
-        (omega (
-          arith,
-          exit-leads g.game v (flag r.world LOCATION_FLAG) (flag r.world VERB_FLAG) to is,
-          (few_locations g.game v).1,
-        )));
-    counted = λ r k. in_world r k (turn_counted r.world) (counted_so (bound r) r.world k.world);
+        in_world r k (with_flag r.world LOCATION_FLAG to) (went_so g.game v seed (bound r) r.world k.world to is);
+    counted = λ r k. in_world r k (turn_counted r.world) (counted_so g.game v seed (bound r) r.world k.world);
     anew = anew_run;
   }
 
@@ -340,7 +256,7 @@ module _ (g : Story) (valid : ValidStory g) (seed : Seed) (base : ℕ) where
     on = Is;
     acted = Is;
     closed = λ r lines. Rests r × AreLines lines;
-    wait = λ path r. Rests r;
+    wait = λ p path r. Rests r;
     anew = Is;
     halt = HaltsSound;
   }
@@ -356,10 +272,10 @@ module _ (g : Story) (valid : ValidStory g) (seed : Seed) (base : ℕ) where
     taken = sound_kept.taken;
     no_loop = sound_kept.no_loop;
     closes = λ r k. (closed_rests r k, k.lines);
-    waits = λ f r k. resting_events r k.0 [] tt;
+    waits = λ p f r k. resting_events r k.0 [] tt;
     ignored = λ r line lines k. (closed_rests (record r { events = lines }) (with_events r k.0.sound lines k.1.1), k.1.1);
     heard = λ r line lines k. heard_so line (record r { events = lines }) (with_events r k.0.sound lines k.1.1);
-    above = λ f path r k. k;
+    above = λ p f path r k. k;
     exhausted = λ r k. tt;
     too_long = λ r k. tt;
     unfit = λ f c r k few. tt;
@@ -399,7 +315,7 @@ module _ (g : Story) (valid : ValidStory g) (seed : Seed) (base : ℕ) where
   -- Where a reading stops the run is sound, and where it waits or is over nothing is open.
   pub reading_sounds : (es : Lines) → AreLines es → EndsSound (reading g seed es)
   reading_sounds es are =
-      turn_ends g claim carries turns (phases_left (opening g seed es)) AtDescribe (opening g seed es) (opening_so es are)
+      turn_ends g claim (between g claim carries) turns (phases_left (opening g seed es)) AtDescribe (opening g seed es) (opening_so es are)
 
   pub going_on_sounds : (p : Prompt) (path : List Frame) (r : Run) → Rests r → EndsSound (going_on_from g p path r)
   going_on_sounds p path r k = goes_on_ends g claim carries turns (phases_left r) p path r k.sound (k, k.sound.lines) k

@@ -33,7 +33,7 @@ claim v = record {
   on = λ r. left_to_read r ≤ v;
   acted = λ r. left_to_read r < v;
   closed = λ r lines. length r.pending + brought lines ≤ v;
-  wait = λ path r. Unit {0};
+  wait = λ p path r. Unit {0};
   anew = λ r. left_to_read r < v;
   halt = λ halt r. Unit {0};
 }
@@ -53,7 +53,7 @@ more_read : (f : Frame) (c : Condact) (b : Bool) (r : Run) → length (step_note
 more_read f c b r = length-append r.read _
 
 -- What is left of the line once a phrase was read.
-shorter : (g : Story) (r : Run) (p : Parsed) → coming_phrase g r ≡ p → LeavesBytes (λ rest. length rest < length r.pending) p
+pub shorter : (g : Story) (r : Run) (p : Parsed) → coming_phrase g r ≡ p → LeavesBytes (λ rest. length rest < length r.pending) p
 shorter g r p is =
     subst (LeavesBytes (λ rest. length rest < length r.pending)) is
     (parsed-shorter g.game r.pending r.earlier (flag r.world PRONOUN_NOUN_FLAG) (flag r.world PRONOUN_ADJECTIVE_FLAG))
@@ -70,10 +70,10 @@ carries g v = record {
   taken = λ l o r few k. k;
   no_loop = λ r k. k;
   closes = λ r k. omega (arith, k);
-  waits = λ f r k. tt;
+  waits = λ p f r k. tt;
   ignored = λ r line lines k. omega (arith, k, brought_more line lines);
   heard = λ r line lines k. omega (arith, k, brought_more line lines);
-  above = λ f path r k. tt;
+  above = λ p f path r k. tt;
   exhausted = λ r k. tt;
   too_long = λ r k. tt;
   unfit = λ f c r k few. tt;

@@ -88,12 +88,12 @@ module _ (t : ℕ) where
   }
 
   pub rest_stays : (g : Story) (lv u e k : ℕ) → IsOwn t lv u → (a : Bool) (r : Run) → IsLoopOf t r.turning → Stays t lv (rest_of_table g lv u e k a r)
-  rest_stays g lv u e k own a r h = inside (claim t) lv lv _ (rest_carries g (claim t) (carries g) lv u e k own a r h)
+  rest_stays g lv u e k own a r h = inside (claim t) lv _ (rest_carries g (claim t) (carries g) lv u e k own a r h)
 
   path_stays : (g : Story) (p : Prompt) (f : Frame) (path : List Frame) (r : Run) → IsInner p → IsOwn t 0 f.table → IsLoopOf t r.turning →
       Stays t 0 (on_path g p 0 (f ∷ path) r)
   path_stays g p f path r asks own h =
-      inside (claim t) 0 0 _
+      inside (claim t) 0 _
       (path_carries g (claim t) (carries g) p 0 f path r (along_any (claim t) p r (λ j u z. cc) (λ i u. tt) (λ i. asks) (λ j. h) 0 f path own))
 
 -- A wait in a table that was read from its start is there.

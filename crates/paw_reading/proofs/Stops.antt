@@ -19,7 +19,7 @@ claim = record {
   on = λ r. Unit {0};
   acted = λ r. Unit {0};
   closed = λ r lines. Unit {0};
-  wait = WaitsOpen;
+  wait = λ p path r. WaitsOpen path r;
   anew = λ r. r.turning ≡ None;
   halt = λ halt r. Unit {0};
 }
@@ -44,10 +44,10 @@ carries g = record {
   taken = λ l o r few on. tt;
   no_loop = λ r on. tt;
   closes = λ r on. tt;
-  waits = λ f r on. record { some = λ e. cc; none_left = refl };
+  waits = λ p f r on. record { some = λ e. cc; none_left = refl };
   ignored = λ r line lines on. tt;
   heard = λ r line lines on. tt;
-  above = λ f path r k. record { some = λ e. cc; none_left = k.none_left };
+  above = λ p f path r k. record { some = λ e. cc; none_left = k.none_left };
   exhausted = λ r on. tt;
   too_long = λ r on. tt;
   unfit = λ f c r on few. tt;
