@@ -31,7 +31,8 @@ use Rattle.paw_check.specs.Verbs.{is_among, writes_first, writes_second}
 use Rattle.paw_check.proofs.EachPlain.{Most}
 use Rattle.paw_check.proofs.Carried.{SparesVerb}
 use Rattle.paw_check.proofs.Signs.{sign_most}
-use Rattle.paw_check.proofs.Spoken.{AllSaid, Said, said, acted_most, found_most}
+use Rattle.paw_reading.proofs.SpokenActions.{AllSaid}
+use Rattle.paw_check.proofs.Spoken.{Said, said, acted_most, found_most}
 use Rattle.paw_check.proofs.Verb.{HasVerb, LeavesVerb, other_has, moved_has, acted_has, found_has}
 
 -- ---- what is printed ----

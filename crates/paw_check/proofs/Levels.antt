@@ -1,5 +1,5 @@
 -- Tables read the same with as many levels of calls as there are, and those after a description never describe again.
-use Rattle.std.proofs.Common.{◌≡◌, ℕ, zero, suc, ◌+◌, ◌≤◌, ◌<◌, true, false, List, [], ◌∷◌, ◌⊎◌, inl, inr, Option, Some}
+use Rattle.std.proofs.Common.{◌≡◌, ℕ, zero, suc, ◌+◌, ◌≤◌, ◌<◌, true, false, List, [], ◌∷◌, ◌⊎◌, inl, inr, Option}
 use Rattle.std.proofs.Common.{None, refl, sym}
 use Rattle.std.proofs.Common.{subst, length, arith}
 use Rattle.std.specs.Prelude.{nat_le}
@@ -23,10 +23,11 @@ use Rattle.paw_effects.specs.Effects.{effect_of}
 use Rattle.paw_effects.proofs.Asking.{Leads}
 use Rattle.paw_effects.proofs.EachRow.{effect_leads}
 use Rattle.paw_reading.specs.Bounds.{ValidStory}
+use Rattle.paw_reading.specs.declared.frames.OpenLoop.{OpenLoop}
 use Rattle.paw_reading.specs.Run.{Run}
-use Rattle.paw_reading.specs.Reading.{Redescribes, Restarts, Halts, Out, Left, Waits, Stopped, at_level, read_at_level}
+use Rattle.paw_reading.specs.Reading.{Redescribes, Restarts, Halts, Out, Left, Waits, Stopped, read_at_level}
 use Rattle.paw_reading.specs.Reading.{table_called, table_read}
-use Rattle.paw_reading.proofs.LeavesLoop.{called_leaves_loop}
+use Rattle.paw_reading.proofs.EachStep.{Levels, BeforeEntry, itself, rest}
 use Rattle.paw_check.specs.Calls.{turn_tables, table_condacts, called_below, most_levels}
 use Rattle.paw_check.specs.Verdicts.{call_too_deep, redescribes}
 use Rattle.paw_check.specs.Promise.{CallsWithin}
@@ -34,8 +35,8 @@ use Rattle.paw_check.specs.inner.Within.{LeavesDescribed, TablesLeaveDescribed}
 use Rattle.paw_check.proofs.Members.{In}
 use Rattle.paw_check.proofs.ActionFacts.{MayLead}
 use Rattle.paw_check.proofs.Leading.{effect_goes}
-use Rattle.paw_check.proofs.Alike.{AtMost, Settled, Alike, LeadsOn, plain_alike, none_at, reads_alike}
-use Rattle.paw_check.proofs.Reaching.{each_of_table, no_first, calls_below, of_game, in_reached, NoneAt, none_called}
+use Rattle.paw_check.proofs.Alike.{LeadsOn, IsOpen, IsShut, Leaves, Alike, weaker, relation, steps, higher, lower}
+use Rattle.paw_check.proofs.Reaching.{each_of_table, each_at, no_first, calls_below, of_game, in_reached, NoneAt, none_called}
 use Rattle.paw_check.proofs.Reaching.{none_behind}
 
 -- A condact after which the location is described again is one that may do so.
@@ -76,59 +77,56 @@ module _ (s : Story) (v : Valid s.game) (ts : List ℕ) (few : (t : ℕ) → In 
 
   -- As many levels are left, or enough.
   abbrev Enough : ℕ → ℕ → ℕ → Type 0
-  Enough n m lv = (n ≡ m) ⊎ (Empty (suc (lv + n)) × Empty (suc (lv + m)))
+  Enough n m lv = (lv + m ≡ LEVEL_LIMIT) × ((n ≡ m) ⊎ (Empty (suc (lv + n)) × Empty (suc (lv + m))))
 
   not_enough : (lv u : ℕ) → TablesAt (suc lv) u → Empty (suc (lv + 0)) → ⊥
   not_enough lv u at none = let e : suc (lv + 0) ≡ suc lv = omega arith in (subst Empty e none) u at
 
   fewer : (n m lv : ℕ) → Enough (suc n) (suc m) lv → Enough n m (suc lv)
-  fewer n m lv (inl e) = inl (omega arith)
-  fewer n m lv (inr none) =
+  fewer n m lv (ten, inl e) = (omega (arith, ten), inl (omega (arith, e)))
+  fewer n m lv (ten, inr none) =
       let one : suc (lv + suc n) ≡ suc (suc lv + n) = omega arith in
       let other : suc (lv + suc m) ≡ suc (suc lv + m) = omega arith in
-      inr (subst Empty one none.0, subst Empty other none.1)
+      (omega (arith, ten), inr (subst Empty one none.0, subst Empty other none.1))
 
-  -- A table that is called from level lv reads alike with n levels left and with m, where these are all of ten.
-  called_alike : (n m lv : ℕ) → lv + m ≡ LEVEL_LIMIT → Enough n m lv → (u : ℕ) → TablesAt (suc lv) u → (r : Run) → AtMost lv r.turning →
-      Alike Describes lv (table_called s n lv u r) (table_called s m lv u r)
-  unfolding table_called
-  called_alike zero zero lv ten enough u at r low = (refl, tt)
-  called_alike zero (suc m) lv ten (inl e) u at r low = absurd (omega arith)
-  called_alike zero (suc m) lv ten (inr none) u at r low = absurd (not_enough lv u at none.0)
-  called_alike (suc n) zero lv ten (inl e) u at r low = absurd (omega arith)
-  called_alike (suc n) zero lv ten (inr none) u at r low = absurd (not_enough lv u at none.1)
-  called_alike (suc n) (suc m) lv ten enough u at r low =
-      reads_alike s Describes lv (suc lv) u (table_called s n (suc lv)) (table_called s m (suc lv)) (called_leaves_loop s n (suc lv))
-      (called_leaves_loop s m (suc lv)) r low
-      (none_at lv r.turning low)
-      (plain_alike s Describes (suc lv) (table_called s n (suc lv)) (table_called s m (suc lv)) (TablesAt (suc (suc lv)))
-      (called_alike n m (suc lv) (omega arith) (fewer n m lv enough)) (OnLevel (suc lv)) (leads_on (suc lv)) u
-      (on_level (suc lv) u (omega arith) at) false r (higher lv r.turning low))
-    where
-      higher : (lv : ℕ) (o : Option _) → AtMost lv o → AtMost (suc lv) o
-      higher lv None low = tt
-      higher lv (Some l) low = omega arith
+  -- No call is too deep in one way only.
+  not_once : (lv n u : ℕ) → Enough zero (suc n) lv ⊎ Enough (suc n) zero lv → TablesAt (suc lv) u → ⊥
+  not_once lv n u (inl (ten, inl e)) at = absurd (omega (arith, e))
+  not_once lv n u (inl (ten, inr none)) at = not_enough lv u at none.0
+  not_once lv n u (inr (ten, inl e)) at = absurd (omega (arith, e))
+  not_once lv n u (inr (ten, inr none)) at = not_enough lv u at none.1
 
-  none_open : (lv : ℕ) (o : Option _) → o ≡ None → AtMost lv o
-  none_open lv o e = subst (AtMost lv) (sym e) tt
+  -- Tables that are called from a level read alike with n levels left and with m, where these are all of ten.
+  at_levels : Levels s itself ℕ (λ lv. lv) Enough (relation s Describes TablesAt)
+  at_levels = record {
+    below = λ lv u. suc lv;
+    one_more = λ lv u. refl;
+    fewer = fewer;
+    steps = λ lv n m enough.
+        steps s Describes TablesAt lv
+        (λ f c w own stands. leads_on lv w c (each_at s.game f.table f.entry f.at c (OnLevel lv) (on_level lv f.table (omega (arith, enough.0)) own) stands))
+        (table_called s n lv) (table_called s m lv);
+    too_deep = λ lv u r own low. (refl, tt);
+    deep_once = λ lv n u r x y odd own low. absurd (not_once lv n u odd own);
+    called = λ lv n m u r x y enough h own low.
+        weaker s Describes TablesAt (IsShut s Describes TablesAt (suc lv)) (IsOpen s Describes TablesAt lv) (lower s Describes TablesAt lv) x y
+        (h own (higher s Describes TablesAt lv r.turning low));
+  }
 
-  none_there : (lv : ℕ) (o : Option _) → o ≡ None → at_level lv o ≡ None
-  none_there lv o e = subst (λ q. at_level lv q ≡ None) (sym e) refl
+  none_open : (o : Option OpenLoop) → o ≡ None → IsOpen s Describes TablesAt 0 o
+  none_open o e = subst (IsOpen s Describes TablesAt 0) (sym e) tt
 
   from_start : (n : ℕ) → (n ≡ LEVEL_LIMIT) ⊎ (Empty (suc n) × Empty (suc LEVEL_LIMIT)) → Enough n LEVEL_LIMIT 0
-  from_start n (inl e) = inl e
-  from_start n (inr none) = let e : suc n ≡ suc (0 + n) = omega arith in inr (subst Empty e none.0, none.1)
+  from_start n (inl e) = (refl, inl e)
+  from_start n (inr none) = let e : suc n ≡ suc (0 + n) = omega arith in (refl, inr (subst Empty e none.0, none.1))
 
   -- So does a table at level 0.
   pub table_alike : (n t : ℕ) → (n ≡ LEVEL_LIMIT) ⊎ (Empty (suc n) × Empty (suc LEVEL_LIMIT)) → In t ts → (r : Run) → r.turning ≡ None →
-      Alike Describes 0 (read_at_level s (table_called s n 0) 0 t 0 0 false r) (table_read s t r)
+      Alike s Describes TablesAt (IsShut s Describes TablesAt 0) (read_at_level s (table_called s n 0) 0 t 0 0 false r) (table_read s t r)
   unfolding called_below
   table_alike n t enough at r none =
-      reads_alike s Describes 0 0 t (table_called s n 0) (table_called s LEVEL_LIMIT 0) (called_leaves_loop s n 0) (called_leaves_loop s LEVEL_LIMIT 0) r
-      (none_open 0 r.turning none) (none_there 0 r.turning none)
-      (plain_alike s Describes 0 (table_called s n 0) (table_called s LEVEL_LIMIT 0) (TablesAt 1) (called_alike n LEVEL_LIMIT 0 refl (from_start n enough))
-      (OnLevel 0) (leads_on 0) t
-      (on_level 0 t (omega arith) at) false r (none_open 0 r.turning none))
+      rest s itself ℕ (λ lv. lv) Enough (relation s Describes TablesAt) at_levels n LEVEL_LIMIT 0 (from_start n enough) (BeforeEntry t 0) false r at
+      (none_open r.turning none)
 
 -- ---- the tables of a turn ----
 
@@ -156,12 +154,12 @@ levels_hold s valid calm t r low none =
     (table_alike s valid.game turn_tables (λ u at. omega (arith, one_of_three u at, some_tables s.game valid.game)) (Unit {0}) (λ n u few at h. tt)
     (most_levels s.game) t (inr (none_behind s.game valid.game calm, none_called s.game valid.game turn_tables LEVEL_LIMIT calm)) (in_three t low) r none).0
 
-never : (x : Out) → Settled ⊥ 0 x → LeavesDescribed x
-never (Left a r) h = tt
-never (Waits p path r) h = tt
-never (Stopped Redescribes r) h = h
-never (Stopped Restarts r) h = tt
-never (Stopped (Halts halt) r) h = tt
+never : (s : Story) (Own : ℕ → ℕ → Type 0) (P : Option OpenLoop → Type 0) (x : Out) → Leaves s ⊥ Own P x → LeavesDescribed x
+never s Own P (Left a r) h = tt
+never s Own P (Waits p path r) h = tt
+never s Own P (Stopped Redescribes r) h = h
+never s Own P (Stopped Restarts r) h = tt
+never s Own P (Stopped (Halts halt) r) h = tt
 
 -- A table that is read after a description, or in a time frame, never describes again where no table that it reaches
 -- May.
@@ -169,7 +167,7 @@ pub tables_leave_described : TablesLeaveDescribed
 tables_leave_described s t r valid quiet at none =
     let few : (u : ℕ) → In u (DESCRIBED_TABLE ∷ FRAME_TABLE ∷ []) → u < length s.game.tables = λ u two.
     omega (arith, one_of_two u two, some_tables s.game valid.game) in
-    never (table_read s t r)
+    never s (λ n u. In u (called_below s.game (DESCRIBED_TABLE ∷ FRAME_TABLE ∷ []) n)) _ (table_read s t r)
     (table_alike s valid.game (DESCRIBED_TABLE ∷ FRAME_TABLE ∷ []) few ⊥
     (λ n u low two h.
     no_first s.game redescribes _ quiet u

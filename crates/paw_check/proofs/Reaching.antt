@@ -1,7 +1,7 @@
 -- Which tables reading may reach, level by level.
 use Rattle.std.proofs.Common.{◌≡◌, ℕ, zero, suc, ◌+◌, ◌≤◌, ◌<◌, ◌==◌, ◌||◌, Bool, true, false, List, [], ◌∷◌, ◌⊎◌, inl}
 use Rattle.std.proofs.Common.{inr, Option, Some}
-use Rattle.std.proofs.Common.{None, refl, sym, ap, subst, length, arith, IsTrue}
+use Rattle.std.proofs.Common.{None, refl, sym, ap, subst, length, slice_get, arith, IsTrue}
 use Rattle.std.specs.Prelude.{nat_le, nat_lt, count_by, cond}
 use Rattle.std.specs.List.{list_all, list_any, flat_map, range_with_len, AllByRecursion}
 use Rattle.std.specs.Option.{option_map_or}
@@ -16,7 +16,7 @@ use Rattle.paw_base.specs.declared.rows.ParamKind.TheVariants as kind
 use Rattle.paw_base.specs.Condacts.{condact_lines, line_of, plain_line, is_indirect, first_kind}
 use Rattle.paw_game.specs.declared.parts.Entry.{Entry}
 use Rattle.paw_game.specs.Game.{GameLists}
-use Rattle.paw_game.specs.Tables.{table_at}
+use Rattle.paw_game.specs.Tables.{table_at, entry_at, condacts_of, condact_at}
 use Rattle.paw_game.specs.Valid.{Valid, is_condact, is_entry, is_wildcard, is_verb_value, has_word}
 use Rattle.paw_game.proofs.ValidGames.{first_of_and, second_of_and, table_follows}
 use Rattle.paw_game.proofs.Right.{right_condact}
@@ -67,6 +67,20 @@ pub each_of_table : (g : GameLists) (v : Valid g) (t : ℕ) (Q : Condact → Typ
     ((c : Condact) → Member (table_condacts g t) c → IsTrue (is_condact g c) → Q c) → AllByRecursion (λ en. AllByRecursion Q en.condacts) (table_at g t)
 each_of_table g v t Q holds =
     each_entry g (table_condacts g t) Q holds (table_at g t) (second_of_and (nat_le (length (table_at g t)) ENTRY_LIMIT) _ (table_follows g v t)) (λ p e. e)
+
+all_at : {A : Type 0} (P : A → Type 0) (xs : List A) → AllByRecursion P xs → (k : ℕ) (x : A) → slice_get xs k ≡ Some x → P x
+all_at P [] all k x h = cc
+all_at P (y ∷ xs) all zero x h = let e : y ≡ x = cc in subst P e all.0
+all_at P (y ∷ xs) all (suc k) x h = all_at P xs all.1 k x h
+
+-- What holds of each condact of a table holds of the one that stands somewhere in it.
+pub each_at : (g : GameLists) (t e k : ℕ) (c : Condact) (Q : Condact → Type 0) → AllByRecursion (λ en. AllByRecursion Q en.condacts) (table_at g t) →
+    condact_at g t e k ≡ Some c → Q c
+each_at g t e k c Q all h = by_entry (entry_at g t e) refl h
+  where
+    by_entry : (o : Option Entry) → entry_at g t e ≡ o → slice_get (condacts_of o) k ≡ Some c → Q c
+    by_entry None is here = cc
+    by_entry (Some en) is here = all_at Q en.condacts (all_at (λ n. AllByRecursion Q n.condacts) (table_at g t) all e en is) k c here
 
 -- ---- condacts of a table, one by one ----
 

@@ -1,7 +1,6 @@
 -- How long is what may be said of an action on an object.
-use Rattle.std.proofs.Common.{◌≡◌, ℕ, ◌≤◌, Bool, true, false, List, [], ◌∷◌, ◌++◌, Option, Some, None, IfSome, refl}
+use Rattle.std.proofs.Common.{◌≡◌, ℕ, ◌≤◌, true, ◌++◌, Option, refl}
 use Rattle.std.proofs.Common.{length, arith, length-append}
-use Rattle.std.specs.Prelude.{if◌then◌else◌}
 use Rattle.paw_base.specs.declared.messages.TheConstants.{NOT_WORN_MESSAGE, WORN_MESSAGE, HELD_MESSAGE}
 use Rattle.paw_base.specs.declared.messages.TheConstants.{NOT_HERE_MESSAGE}
 use Rattle.paw_base.specs.declared.messages.TheConstants.{TOO_MANY_MESSAGE, NOT_CARRIED_MESSAGE, WORN_ALREADY_MESSAGE}
@@ -11,13 +10,12 @@ use Rattle.paw_base.specs.declared.messages.TheConstants.{TOO_HEAVY_MESSAGE, NOT
 use Rattle.paw_base.specs.declared.messages.TheConstants.{NOT_PUT_ON_MESSAGE, NOT_INSIDE_MESSAGE, NAME_END_MESSAGE}
 use Rattle.paw_base.specs.declared.messages.TheConstants.{IMPOSSIBLE_MESSAGE}
 use Rattle.paw_game.specs.Game.{GameLists}
-use Rattle.paw_world.specs.World.{World, object_moved}
+use Rattle.paw_world.specs.World.{World}
 use Rattle.paw_effects.specs.Texts.{object_text, put_text, say_text}
 use Rattle.paw_effects.specs.ObjectWords.{spoken_words}
-use Rattle.paw_effects.specs.Referring.{object_referred}
-use Rattle.paw_effects.specs.ObjectSearch.{some_fits}
-use Rattle.paw_effects.specs.ObjectActions.{destination, first_that_holds, hindrances, outcome, action_tried, acted_on}
+use Rattle.paw_effects.specs.ObjectActions.{hindrances, outcome, acted_on}
 use Rattle.paw_effects.specs.AutoActions.{missing_reply, acted_on_found}
+use Rattle.paw_reading.proofs.SpokenActions.{AllSaid, acted_so, found_so}
 use Rattle.paw_check.specs.Measures.{most_put}
 use Rattle.paw_check.specs.Prints.{said_of_objects, most_of_action}
 use Rattle.paw_check.specs.Verbs.{is_among}
@@ -48,46 +46,18 @@ named g m l among u =
       length-append (put_text g u m) (object_text g l),
     )
 
--- ---- the first that holds ----
-
--- A fact of what is said at each test.
-abbrev pub AllSaid : {A : Type 0} → (A → Type 0) → List (Bool × A) → Type 0
-AllSaid P [] = Unit {0}
-AllSaid P ((b, x) ∷ tests) = P x × AllSaid P tests
-
-one_of : {A : Type 0} (P : A → Type 0) (b : Bool) (x : A) (rest : Option A) → P x → IfSome rest P → IfSome (if b then Some x else rest) P
-one_of P true x rest h k = h
-one_of P false x rest h k = k
-
-first_said : (P : _ → Type 0) (tests : _) → AllSaid P tests → IfSome (first_that_holds tests) P
-first_said P [] all = tt
-first_said P ((b, x) ∷ tests) all = one_of P b x (first_that_holds tests) all.0 (first_said P tests all.1)
-
 -- ---- actions ----
 
 -- An action, with all that may be said against it and what is said where it is done.
 module _ (g : GameLists) (a : _)
     (hinders : (u : World) (o : ℕ) → AllSaid (λ x. (v : World) → length (spoken_words g v x) ≤ most_of_action g) (hindrances u o a))
     (comes : (u : World) → length (spoken_words g u (outcome a)) ≤ most_of_action g) where
-  tried_most : (w : World) (o : ℕ) (words : Option _) → IfSome words (λ x. (v : World) → length (spoken_words g v x) ≤ most_of_action g)
-      → length (action_tried g w o a words).text ≤ most_of_action g
-  tried_most w o None h = comes (object_moved w o (destination w a))
-  tried_most w o (Some x) h = h w
-
   pub acted_most : (w : World) (o : ℕ) → length (acted_on g w o a).text ≤ most_of_action g
-  acted_most w o =
-      tried_most (object_referred w o) o (first_that_holds (hindrances (object_referred w o) o a))
-      (first_said (λ x. (v : World) → length (spoken_words g v x) ≤ most_of_action g) (hindrances (object_referred w o) o a) (hinders (object_referred w o) o))
-
-  either_most : (w : World) (b : Bool) (x y : _) → length (spoken_words g w x) ≤ most_of_action g → length (spoken_words g w y) ≤ most_of_action g
-      → length (spoken_words g w (if b then x else y)) ≤ most_of_action g
-  either_most w true x y h k = h
-  either_most w false x y h k = k
+  acted_most = acted_so (λ text. length text ≤ most_of_action g) g a hinders comes (said g IMPOSSIBLE_MESSAGE refl)
 
   pub found_most : (w : World) (found : Option ℕ) → length (spoken_words g w (missing_reply a)) ≤ most_of_action g
       → length (acted_on_found g w a found).text ≤ most_of_action g
-  found_most w None misses = either_most w (some_fits w) (missing_reply a) _ misses (said g IMPOSSIBLE_MESSAGE refl w)
-  found_most w (Some o) misses = acted_most w o
+  found_most = found_so (λ text. length text ≤ most_of_action g) g a hinders comes (said g IMPOSSIBLE_MESSAGE refl)
 
 -- ---- what may be said against each action ----
 

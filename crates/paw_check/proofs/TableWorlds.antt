@@ -1,5 +1,5 @@
 -- What reading a table does beside its condacts leaves the world one of the game, and the verb as it is.
-use Rattle.std.proofs.Common.{◌≡◌, ◌≢◌, ℕ, suc, ◌+◌, ◌<◌, ◌%◌, Bool, true, false, Option, Some, None, refl, ◌∙◌}
+use Rattle.std.proofs.Common.{◌≡◌, ◌≢◌, ℕ, suc, ◌+◌, ◌%◌, Bool, true, false, Option, Some, None, refl, ◌∙◌}
 use Rattle.std.proofs.Common.{All, arith}
 use Rattle.std.specs.Prelude.{slice_get}
 use Rattle.std.proofs.lemmas.List.{get_or-set_other}
@@ -21,8 +21,7 @@ use Rattle.paw_effects.specs.inner.Standing.{IsWorldOf}
 use Rattle.paw_effects.specs.Referring.{object_referred, with_referred_facts, flag_of_fact}
 use Rattle.paw_effects.specs.Holds.{holds}
 use Rattle.paw_effects.specs.Effects.{effect_of}
-use Rattle.paw_effects.proofs.Worlds.{IsWorldAt, world_at, world_is, flagged, facts_small, anew_so}
-use Rattle.paw_effects.proofs.Changes.{referred_so}
+use Rattle.paw_effects.proofs.Worlds.{IsWorldAt, world_at, world_is, anew_so}
 use Rattle.paw_effects.proofs.EachRow.{effect_so, condition_so}
 use Rattle.paw_reading.specs.declared.frames.OpenLoop.{OpenLoop}
 use Rattle.paw_reading.specs.Run.{Run, with_timeout}
@@ -33,24 +32,6 @@ use Rattle.paw_reading.specs.Reading.{object_named, object_taken}
 module _ (g : GameLists) (v : Valid g) where
   now : (w : World) → IsWorldOf g w → IsWorldAt g w.seed w.draws w
   now w k = world_at g w.seed w.draws w k refl (omega arith)
-
-  set : (w : World) → IsWorldOf g w → (f x : ℕ) → x < 256 → IsWorldOf g (with_flag w f x)
-  set w k f x small = world_is g w.seed w.draws (with_flag w f x) (flagged g v w.seed w.draws w (now w k) f x small)
-
-  named_of : (w : World) → IsWorldOf g w → (o : ℕ) (f : Option ObjectFacts) → facts_at g o ≡ f → IsWorldOf g (object_named w f)
-  named_of w k o None e = k
-  named_of w k o (Some f) e =
-      let small = facts_small g v o f e in
-      set (with_flag w NOUN_FLAG f.noun) (set w k NOUN_FLAG f.noun small.noun) ADJECTIVE_FLAG f.adjective
-      small.adjective
-
-  -- A loop takes its next object.
-  pub taken_of : (l : OpenLoop) (o : ℕ) (r : Run) → o < 256 → IsWorldOf g r.world → IsWorldOf g (object_taken g l o r).world
-  taken_of l o r small k =
-      let w : World = with_flag (object_named r.world (facts_at g o)) LOOP_FLAG o in
-      let h : IsWorldOf g w = set (object_named r.world (facts_at g o)) (named_of r.world k o (facts_at g o) refl)
-      LOOP_FLAG o small in
-      world_is g w.seed w.draws (object_referred w o) (referred_so g v w.seed w.draws w (now w h) o small)
 
   pub anew_of : (w : World) → IsWorldOf g w → IsWorldOf g (world_restarted w)
   anew_of w k = world_is g w.seed w.draws (world_restarted w) (anew_so g v w.seed w.draws w (now w k))

@@ -14,25 +14,19 @@ use Rattle.paw_base.specs.declared.codes.TheConstants.{PROCESS, DOALL, PARSE}
 use Rattle.paw_base.specs.declared.parts.Condact.{Condact}
 use Rattle.paw_base.specs.Condacts.{plain_code}
 use Rattle.paw_base.specs.declared.fault.SpentKind.{SpentKind}
-use Rattle.paw_base.specs.declared.flags.TheConstants.{VERB_FLAG, PRONOUN_NOUN_FLAG, PRONOUN_ADJECTIVE_FLAG}
+use Rattle.paw_base.specs.declared.flags.TheConstants.{VERB_FLAG}
 use Rattle.paw_base.specs.declared.flags.TheConstants.{NOUN_FLAG}
 use Rattle.paw_base.specs.declared.messages.TheConstants.{GOODBYE_MESSAGE}
 use Rattle.paw_game.specs.declared.parts.Entry.{Entry}
 use Rattle.paw_game.specs.Game.{GameLists}
-use Rattle.paw_game.specs.Tables.{table_at, is_for}
+use Rattle.paw_game.specs.Tables.{table_at, entry_at, condacts_of, condact_at, is_for}
 use Rattle.paw_game.specs.Valid.{is_condact}
 use Rattle.paw_world.specs.World.{World, flag}
-use Rattle.paw_phrase.specs.Sentence.{Parsed, IsSentence, IsUnknown, IsNoPhrase}
-use Rattle.paw_phrase.proofs.Phrases.{LeavesBytes, parsed-shorter}
+use Rattle.paw_phrase.specs.Sentence.{IsSentence, IsUnknown}
 use Rattle.paw_effects.specs.Story.{Story}
-use Rattle.paw_effects.specs.declared.act.Prompt.{Prompt}
-use Rattle.paw_effects.specs.declared.act.Prompt.TheVariants as prompt
-use Rattle.paw_effects.specs.declared.act.Truth.{Truth}
-use Rattle.paw_effects.specs.declared.act.Truth.TheVariants as truth
-use Rattle.paw_effects.specs.declared.act.Effect.{Effect}
 use Rattle.paw_effects.specs.declared.act.Effect.TheVariants as effect
 use Rattle.paw_effects.specs.Texts.{say_text}
-use Rattle.paw_effects.specs.Holds.{is_condition, holds}
+use Rattle.paw_effects.specs.Holds.{holds}
 use Rattle.paw_effects.specs.Effects.{Done, effect_of}
 use Rattle.paw_effects.specs.inner.Standing.{IsWorldOf}
 use Rattle.paw_effects.proofs.Asking.{Leads}
@@ -41,27 +35,30 @@ use Rattle.paw_effects.proofs.Worlds.{few_objects}
 use Rattle.paw_reading.specs.Bounds.{IsLine, ValidStory}
 use Rattle.paw_reading.specs.declared.frames.Frame.{Frame}
 use Rattle.paw_reading.specs.declared.frames.OpenLoop.{OpenLoop}
-use Rattle.paw_reading.specs.Run.{Run, StepRow, piece_closed, text_printed, with_world, without_loop, anew, with_timeout, is_timeout}
-use Rattle.paw_reading.specs.Run.{is_ignored, with_line_heard, reply, is_yes, is_no, taken_phrase}
+use Rattle.paw_reading.specs.Run.{Run, StepRow, piece_closed, text_printed, with_world, without_loop, with_timeout, is_timeout}
+use Rattle.paw_reading.specs.Run.{with_line_heard, taken_phrase}
 use Rattle.paw_reading.specs.declared.halt.Halt.TheVariants as halt
 use Rattle.paw_reading.specs.Reading.{Redescribes, Restarts, Halts, Stop, Out, Left, Waits, Stopped}
-use Rattle.paw_reading.specs.Reading.{step_noted, after_call, at_level, next_object_or, is_taken, object_taken, over_objects}
-use Rattle.paw_reading.specs.Reading.{loop_of, over, prompt_answered, prompt_asked, waits}
-use Rattle.paw_reading.specs.Reading.{after_test, after_parse, coming_phrase, after_action, carried_out, acts}
-use Rattle.paw_reading.specs.Reading.{reads_one, condacts, is_for_now}
-use Rattle.paw_reading.specs.Reading.{entries, from_condact, rest_of_loop, read_at_level, game_over}
+use Rattle.paw_reading.specs.Reading.{step_noted, after_call, at_level, next_object_or, object_taken}
+use Rattle.paw_reading.specs.Reading.{is_for_now}
+use Rattle.paw_reading.specs.Reading.{from_condact, rest_of_loop, read_at_level}
 use Rattle.paw_reading.specs.inner.Parts.{goodbye, quit_question}
-use Rattle.paw_reading.proofs.EachCondact.{by_test}
-use Rattle.paw_reading.proofs.LeavesLoop.{LeavesLoop, CallsLeavingLoop, IsOrNone, either, open_or_not, plain_leaves_loop}
+use Rattle.paw_reading.proofs.Cases.{open_or_not}
+use Rattle.paw_reading.proofs.Lists.{drop_some}
+use Rattle.paw_reading.proofs.Spends.{shorter}
+use Rattle.paw_reading.proofs.EachStep.{Relation, Steps, Point, BeforeEntry, AtCondact, StandsAt, table_of, of_frame, past_condact, past_entry, body_of}
+use Rattle.paw_reading.proofs.EachStep.{itself, tested, hearing, from_each}
+use Rattle.paw_reading.proofs.LeavesLoop.{LeavesLoop, CallsLeavingLoop, IsOrNone, plain_leaves_loop}
 use Rattle.paw_check.specs.Verbs.{may_write_verb}
 use Rattle.paw_check.proofs.PrintsWithin.{actions_print_within, questions_print_within}
 use Rattle.paw_check.proofs.VerbLeft.{conditions_leave_verb, actions_leave_verb}
-use Rattle.paw_check.proofs.TurnWorlds.{timeout_of, phrase_of}
-use Rattle.paw_check.proofs.TableWorlds.{taken_of, anew_of, acted_of, tested_of, timeout_verb, taken_verb}
+use Rattle.paw_check.proofs.TurnWorlds.{timeout_of, phrase_of, taken_of}
+use Rattle.paw_check.proofs.TableWorlds.{anew_of, acted_of, tested_of, timeout_verb, taken_verb}
 use Rattle.paw_check.proofs.ActionFacts.{MayLead}
 use Rattle.paw_check.proofs.Leading.{effect_goes}
 use Rattle.paw_check.proofs.Uses.{of_kind, used, own_of, Closed, Another, nothing, noted_use, printed_use, first_use}
-use Rattle.paw_check.proofs.Uses.{closed_more, may_read, may_print}
+use Rattle.paw_check.proofs.Uses.{closed_more, unread, unfit}
+use Rattle.paw_check.proofs.Reaching.{each_at}
 
 -- ---- what stands while a table is read ----
 
@@ -253,72 +250,18 @@ module _ (g : Story) (valid : ValidStory g) (kind : SpentKind) (limit pending : 
     closed = k.closed;
   }
 
-  -- ---- prompts ----
-
   module _ (lv : ℕ) where
-    -- What reading on from a place takes at most: reads alone, and with it loops, each pass of one.
-    abbrev pub Takes : (once more : ℕ) → (Run → Out) → Type 0
-    Takes once more go =
-        (m : ℕ) (r : Run) → Is lv r → used kind r ≤ m → m + (once + more) ≤ limit → Ends (Inside lv (m + once) (m + (once + more))) (m + (once + more)) (go r)
+    -- What reading on takes at most: reads alone, and with it loops, each pass of one.
+    abbrev pub Within : (once more : ℕ) → Run → Out → Type 0
+    Within once more r x =
+        (m : ℕ) → Is lv r → used kind r ≤ m → m + (once + more) ≤ limit → Ends (Inside lv (m + once) (m + (once + more))) (m + (once + more)) x
 
-    -- The same, whether an action was carried out before or not.
     abbrev pub Goes : (once more : ℕ) → (Bool → Run → Out) → Type 0
-    Goes once more go = (a : Bool) → Takes once more (go a)
+    Goes once more go = (a : Bool) (r : Run) → Within once more r (go a r)
 
-    goes_up : (a b c d : ℕ) → a ≤ c → b ≤ d → (go : Bool → Run → Out) → Goes a b go → Goes c d go
-    goes_up a b c d h k go t acted m r is u fits =
-        inside_up lv (m + a) (m + (a + b)) (m + c) (m + (c + d)) (omega (arith, h)) (omega (arith, h, k)) (go acted r)
-        (t acted m r is u (omega (arith, h, k, fits)))
-
-    game_over_ends : (P : Run → Type 0) (n : ℕ) (r : Run) → used kind r ≤ limit → Closed kind limit r.traces r.pieces → Ends P n (game_over r)
-    game_over_ends P n r h k = closed_more kind limit r h k
-
-    over_ends : (P : Run → Type 0) (n : ℕ) (r : Run) → Is lv r → used kind r ≤ 0 → Ends P n (over g r)
-    over_ends P n r k u =
-        let text : Text = goodbye g r in
-        let most : used kind (text_printed text r) ≤ limit = first_use kind limit r text u (bye r.world k.world) in
-        may_print (Ends P n) kind text game_over r (omega (arith, most, low)) (game_over_ends P n (text_printed text r) most k.closed) (λ h. h)
-
-    module _ (once more : ℕ) (go : Bool → Run → Out) (goes : Goes once more go) (fits : once + more ≤ limit) where
-      answered_ends : (p : Prompt) (f : Frame) (line : Line) (r : Run) → Is lv r → used kind r ≤ 0 →
-          Ends (Inside lv once (once + more)) (once + more) (prompt_answered g p f go line r)
-      answered_ends prompt.Quit f line r k u =
-          either (Ends (Inside lv once (once + more)) (once + more)) (is_yes line) _ (Left true r)
-          (inside_up lv (0 + once) (0 + (once + more)) once (once + more) (omega arith) (omega arith) (go f.acted r)
-          (goes f.acted 0 r k u (omega (arith, fits))))
-          (k, omega (arith, u))
-      answered_ends prompt.Again f line r k u =
-          either (Ends (Inside lv once (once + more)) (once + more)) (is_no line) (over g r) (Stopped Restarts (anew r))
-          (over_ends (Inside lv once (once + more)) (once + more) r k u) (
-            record {
-              world = anew_of g.game valid.game r.world k.world;
-              small = omega arith;
-              short = omega arith;
-              speaks = λ e. absurd cc;
-              loop = tt;
-              lines = k.lines;
-              closed = k.closed;
-            },
-            (refl, u),
-          )
-      answered_ends _ f line r k u =
-          inside_up lv (0 + once) (0 + (once + more)) once (once + more) (omega arith) (omega arith) (go true r) (goes true 0 r k u (omega (arith, fits)))
-
-      asked_ends : (p : Prompt) (f : Frame) (r : Run) (lines : Lines) → Is lv r → used kind r ≤ 0 → All IsLine lines →
-          Ends (Inside lv once (once + more)) (once + more) (prompt_asked g p f go r lines)
-      unfolding prompt_asked
-      asked_ends p f r [] k u are = k.closed
-      asked_ends p f r (line ∷ lines) k u are =
-          let s : Run = record r { events = lines } in
-          let rest : All IsLine lines = All-tail IsLine line lines are in
-          let is : Is lv s = with_events lv r k lines rest in
-          either (Ends (Inside lv once (once + more)) (once + more)) (is_ignored r.world line) _ _
-          (asked_ends p f (piece_closed s) lines (closed_is lv s is (omega (arith, u))) (nothing kind) rest)
-          (answered_ends p f (reply line) (with_line_heard line s) (heard_is lv line s is) u)
-
-      waits_ends : (p : Prompt) (f : Frame) (r : Run) → Is lv r → used kind r ≤ limit →
-          Ends (Inside lv once (once + more)) (once + more) (waits g p f go r)
-      waits_ends p f r k u = asked_ends p f (piece_closed r) r.events (closed_is lv r k u) (nothing kind) k.lines
+    within_up : (a b c d : ℕ) → a ≤ c → b ≤ d → (r : Run) (x : Out) → Within a b r x → Within c d r x
+    within_up a b c d h k r x go m is u fits =
+        inside_up lv (m + a) (m + (a + b)) (m + c) (m + (c + d)) (omega (arith, h)) (omega (arith, h, k)) x (go m is u (omega (arith, h, k, fits)))
 
     -- ---- loops and calls ----
 
@@ -333,77 +276,12 @@ module _ (g : Story) (valid : ValidStory g) (kind : SpentKind) (limit pending : 
     again_ends next a b d h goes (Waits p path r) k = k
     again_ends next a b d h goes (Stopped stop r) k = stops_up (Inside lv a b) (Outside lv d) b d h stop r k
 
-    passes_end : (l : OpenLoop) (body : Run → Out) (once more : ℕ) → l.level ≡ lv → Takes once more body → (n : ℕ) → n ≤ length g.game.objects →
-        (m : ℕ) (r : Run) → Is lv r → used kind r ≤ m → m + in_all_passes once more n ≤ limit →
-        Ends (Outside lv (m + in_all_passes once more n)) (m + in_all_passes once more n) (over_objects g lv l body n r)
-    unfolding over_objects
-    passes_end l body once more own takes zero few m r k u fits = (no_loop lv r k, (refl, omega (arith, u)))
-    passes_end l body once more own takes (suc n) few m r k u fits =
-        let o : ℕ = length g.game.objects - suc n in
-        let small : o < 256 = omega (arith, few_objects g.game valid.game) in
-        let s : Run = object_taken g.game l o r in
-        let some : more ≤ in_all_passes once more n = more_in_all_passes once more n in
-        let most : ℕ = m + in_all_passes once more (suc n) in
-        either (Ends (Outside lv most) most) (is_taken g.game r.world l o) _ _
-        (again_ends (λ _. over_objects g lv l body n) (m + once) (m + (once + more)) most (omega (arith, some))
-        (λ q j is v. outside_up lv (m + once + in_all_passes once more n) most (omega arith) (over_objects g lv l body n j)
-        (passes_end l body once more own takes n (omega (arith, few)) (m + once) j is v (omega (arith, fits))))
-        (body s) (takes m s (taken_is lv l o r own small k) u (omega (arith, fits, some))))
-        (outside_up lv (m + in_all_passes once more n) most (omega arith) (over_objects g lv l body n r)
-        (passes_end l body once more own takes n (omega (arith, few)) m r k u (omega (arith, fits))))
-
     after_call_ends : (once more : ℕ) (f : Frame) (go : Bool → Run → Out) → Goes once more go → (m : ℕ) → m + (once + more) ≤ limit → (x : Out) →
         Ends (Anyhow lv m) m x → Ends (Inside lv (m + once) (m + (once + more))) (m + (once + more)) (after_call f go x)
-    after_call_ends once more f go goes m fits (Left b r) k = goes (f.acted || b) m r k.0 k.1 fits
+    after_call_ends once more f go goes m fits (Left b r) k = goes (f.acted || b) r m k.0 k.1 fits
     after_call_ends once more f go goes m fits (Waits p path r) k = k
     after_call_ends once more f go goes m fits (Stopped stop r) k =
         stops_up (Anyhow lv m) (Inside lv (m + once) (m + (once + more))) m (m + (once + more)) (omega arith) stop r k
-
-    -- ---- one condact ----
-
-    module _ (once more : ℕ) (f : Frame) (next go : Bool → Run → Out) (goes_next : Goes once more next) (goes_go : Goes once more go) where
-      after_parse_ends : changing ≡ true → (m : ℕ) (r : Run) → Is lv r → used kind r ≤ m → m + (once + more) ≤ limit → (p : Parsed) →
-          coming_phrase g r ≡ p → LeavesBytes (λ rest. length rest < length r.pending) p →
-          Ends (Inside lv (m + once) (m + (once + more))) (m + (once + more)) (after_parse f next go r p)
-      after_parse_ends may m r k u fits (IsSentence s rest) e less =
-          let said = phrase_of g.game valid.game g.answers r k.world k.small s rest e in
-          goes_next f.acted m (taken_phrase s rest r)
-          (record {
-            world = said.0;
-            small = said.1;
-            short = omega (arith, k.short, less);
-            speaks = λ not_so. let both : true ≡ false = sym may ∙ not_so in absurd cc;
-            loop = k.loop;
-            lines = k.lines;
-            closed = k.closed;
-          }) u fits
-      after_parse_ends may m r k u fits (IsUnknown rest) e less =
-          goes_go f.acted m (record r { pending = rest })
-          (record {
-            world = k.world;
-            small = k.small;
-            short = omega (arith, k.short, less);
-            speaks = k.speaks;
-            loop = k.loop;
-            lines = k.lines;
-            closed = k.closed;
-          }) u fits
-      after_parse_ends may m r k u fits IsNoPhrase e less = goes_go f.acted m r k u fits
-
-      after_test_ends : (c : Condact) (m : ℕ) (r : Run) (t : Truth) → Is lv r → m + (once + more) ≤ limit →
-          ((b : Bool) → used kind (step_noted f c b r) ≤ m) →
-          (t ≡ truth.Ask → used kind (text_printed (quit_question g r) (step_noted f c true r)) ≤ m) →
-          Ends (Inside lv (m + once) (m + (once + more))) (m + (once + more)) (after_test g f next go c r t)
-      after_test_ends c m r truth.Yes k fits uses asks = goes_go f.acted m (step_noted f c true r) k (uses true) fits
-      after_test_ends c m r truth.No k fits uses asks = goes_next f.acted m (step_noted f c false r) k (uses false) fits
-      after_test_ends c m r truth.Ask k fits uses asks =
-          let text : Text = quit_question g r in
-          let s : Run = text_printed text (step_noted f c true r) in
-          may_print (Ends (Inside lv (m + once) (m + (once + more))) (m + (once + more))) kind text (waits g prompt.Quit f go) (step_noted f c true r)
-          (omega (arith, asks refl, fits, low))
-          (inside_up lv once (once + more) (m + once) (m + (once + more)) (omega arith) (omega arith) (waits g prompt.Quit f go s)
-          (waits_ends once more go goes_go (omega (arith, fits)) prompt.Quit f s k (omega (arith, asks refl, fits))))
-          (λ h. h)
 
     -- ---- one table ----
 
@@ -424,146 +302,6 @@ module _ (g : Story) (valid : ValidStory g) (kind : SpentKind) (limit pending : 
           go : (b : Bool) → changing ≡ b → b ≡ true
           go true e = refl
           go false e = let may : may_write_verb c ≡ true = rw parse refl in let not_so : may_write_verb c ≡ false = quiet c has e in absurd cc
-
-      module _ (once more : ℕ) (short : once ≤ all) (f : Frame) (next go : Bool → Run → Out) (goes_next : Goes once more next)
-          (goes_go : Goes once more go) (c : Condact) (has : Has c) (m : ℕ) (fits : m + ((takes c + once) + (extra c + more)) ≤ limit) where
-        abbrev Comes : Out → Type 0
-        Comes x = Ends (Inside lv (m + (takes c + once)) (m + ((takes c + once) + (extra c + more)))) (m + ((takes c + once) + (extra c + more))) x
-
-        -- From what is used once the condact has taken what it takes.
-        behind : (x : Out) → Ends (Inside lv (m + takes c + once) (m + takes c + (once + more))) (m + takes c + (once + more)) x → Comes x
-        behind x k =
-            inside_up lv (m + takes c + once) (m + takes c + (once + more)) (m + (takes c + once)) (m + ((takes c + once) + (extra c + more))) (omega arith)
-            (omega arith) x k
-
-        after_action_ends : (e : Effect) (w : World) → Leads w c e → (e ≡ effect.Spent → ⊥) → (e ≡ effect.Parse → changing ≡ true) →
-            (r : Run) → IsLoose lv r → ((e ≡ effect.Redescribe → ⊥) → changing ≡ false
-            → flag r.world VERB_FLAG ≡ verb) →
-            used kind r ≤ m + own_of kind g.game c → Comes (after_action g sub lv f next go e r)
-        after_action_ends effect.Go w leads kept parses r k speaks u =
-            behind (go true r)
-            (goes_go true (m + takes c) r (loose lv r k (speaks (λ e. cc))) (omega (arith, u, own_takes c)) (omega (arith, fits)))
-        after_action_ends (effect.Exit a) w leads kept parses r k speaks u =
-            let most : used kind r ≤ m + takes c = omega (arith, u, own_takes c) in (
-              loose lv r k (speaks (λ e. cc)),
-              omega (
-                arith,
-                most,
-                allowed_above (at_level lv r.turning) (m + takes c) (m + (takes c + once)) (m + ((takes c + once) + (extra c + more)))
-                    (omega arith) (omega arith),
-              ),
-            )
-        after_action_ends effect.Redescribe w leads kept parses r k speaks u = (
-          record {
-            world = k.world;
-            small = k.small;
-            short = k.short;
-            speaks = λ e. absurd cc;
-            loop = tt;
-            lines = k.lines;
-            closed = k.closed;
-          },
-          (refl, omega (arith, u, own_takes c)),
-        )
-        after_action_ends (effect.Call t) w leads kept parses r k speaks u =
-            let called : Ends (Anyhow lv (m + takes c)) (m + takes c) (sub c.a r) =
-            calls c has leads.0 m r (loose lv r k (speaks (λ e. cc))) u (omega (arith, fits)) in
-            let same : Ends (Anyhow lv (m + takes c)) (m + takes c) (sub t r) =
-            subst (λ i. Ends (Anyhow lv (m + takes c)) (m + takes c) (sub i r)) (sym leads.1) called in
-            behind (after_call f go (sub t r)) (after_call_ends once more f go goes_go (m + takes c) (omega (arith, fits)) (sub t r) same)
-        after_action_ends (effect.Loop p) w leads kept parses r k speaks u =
-            let n : ℕ = length g.game.objects in
-            let room : in_all_passes once more n ≤ loop_cost + more = wide once more short in
-            let own : extra c ≡ loop_cost = loops c leads.0 in
-            outside_inside lv (m + (takes c + once)) (m + takes c + in_all_passes once more n) (m + ((takes c + once) + (extra c + more)))
-            (omega (arith, room, own)) (over_objects g lv (loop_of lv f p) (go true) n r)
-            (passes_end (loop_of lv f p) (go true) once more refl (goes_go true) n (omega arith) (m + takes c) r (loose lv r k (speaks (λ e. cc)))
-            (omega (arith, u, own_takes c)) (omega (arith, room, own, fits)))
-        after_action_ends (effect.Ask p) w leads kept parses r k speaks u =
-            behind (waits g p f go r)
-            (inside_up lv once (once + more) (m + takes c + once) (m + takes c + (once + more)) (omega arith) (omega arith) (waits g p f go r)
-            (waits_ends once more go goes_go (omega (arith, fits)) p f r (loose lv r k (speaks (λ e. cc))) (omega (arith, u, own_takes c, fits))))
-        after_action_ends effect.Parse w leads kept parses r k speaks u =
-            behind (after_parse f next go r (coming_phrase g r))
-            (after_parse_ends once more f next go goes_next goes_go (parses refl) (m + takes c) r (loose lv r k (speaks (λ e. cc)))
-            (omega (arith, u, own_takes c)) (omega (arith, fits)) (coming_phrase g r) refl
-            (parsed-shorter g.game r.pending r.earlier (flag r.world PRONOUN_NOUN_FLAG)
-            (flag r.world PRONOUN_ADJECTIVE_FLAG)))
-        after_action_ends effect.Spent w leads kept parses r k speaks u = absurd (kept refl)
-
-        tested_ends : (r : Run) → Is lv r → used kind r ≤ m →
-            Comes (after_test g f next go c (with_world (holds g.game r.world c).world r) (holds g.game r.world c).answer)
-        tested_ends r k u =
-            let w : World = (holds g.game r.world c).world in
-            let s : Run = with_world w r in
-            behind (after_test g f next go c s (holds g.game r.world c).answer)
-            (after_test_ends once more f next go goes_next goes_go c (m + takes c) s (holds g.game r.world c).answer
-            (in_world lv r k w (tested_of g.game valid.game r.world k.world c)
-            (λ e. conditions_leave_verb g r.world c valid k.world (is c has) (quiet c has e)))
-            (omega (arith, fits))
-            (λ b. omega (arith, u, noted_use kind g.game s f c b, own_takes c))
-            (λ e. omega (
-              arith,
-              u,
-              printed_use kind g.game s f c true (quit_question g s) (questions_print_within g r.world c valid k.world (is c has) e),
-              own_takes c,
-            )))
-
-        acted_ends : (r : Run) → Is lv r → used kind r ≤ m → Comes (acts g sub lv f next go (effect_of g r.world c) (step_noted f c true r))
-        acted_ends r k u =
-            let d : Done = effect_of g r.world c in
-            let s : Run = text_printed d.text (step_noted f c true r) in
-            let most : used kind s ≤ m + own_of kind g.game c =
-            omega (arith, u, printed_use kind g.game r f c true d.text (actions_print_within g r.world c valid k.world (is c has))) in
-            may_print Comes kind d.text (λ j. after_action g sub lv f next go d.act.effect (carried_out d j)) (step_noted f c true r)
-            (omega (arith, most, own_takes c, fits, low))
-            (after_action_ends d.act.effect r.world (effect_leads g r.world c)
-            (λ e. subst (MayLead (plain_code c.code)) e (effect_goes g r.world c))
-            (λ e. parses_change c has (subst (MayLead (plain_code c.code)) e (effect_goes g r.world c)))
-            (carried_out d s)
-            (record {
-              world = acted_of g.game valid.game g.answers valid.bytes r.world k.world c (is c has);
-              small = k.small;
-              short = shorter_if d.act.drop_line r.pending pending k.short;
-              speaks = λ e. absurd cc;
-              loop = shallow d.act.cancel_loop r.turning lv k.loop;
-              lines = k.lines;
-              closed = k.closed;
-            })
-            (λ other e. elim (actions_leave_verb g r.world c valid k.world (is c has) (quiet c has e)) [
-              | inl same ↦ same ∙ k.speaks e
-              | inr next_object_or ↦ absurd (other next_object_or)
-            ])
-            most)
-            (λ h. h)
-
-        reads_one_ends : (r : Run) → Is lv r → used kind r ≤ m → Comes (reads_one g sub lv f next go c r)
-        reads_one_ends r k u = either Comes (is_condition c) _ _ (tested_ends r k u) (acted_ends r k u)
-
-      -- ---- entries, tables ----
-
-      condacts_end : (t e once more : ℕ) (next : Bool → Run → Out) → Goes once more next → (i : ℕ) (cs : List Condact) → AllByRecursion Has cs →
-          sum_by takes cs + once ≤ all → Goes (sum_by takes cs + once) (sum_by extra cs + more) (condacts g sub lv t e next i cs)
-      unfolding condacts
-      condacts_end t e once more next goes i [] has short acted m r k u fits =
-          goes_up once more (sum_by takes [] + once) (sum_by extra [] + more) (omega arith) (omega arith) next goes acted m r k u fits
-      condacts_end t e once more next goes i (c ∷ cs) has short acted m r k u fits =
-          let a : ℕ = sum_by takes cs + once in
-          let b : ℕ = sum_by extra cs + more in
-          let p : sum_by takes (c ∷ cs) ≡ takes c + sum_by takes cs = sum_by-cons takes c cs in
-          let q : sum_by extra (c ∷ cs) ≡ extra c + sum_by extra cs = sum_by-cons extra c cs in
-          let n : ℕ = m + ((sum_by takes (c ∷ cs) + once) + (sum_by extra (c ∷ cs) + more)) in
-          let f : Frame = record { table = t; entry = e; at = i; acted = acted } in
-          let go : Bool → Run → Out = condacts g sub lv t e next (suc i) cs in
-          may_read (Ends (Inside lv (m + (sum_by takes (c ∷ cs) + once)) n) n) kind g.game c r (reads_one g sub lv f next go c r)
-          (omega (arith, u, own_takes c, p, fits, low))
-          (inside_up lv (m + (takes c + a)) (m + ((takes c + a) + (extra c + b))) (m + (sum_by takes (c ∷ cs) + once)) n (omega (arith, p))
-          (omega (arith, p, q)) (reads_one g sub lv f next go c r)
-          (reads_one_ends a b (omega (arith, p, short)) f next go
-          (goes_up once more a b (omega arith) (omega arith) next goes)
-          (condacts_end t e once more next goes (suc i) cs has.1 (omega (arith, p, short)))
-          c has.0 m (omega (arith, p, q, fits)) r k u))
-          (λ h. h)
 
       -- The entries that count, and their condacts.
       abbrev chosen : List Entry → List Entry
@@ -590,31 +328,325 @@ module _ (g : Story) (valid : ValidStory g) (kind : SpentKind) (limit pending : 
       no_less h true e es = omega (arith, sum_by-append h e.condacts (their es))
       no_less h false e es = omega arith
 
-      entries_end : (t e : ℕ) (es : List Entry) → AllByRecursion (λ en. AllByRecursion Has en.condacts) es → sum_by takes (their (chosen es)) ≤ all →
-          Goes (sum_by takes (their (chosen es))) (sum_by extra (their (chosen es))) (entries g sub lv t e es)
-      unfolding entries
-      entries_end t e [] has short acted m r k u fits =
-          let a : ℕ = sum_by takes (their (chosen [])) in
-          let b : ℕ = sum_by extra (their (chosen [])) in
-          (k, omega (arith, u, allowed_above (at_level lv r.turning) m (m + a) (m + (a + b)) (omega arith) (omega arith)))
-      entries_end t e (en ∷ es) has short acted m r k u fits =
-          let a : ℕ = sum_by takes (their (chosen (en ∷ es))) in
-          let b : ℕ = sum_by extra (their (chosen (en ∷ es))) in
-          let c : ℕ = sum_by takes (their (chosen es)) in
-          let d : ℕ = sum_by extra (their (chosen es)) in
-          let test : Bool = changing || is_for en.verb verb in
-          let p : c ≤ a = no_less takes test en (chosen es) in
-          let q : d ≤ b = no_less extra test en (chosen es) in
-          let later : Goes c d (entries g sub lv t (suc e) es) = entries_end t (suc e) es has.1 (omega (arith, p, short)) in
-          by_test (Ends (Inside lv (m + a) (m + (a + b))) (m + (a + b))) (is_for_now r en) _ _
-          (λ now.
-          let i : a ≡ sum_by takes en.condacts + c = counted takes test en (chosen es) (counts_now r k en now) in
-          let j : b ≡ sum_by extra en.condacts + d = counted extra test en (chosen es) (counts_now r k en now) in
-          inside_up lv (m + (sum_by takes en.condacts + c)) (m + ((sum_by takes en.condacts + c) + (sum_by extra en.condacts + d))) (m + a) (m + (a + b))
-          (omega (arith, i)) (omega (arith, i, j)) (condacts g sub lv t e (entries g sub lv t (suc e) es) 0 en.condacts acted r)
-          (condacts_end t e c d (entries g sub lv t (suc e) es) later 0 en.condacts has.0 (omega (arith, i, short)) acted m r k u
-          (omega (arith, i, j, fits))))
-          (goes_up c d a b p q (entries g sub lv t (suc e) es) later acted m r k u fits)
+      -- The condact at a frame counts before those after it; an entry that is read counts before those after it.
+      here_is : (h : Condact → ℕ) (f : Frame) (c : Condact) → StandsAt g f c →
+          sum_by h (drop f.at (condacts_of (entry_at g.game f.table f.entry))) ≡ h c + sum_by h (drop (suc f.at) (condacts_of (entry_at g.game f.table f.entry)))
+      here_is h f c stands =
+          rw (drop_some (condacts_of (entry_at g.game f.table f.entry)) f.at c stands)
+          (sum_by-cons h c (drop (suc f.at) (condacts_of (entry_at g.game f.table f.entry))))
+
+      later_less : (h : Condact → ℕ) (t e : ℕ) (en : Entry) → entry_at g.game t e ≡ Some en →
+          sum_by h (their (chosen (drop (suc e) (table_at g.game t)))) ≤ sum_by h (their (chosen (drop e (table_at g.game t))))
+      later_less h t e en is =
+          rw (drop_some (table_at g.game t) e en is) (no_less h (changing || is_for en.verb verb) en (chosen (drop (suc e) (table_at g.game t))))
+
+      now_is : (h : Condact → ℕ) (t e : ℕ) (en : Entry) (r : Run) → entry_at g.game t e ≡ Some en → Is lv r → is_for_now r en ≡ true →
+          sum_by h (their (chosen (drop e (table_at g.game t))))
+          ≡ sum_by h (drop 0 (condacts_of (entry_at g.game t e))) + sum_by h (their (chosen (drop (suc e) (table_at g.game t))))
+      now_is h t e en r is k now =
+          rw (drop_some (table_at g.game t) e en is, is, all_left en.condacts)
+          (counted h (changing || is_for en.verb verb) en (chosen (drop (suc e) (table_at g.game t))) (counts_now r k en now))
+
+      -- What is taken at most from a point on, by these condacts.
+      abbrev from_there : (Condact → ℕ) → Point → ℕ
+      from_there h (BeforeEntry t e) = sum_by h (their (chosen (drop e (table_at g.game t))))
+      from_there h (AtCondact t e n) =
+          sum_by h (drop n (condacts_of (entry_at g.game t e))) + sum_by h (their (chosen (drop (suc e) (table_at g.game t))))
+
+      abbrev once : Point → ℕ
+      once p = from_there takes p
+
+      abbrev more : Point → ℕ
+      more p = from_there extra p
+
+      module _ (t : ℕ) (each : AllByRecursion (λ en. AllByRecursion Has en.condacts) (table_at g.game t)) where
+        has_at : (f : Frame) (c : Condact) → f.table ≡ t → StandsAt g f c → Has c
+        has_at f c own stands = each_at g.game t f.entry f.at c Has each (subst (λ u. condact_at g.game u f.entry f.at ≡ Some c) own stands)
+
+        -- From a condact: at most so, with what the condact takes.
+        abbrev Comes : Frame → Condact → ℕ → Out → Type 0
+        Comes f c m x =
+            let a : ℕ = once (past_condact f) in
+            let b : ℕ = more (past_condact f) in
+            Ends (Inside lv (m + (takes c + a)) (m + ((takes c + a) + (extra c + b)))) (m + ((takes c + a) + (extra c + b))) x
+
+        abbrev Prompted : Frame → Out → Type 0
+        Prompted f x =
+            let a : ℕ = once (past_condact f) in
+            let b : ℕ = more (past_condact f) in Ends (Inside lv a (a + b)) (a + b) x
+
+        abbrev relation : Relation
+        relation = record {
+          on = λ p r x y. table_of p ≡ t → once p ≤ all → Within (once p) (more p) r y;
+          acted = λ f c w e r x y. f.table ≡ t → once (past_condact f) ≤ all → Has c → Leads w c e → (e ≡ effect.Spent → ⊥) →
+              (e ≡ effect.Parse → changing ≡ true) → (m : ℕ) → m + ((takes c + once (past_condact f)) + (extra c + more (past_condact f))) ≤ limit →
+              IsLoose lv r → ((e ≡ effect.Redescribe → ⊥) → changing ≡ false → flag r.world VERB_FLAG ≡ verb) →
+              used kind r ≤ m + own_of kind g.game c → Comes f c m y;
+          asked = λ f p r lines x y. f.table ≡ t → once (past_condact f) ≤ all → once (past_condact f) + more (past_condact f) ≤ limit → Is lv r →
+              used kind r ≤ 0 → All IsLine lines → Prompted f y;
+          loop = λ l n r x y. l.table ≡ t → once (body_of l) ≤ all → (m : ℕ) → Is lv r → used kind r ≤ m →
+              m + in_all_passes (once (body_of l)) (more (body_of l)) n ≤ limit →
+              Ends (Outside lv (m + in_all_passes (once (body_of l)) (more (body_of l)) n)) (m + in_all_passes (once (body_of l)) (more (body_of l)) n) y;
+          call = λ u r x y. (c : Condact) → Has c → c.code ≡ PROCESS → u ≡ c.a → (m : ℕ) → Is lv r → used kind r ≤ m + own_of kind g.game c →
+              m + takes c ≤ limit → Ends (Anyhow lv (m + takes c)) (m + takes c) y;
+          whole = λ u r x y. Unit {0};
+        }
+
+        called : (u : ℕ) (r : Run) → relation.call u r (sub u r) (sub u r)
+        called u r c has is_call at m k uses fits =
+            subst (λ i. Ends (Anyhow lv (m + takes c)) (m + takes c) (sub i r)) (sym at) (calls c has is_call m r k uses fits)
+
+        -- Past what a condact takes of its own, and back to the point before it.
+        behind : (f : Frame) (c : Condact) (m : ℕ) (x : Out) →
+            Ends (Inside lv (m + takes c + once (past_condact f)) (m + takes c + (once (past_condact f) + more (past_condact f))))
+            (m + takes c + (once (past_condact f) + more (past_condact f))) x → Comes f c m x
+        behind f c m x k =
+            let a : ℕ = once (past_condact f) in
+            let b : ℕ = more (past_condact f) in
+            inside_up lv (m + takes c + a) (m + takes c + (a + b)) (m + (takes c + a)) (m + ((takes c + a) + (extra c + b))) (omega arith) (omega arith) x k
+
+        behind_prompt : (f : Frame) (c : Condact) (m : ℕ) (x : Out) → Prompted f x → Comes f c m x
+        behind_prompt f c m x k =
+            let a : ℕ = once (past_condact f) in
+            let b : ℕ = more (past_condact f) in
+            inside_up lv a (a + b) (m + (takes c + a)) (m + ((takes c + a) + (extra c + b))) (omega arith) (omega arith) x k
+
+        before : (f : Frame) (c : Condact) (m : ℕ) (x : Out) → StandsAt g f c → Comes f c m x →
+            Ends (Inside lv (m + once (of_frame f)) (m + (once (of_frame f) + more (of_frame f)))) (m + (once (of_frame f) + more (of_frame f))) x
+        before f c m x stands k =
+            let a : ℕ = once (past_condact f) in
+            let b : ℕ = more (past_condact f) in
+            let p = here_is takes f c stands in
+            let q = here_is extra f c stands in
+            inside_up lv (m + (takes c + a)) (m + ((takes c + a) + (extra c + b))) (m + once (of_frame f)) (m + (once (of_frame f) + more (of_frame f)))
+            (omega (arith, p)) (omega (arith, p, q)) x k
+
+        tested_is : (f : Frame) (c : Condact) (b : Bool) (r : Run) → Has c → Is lv r → Is lv (tested g f c b r)
+        tested_is f c b r has k =
+            in_world lv r k (holds g.game r.world c).world (tested_of g.game valid.game r.world k.world c)
+            (λ e. conditions_leave_verb g r.world c valid k.world (is c has) (quiet c has e))
+
+        within_limit : (f : Frame) (c : Condact) (m : ℕ) → StandsAt g f c → m + (once (of_frame f) + more (of_frame f)) ≤ limit → m + own_of kind g.game c ≤ limit
+        within_limit f c m stands fits = omega (arith, here_is takes f c stands, own_takes c, fits)
+
+        taken_next : (r : Run) (line : Line) (lines : Lines) → Is lv r → All IsLine (line ∷ lines) → Is lv (record r { events = lines })
+        taken_next r line lines k are = with_events lv r k lines (All-tail IsLine line lines are)
+
+        hears : (r : Run) (line : Line) (lines : Lines) → Is lv r → All IsLine (line ∷ lines) → Is lv (hearing line lines r)
+        hears r line lines k are = heard_is lv line (record r { events = lines }) (taken_next r line lines k are)
+
+        steps : Steps g itself sub sub lv relation
+        steps = record {
+          left = λ u e acted r none own short m k uses fits.
+              let a : ℕ = once (BeforeEntry u e) in
+              let b : ℕ = more (BeforeEntry u e) in
+              (k, omega (arith, uses, allowed_above (at_level lv r.turning) m (m + a) (m + (a + b)) (omega arith) (omega arith)));
+          passed = λ u e en r x y at not_so h own short.
+              let p = later_less takes u e en at in
+              let q = later_less extra u e en at in
+              within_up (once (BeforeEntry u (suc e))) (more (BeforeEntry u (suc e))) (once (BeforeEntry u e)) (more (BeforeEntry u e)) p q r y
+              (h own (omega (arith, p, short)));
+          matched = λ u e en r x y at now h own short m k uses fits.
+              let i = now_is takes u e en r at k now in
+              let j = now_is extra u e en r at k now in
+              let a : ℕ = once (AtCondact u e 0) in
+              let b : ℕ = more (AtCondact u e 0) in
+              inside_up lv (m + a) (m + (a + b)) (m + once (BeforeEntry u e)) (m + (once (BeforeEntry u e) + more (BeforeEntry u e))) (omega (arith, i))
+              (omega (arith, i, j)) y (h own (omega (arith, i, short)) m k uses (omega (arith, i, j, fits)));
+          ended = λ u e n r x y none h own short.
+              within_up (once (BeforeEntry u (suc e))) (more (BeforeEntry u (suc e))) (once (AtCondact u e n)) (more (AtCondact u e n)) (omega arith)
+              (omega arith) r y (h own (omega (arith, short)));
+          exhausted = λ f c r stands many own short m k uses fits.
+              unread kind g.game c r (omega (arith, uses, within_limit f c m stands fits, low)) many;
+          holds_so = λ f c r x y stands few is_so h own short m k uses fits.
+              let has : Has c = has_at f c own stands in
+              let p = here_is takes f c stands in
+              let q = here_is extra f c stands in
+              before f c m y stands (behind f c m y (h own (omega (arith, p, short)) (m + takes c) (tested_is f c true r has k)
+              (omega (arith, uses, noted_use kind g.game (with_world (holds g.game r.world c).world r) f c true, own_takes c)) (omega (arith, p, q, fits))));
+          fails = λ f c r x y stands few is_so h own short m k uses fits.
+              let has : Has c = has_at f c own stands in
+              let p = here_is takes f c stands in
+              let q = here_is extra f c stands in
+              before f c m y stands (behind f c m y
+              (within_up (once (past_entry f)) (more (past_entry f)) (once (past_condact f)) (more (past_condact f)) (omega arith) (omega arith)
+              (tested g f c false r) y (h own (omega (arith, p, short))) (m + takes c) (tested_is f c false r has k)
+              (omega (arith, uses, noted_use kind g.game (with_world (holds g.game r.world c).world r) f c false, own_takes c)) (omega (arith, p, q, fits))));
+          asks = λ f c r x y stands few is_so e fit h own short m k uses fits.
+              let has : Has c = has_at f c own stands in
+              let p = here_is takes f c stands in
+              let q = here_is extra f c stands in
+              let s : Run = tested g f c true r in
+              let shown : Run = text_printed (quit_question g s) s in
+              let most : used kind shown ≤ m + own_of kind g.game c =
+              omega (
+                arith,
+                uses,
+                printed_use kind g.game (with_world (holds g.game r.world c).world r) f c true (quit_question g s)
+                    (questions_print_within g r.world c valid k.world (is c has) e),
+              ) in
+              before f c m y stands (behind_prompt f c m y
+              (h own (omega (arith, p, short)) (omega (arith, p, q, fits))
+              (closed_is lv shown (tested_is f c true r has k) (omega (arith, most, within_limit f c m stands fits))) (nothing kind) k.lines));
+          question_long = λ f c r stands few is_so e long own short m k uses fits.
+              let has : Has c = has_at f c own stands in
+              let s : Run = tested g f c true r in
+              unfit kind s (quit_question g s)
+              (omega (
+                arith,
+                uses,
+                printed_use kind g.game (with_world (holds g.game r.world c).world r) f c true (quit_question g s)
+                    (questions_print_within g r.world c valid k.world (is c has) e),
+                within_limit f c m stands fits,
+                low,
+              )) long;
+          acts = λ f c r x y stands few is_so fit h own short m k uses fits.
+              let has : Has c = has_at f c own stands in
+              let p = here_is takes f c stands in
+              let q = here_is extra f c stands in
+              let d : Done = effect_of g r.world c in
+              before f c m y stands
+              (h own (omega (arith, p, short)) has (effect_leads g r.world c) (λ e. subst (MayLead (plain_code c.code)) e (effect_goes g r.world c))
+              (λ e. parses_change c has (subst (MayLead (plain_code c.code)) e (effect_goes g r.world c))) m (omega (arith, p, q, fits))
+              (record {
+                world = acted_of g.game valid.game g.answers valid.bytes r.world k.world c (is c has);
+                small = k.small;
+                short = shorter_if d.act.drop_line r.pending pending k.short;
+                speaks = λ e. absurd cc;
+                loop = shallow d.act.cancel_loop r.turning lv k.loop;
+                lines = k.lines;
+                closed = k.closed;
+              })
+              (λ other e. elim (actions_leave_verb g r.world c valid k.world (is c has) (quiet c has e)) [
+                | inl same ↦ same ∙ k.speaks e
+                | inr again ↦ absurd (other again)
+              ])
+              (omega (arith, uses, printed_use kind g.game r f c true d.text (actions_print_within g r.world c valid k.world (is c has)))));
+          text_long = λ f c r stands few is_so long own short m k uses fits.
+              let has : Has c = has_at f c own stands in
+              let d : Done = effect_of g r.world c in
+              unfit kind (step_noted f c true r) d.text
+              (omega (
+                arith,
+                uses,
+                printed_use kind g.game r f c true d.text (actions_print_within g r.world c valid k.world (is c has)),
+                within_limit f c m stands fits,
+                low,
+              )) long;
+          goes = λ f c w r x y h own short has leads kept parses m fits k speaks uses.
+              behind f c m y (h own short (m + takes c) (loose lv r k (speaks (λ e. cc))) (omega (arith, uses, own_takes c)) (omega (arith, fits)));
+          exits = λ f c w a r own short has leads kept parses m fits k speaks uses.
+              let n : ℕ = once (past_condact f) in
+              let most : used kind r ≤ m + takes c = omega (arith, uses, own_takes c) in (
+                loose lv r k (speaks (λ e. cc)),
+                omega (
+                  arith,
+                  most,
+                  allowed_above (at_level lv r.turning) (m + takes c) (m + (takes c + n)) (m + ((takes c + n) + (extra c + more (past_condact f))))
+                      (omega arith) (omega arith),
+                ),
+              );
+          redescribes = λ f c w r own short has leads kept parses m fits k speaks uses. (
+            record {
+              world = k.world;
+              small = k.small;
+              short = k.short;
+              speaks = λ e. absurd cc;
+              loop = tt;
+              lines = k.lines;
+              closed = k.closed;
+            },
+            (refl, omega (arith, uses, own_takes c)),
+          );
+          calls = λ f c w u r x y h go own short has leads kept parses m fits k speaks uses.
+              behind f c m _ (after_call_ends (once (past_condact f)) (more (past_condact f)) f (from_condact g sub lv f.table f.entry (suc f.at))
+              (λ a s. go a s own short) (m + takes c) (omega (arith, fits)) y
+              (h c has leads.0 leads.1 m (loose lv r k (speaks (λ e. cc))) uses (omega (arith, fits))));
+          loops = λ f c w p r x y h own short has leads kept parses m fits k speaks uses.
+              let a : ℕ = once (past_condact f) in
+              let b : ℕ = more (past_condact f) in
+              let n : ℕ = length g.game.objects in
+              let room : in_all_passes a b n ≤ loop_cost + b = wide a b short in
+              let takes_so : extra c ≡ loop_cost = loops c leads.0 in
+              outside_inside lv (m + (takes c + a)) (m + takes c + in_all_passes a b n) (m + ((takes c + a) + (extra c + b))) (omega (arith, room, takes_so)) y
+              (h own short (m + takes c) (loose lv r k (speaks (λ e. cc))) (omega (arith, uses, own_takes c)) (omega (arith, room, takes_so, fits)));
+          prompts = λ f c w p r x y h own short has leads kept parses m fits k speaks uses.
+              behind_prompt f c m y (h own short (omega (arith, fits)) (closed_is lv r (loose lv r k (speaks (λ e. cc))) (omega (arith, uses, own_takes c, fits)))
+              (nothing kind) k.lines);
+          sentence = λ f c w r s bytes x y e h own short has leads kept parses m fits k speaks uses.
+              let said = phrase_of g.game valid.game g.answers r k.world k.small s bytes e in
+              behind f c m y
+              (within_up (once (past_entry f)) (more (past_entry f)) (once (past_condact f)) (more (past_condact f)) (omega arith) (omega arith)
+              (taken_phrase s bytes r) y (h own (omega (arith, short))) (m + takes c)
+              (record {
+                world = said.0;
+                small = said.1;
+                short = omega (arith, k.short, shorter g r (IsSentence s bytes) e);
+                speaks = λ not_so. let both : true ≡ false = sym (parses refl) ∙ not_so in absurd cc;
+                loop = k.loop;
+                lines = k.lines;
+                closed = k.closed;
+              }) (omega (arith, uses, own_takes c)) (omega (arith, fits)));
+          unknown = λ f c w r bytes x y e h own short has leads kept parses m fits k speaks uses.
+              behind f c m y (h own short (m + takes c)
+              (record {
+                world = k.world;
+                small = k.small;
+                short = omega (arith, k.short, shorter g r (IsUnknown bytes) e);
+                speaks = speaks (λ e. cc);
+                loop = k.loop;
+                lines = k.lines;
+                closed = k.closed;
+              }) (omega (arith, uses, own_takes c)) (omega (arith, fits)));
+          no_phrase = λ f c w r x y h own short has leads kept parses m fits k speaks uses.
+              behind f c m y (h own short (m + takes c) (loose lv r k (speaks (λ e. cc))) (omega (arith, uses, own_takes c)) (omega (arith, fits)));
+          too_long = λ f c w r own short has leads kept parses m fits k speaks uses. absurd (kept refl);
+          waits = λ f p r own short fits k uses are. k.closed;
+          ignored = λ f p r line lines x y h own short fits k uses are.
+              h own short fits (closed_is lv (record r { events = lines }) (taken_next r line lines k are) (omega (arith, uses))) (nothing kind)
+              (All-tail IsLine line lines are);
+          answered = λ f p r line lines x y h own short fits k uses are.
+              let a : ℕ = once (past_condact f) in
+              let b : ℕ = more (past_condact f) in
+              inside_up lv (0 + a) (0 + (a + b)) a (a + b) (omega arith) (omega arith) y
+              (h own short 0 (hears r line lines k are) uses (omega (arith, fits)));
+          quits = λ f r line lines own short fits k uses are. (hears r line lines k are, omega (arith, uses));
+          restarts = λ f r line lines own short fits k uses are. (
+            record {
+              world = anew_of g.game valid.game (hearing line lines r).world (hears r line lines k are).world;
+              small = omega arith;
+              short = omega arith;
+              speaks = λ e. absurd cc;
+              loop = tt;
+              lines = (hears r line lines k are).lines;
+              closed = k.closed;
+            },
+            (refl, uses),
+          );
+          is_over = λ f r line lines fit own short fits k uses are.
+              let s : Run = hearing line lines r in
+              let text : Text = goodbye g s in
+              closed_more kind limit (text_printed text s) (first_use kind limit s text uses (bye s.world (hears r line lines k are).world)) k.closed;
+          goodbye_long = λ f r line lines long own short fits k uses are.
+              let s : Run = hearing line lines r in
+              unfit kind s (goodbye g s) (omega (arith, first_use kind limit s (goodbye g s) uses (bye s.world (hears r line lines k are).world), low)) long;
+          loop_ends = λ l r own short m k uses fits. (no_loop lv r k, (refl, omega (arith, uses)));
+          loop_passes = λ l n r x y few h own short m k uses fits.
+              let a : ℕ = once (body_of l) in
+              let b : ℕ = more (body_of l) in
+              outside_up lv (m + in_all_passes a b n) (m + in_all_passes a b (suc n)) (omega arith) y (h own short m k uses (omega (arith, fits)));
+          loop_takes = λ l n r x y at few h rest own short m k uses fits.
+              let a : ℕ = once (body_of l) in
+              let b : ℕ = more (body_of l) in
+              let o : ℕ = length g.game.objects - suc n in
+              let small : o < 256 = omega (arith, few_objects g.game valid.game) in
+              let some : b ≤ in_all_passes a b n = more_in_all_passes a b n in
+              let most : ℕ = m + in_all_passes a b (suc n) in
+              again_ends _ (m + a) (m + (a + b)) most (omega (arith, some))
+              (λ q j so v. outside_up lv (m + a + in_all_passes a b n) most (omega arith) _ (rest j own short (m + a) so v (omega (arith, fits)))) y
+              (h own short m (taken_is lv l o r at small k) uses (omega (arith, fits, some)));
+          goes_round = λ p r x y h rest. tt;
+        }
 
       -- Once the table is left no loop of its level is open.
       module _ (leaves_loop : CallsLeavingLoop sub) where
@@ -643,8 +675,12 @@ module _ (g : Story) (valid : ValidStory g) (kind : SpentKind) (limit pending : 
         reads_end t has short m r k none u fits =
             let a : ℕ = sum_by takes (their (chosen (table_at g.game t))) in
             let b : ℕ = sum_by extra (their (chosen (table_at g.game t))) in
-            let goes : Goes a b (from_condact g sub lv t 0 0) =
-            subst (λ es. Goes a b (entries g sub lv t 0 es)) (sym (all_left (table_at g.game t))) (entries_end t 0 (table_at g.game t) has short) in
+            let goes : (sum_by takes (their (chosen (drop 0 (table_at g.game t)))) ≤ all →
+            Within (sum_by takes (their (chosen (drop 0 (table_at g.game t))))) (sum_by extra (their (chosen (drop 0 (table_at g.game t))))) r
+            (from_condact g sub lv t 0 0 false r)) =
+            from_each g itself sub sub lv (relation t has) (steps t has) (called t has) (BeforeEntry t 0) false r refl in
             last_ends (rest_of_loop g sub lv) (m + a) (m + (a + b)) r.turning (from_condact g sub lv t 0 0 false r) none
             (plain_leaves_loop g sub lv leaves_loop t 0 0 false r)
-            (goes false m r k u fits)
+            ((subst (λ es. sum_by takes (their (chosen es)) ≤ all →
+            Within (sum_by takes (their (chosen es))) (sum_by extra (their (chosen es))) r (from_condact g sub lv t 0 0 false r))
+            (all_left (table_at g.game t)) goes) short m k u fits)

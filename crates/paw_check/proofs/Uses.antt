@@ -1,8 +1,8 @@
 -- How much of the open piece is used: condacts that were read for it, or bytes that it has.
-use Rattle.std.proofs.Common.{◌≡◌, ℕ, zero, suc, ◌+◌, ◌≤◌, Bool, true, false, List, [], ◌∷◌, ◌++◌, refl, length, arith}
+use Rattle.std.proofs.Common.{◌≡◌, ℕ, zero, suc, ◌+◌, ◌≤◌, Bool, false, List, [], ◌∷◌, ◌++◌, length, arith}
 use Rattle.std.proofs.Common.{length-append}
-use Rattle.std.specs.Prelude.{if◌then◌else◌, nat_lt, All}
-use Rattle.std.proofs.lemmas.Bool.{ltb-false, leb-false}
+use Rattle.std.specs.Prelude.{All}
+use Rattle.std.proofs.lemmas.Bool.{leb-false}
 use Rattle.std.proofs.lemmas.List.Elements.{All-append}
 use Rattle.paw_base.specs.Bytes.{Text, Texts}
 use Rattle.paw_base.specs.declared.limits.TheConstants.{READ_LIMIT, PIECE_LIMIT}
@@ -12,8 +12,7 @@ use Rattle.paw_base.specs.declared.fault.SpentKind.TheVariants as spent
 use Rattle.paw_game.specs.Game.{GameLists}
 use Rattle.paw_reading.specs.declared.frames.Frame.{Frame}
 use Rattle.paw_reading.specs.Run.{Run, StepRow, fits, text_printed}
-use Rattle.paw_reading.specs.declared.halt.Halt.TheVariants as halt
-use Rattle.paw_reading.specs.Reading.{Out, halts, within, step_at, step_noted, printing}
+use Rattle.paw_reading.specs.Reading.{step_at, step_noted}
 use Rattle.paw_check.specs.Prints.{most_text}
 
 -- Of two amounts that of this kind.
@@ -76,31 +75,14 @@ closed_more spent.Text limit r h k = All-append (λ piece. length piece ≤ limi
 
 -- ---- what is never spent ----
 
--- What holds in both cases, the second with its test.
-passes : (P : Out → Type 0) (b : Bool) (x y : Out) → P x → (b ≡ false → P y) → P (if b then x else y)
-passes P true x y h k = h
-passes P false x y h k = k refl
-
-unread : (kind : SpentKind) (g : GameLists) (c : Condact) (r : Run) → used kind r + own_of kind g c ≤ of_kind kind READ_LIMIT PIECE_LIMIT →
-    nat_lt (length r.read) READ_LIMIT ≡ false → Another kind spent.Condacts
-unread spent.Condacts g c r h e = absurd (omega (arith, ltb-false (length r.read) READ_LIMIT e))
-unread spent.Text g c r h e = tt
-
 -- A condact may be read where what it uses is within the limit.
-pub may_read : (P : Out → Type 0) (kind : SpentKind) (g : GameLists) (c : Condact) (r : Run) (x : Out) →
-    used kind r + own_of kind g c ≤ of_kind kind READ_LIMIT PIECE_LIMIT → P x →
-    (Another kind spent.Condacts → P (halts (halt.Spent spent.Condacts) r)) → P (within r x)
-may_read P kind g c r x h k spends =
-    passes P (nat_lt (length r.read) READ_LIMIT) x (halts (halt.Spent spent.Condacts) r) k (λ e. spends (unread kind g c r h e))
+pub unread : (kind : SpentKind) (g : GameLists) (c : Condact) (r : Run) → used kind r + own_of kind g c ≤ of_kind kind READ_LIMIT PIECE_LIMIT →
+    READ_LIMIT ≤ length r.read → Another kind spent.Condacts
+unread spent.Condacts g c r h many = absurd (omega (arith, h, many))
+unread spent.Text g c r h many = tt
 
-unfit : (kind : SpentKind) (r : Run) (text : Text) → used kind (text_printed text r) ≤ of_kind kind READ_LIMIT PIECE_LIMIT → fits r text ≡ false →
+-- A text may be printed where the piece with it is within the limit.
+pub unfit : (kind : SpentKind) (r : Run) (text : Text) → used kind (text_printed text r) ≤ of_kind kind READ_LIMIT PIECE_LIMIT → fits r text ≡ false →
     Another kind spent.Text
 unfit spent.Condacts r text h e = tt
 unfit spent.Text r text h e = absurd (omega (arith, length-append r.current text, leb-false (length r.current + length text) PIECE_LIMIT e))
-
--- A text may be printed where the piece with it is within the limit.
-pub may_print : (P : Out → Type 0) (kind : SpentKind) (text : Text) (go : Run → Out) (r : Run) →
-    used kind (text_printed text r) ≤ of_kind kind READ_LIMIT PIECE_LIMIT → P (go (text_printed text r)) →
-    (Another kind spent.Text → P (halts (halt.Spent spent.Text) r)) → P (printing text go r)
-may_print P kind text go r h k spends =
-    passes P (fits r text) (go (text_printed text r)) (halts (halt.Spent spent.Text) r) k (λ e. spends (unfit kind r text h e))
