@@ -22,9 +22,9 @@ use Rattle.paw_reading.specs.Reading.{rest_of_table, reads_one}
 use Rattle.paw_reading.specs.GoingOn.{on_path}
 use Rattle.paw_reading.specs.inner.GoingOn.{along}
 use Rattle.paw_reading.proofs.Onward.{taken_again}
-use Rattle.paw_reading.proofs.LeavesLoop.{at_level_own, plain_leaves_loop, passes_closes, deeper_leaves_loop}
+use Rattle.paw_reading.proofs.LeavesLoop.{plain_leaves_loop, passes_closes, deeper_leaves_loop, again_closed}
 use Rattle.paw_reading.proofs.Rules.{within_budget, within_none, inside_end, inside_condact, plain_left}
-use Rattle.paw_reading.proofs.Rules.{plain_match, plain_inside, again_closed, after_call_again}
+use Rattle.paw_reading.proofs.Rules.{at_level_own, plain_match, plain_inside, after_call_again}
 use Rattle.paw_reading.proofs.Along.{along_stopped, on_path_reverse}
 use Rattle.paw_process.specs.inner.Objects.{is_next, least_taken}
 use Rattle.paw_process.specs.inner.Meaning.{going_in}
@@ -109,9 +109,8 @@ pub acted_loop : (g : Story) (fs : List Frame) (f : Frame) (p : ℕ) (r : Run)
     → acted_at g fs f (effect.Loop p) r ≡ loop_at_frames g fs (loop_of (length fs) f p) (length g.game.objects) r
 acted_loop g fs f p r =
     let sub : ℕ → Run → Out = deeper g (length fs) in
-    ap (along g fs) (again_closed g sub (length fs) (rest_of_loop g sub (length fs)) _
-    (passes_closes g (length fs) (loop_of (length fs) f p) (past_of g fs f true) refl
-    (plain_leaves_loop g sub (length fs) (deeper_leaves_loop g (length fs)) f.table f.entry (suc f.at) true) (length g.game.objects) r))
+    ap (along g fs) (again_closed (length fs) (rest_of_loop g sub (length fs)) _
+    (passes_closes g sub (length fs) (deeper_leaves_loop g (length fs)) (loop_of (length fs) f p) refl (length g.game.objects) (omega arith) r))
 
 pub acted_redescribes : (g : Story) (fs : List Frame) (f : Frame) (r : Run) →
     acted_at g fs f effect.Redescribe r ≡ Stopped Redescribes (without_loop r)
