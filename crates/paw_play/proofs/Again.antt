@@ -1,40 +1,36 @@
 -- The attach of the store of a session that is taken up again.
-use Rattle.std.proofs.Common.{◌≡◌, ◌≢◌, ℕ, ◌+◌, ◌≤◌, [], ◌∷◌, Some, None, refl, sym, ap, ◌∙◌, subst, arith, inl}
-use Rattle.std.proofs.Common.{inr}
-use Rattle.std.specs.Prelude.{IfSome}
+use Rattle.std.proofs.Common.{◌≡◌, ◌≢◌, ◌+◌, ◌-◌, ◌≤◌, [], Some, refl, sym, ap, ◌∙◌, subst, arith}
+use Rattle.std.specs.Prelude.{Ok, Err}
 use Rattle.std.proofs.lemmas.List.{append-nil}
 use Rattle.paw_base.specs.Bytes.{Text, Name}
 use Rattle.paw_effects.specs.Story.{Story}
 use Rattle.paw_game.specs.Valid.{Valid}
-use Rattle.paw_stage.specs.Disk.{MayLeave, stable}
+use Rattle.paw_stage.specs.Disk.{MayLeave, IsStable, stable}
 use Rattle.paw_stage.specs.Stage.{Standing}
-use Rattle.paw_stage.specs.Stage.{Still, InAttach}
-use Rattle.paw_stage.proofs.Time.{Passes_map}
+use Rattle.paw_stage.specs.Stage.{Still}
 use Rattle.paw_reading.specs.Turn.{text_of}
-use Rattle.paw_journal.specs.Session.{Digests, recover}
+use Rattle.paw_journal.specs.Session.{Digests, recover, kept_digests}
 use Rattle.paw_state.specs.State.{State}
 use Rattle.paw_state.proofs.Ruled.{each_of}
-use Rattle.paw_stage.specs.declared.StageCall.{StageCall}
-use Rattle.paw_stage.specs.declared.StageCall.TheVariants as call
-use Rattle.paw_stage.specs.declared.Stage.{Ghosts}
-use Rattle.paw_stage.specs.AcrossCalls.{IsOneOf, FailsOnlyBy, EachMoment, InTwoParts}
-use Rattle.paw_journal.specs.inner.Session.{digests_of}
-use Rattle.paw_journal.specs.inner.Journal.{IsSessionRefused, outside}
-use Rattle.paw_journal.specs.declared.refusal.JournalRefusal.{JournalRefusal}
-use Rattle.paw_journal.specs.declared.refusal.JournalRefusal.TheVariants as refusal
-use Rattle.paw_play.specs.Calls.{session_calls}
-use Rattle.paw_play.specs.inner.Calls.{IsNotForCall, call_of_end}
-use Rattle.paw_play.specs.Session.{IsKept}
-use Rattle.paw_play.specs.Session.{story_digests}
-use Rattle.paw_play.specs.Played.{ShowsState, going_on, from_state}
+use Rattle.paw_play.specs.Session.{IsKept, kept_bytes}
+use Rattle.paw_play.specs.Played.{PlayedSession, GoesOnFrom, ShowsState, going_on, from_state}
 use Rattle.paw_play.specs.Keeping.{InPlay}
-use Rattle.paw_play.specs.Play.{NotYet, attached_to, store_bytes, PlaysAgain, refused, unread}
-use Rattle.paw_play.specs.inner.OnTheWay.{end_of}
+use Rattle.paw_play.specs.Play.{attached_to, store_bytes, PlaysAgain, refused, unread, resumes_play, no_state, plays_on, PlaysOn}
+use Rattle.paw_play.specs.declared.PlayEnd.{PlayEnd}
+use Rattle.paw_play.specs.declared.PlayEnd.TheVariants as end
+use Rattle.paw_turn.specs.inner.Player.{PlayerView}
+use Rattle.paw_play.specs.inner.Open.{IsOpen, ResumesTo}
+use Rattle.paw_play.specs.inner.OnTheWay.{IsPlaying}
+use Rattle.paw_play.specs.declared.open.OpenSession.{OpenSession}
+use Rattle.paw_journal.specs.inner.Store.{ChangesStoreOnly}
+use Rattle.paw_base.specs.declared.limits.TheConstants.{EVENT_LIMIT}
 use Rattle.paw_journal.proofs.Disks.{stable_is, stable_leaves}
-use Rattle.paw_play.proofs.Attaching.{other_file, playing_from}
-use Rattle.paw_play.proofs.Parts.{then_attached}
-use Rattle.paw_journal.proofs.Serving.{serves_among}
+use Rattle.paw_play.proofs.Attaching.{other_file, playing_from, store_attached}
 use Rattle.paw_play.proofs.Showing.{state_kept}
+use Rattle.paw_play.proofs.Standing.{is_shown, same_again}
+use Rattle.paw_play.proofs.Playing.{starts}
+use Rattle.paw_play.proofs.Written.{had_bytes}
+use Rattle.paw_journal.proofs.Moved.{beside_none}
 
 module _ (g : Story) (digests : Digests) (name : Name) (st : State) (piece : Text) (old : Standing) (valid : Valid g.game)
     (shows : ShowsState g.game digests (store_bytes old name) st piece) where
@@ -69,70 +65,43 @@ module _ (g : Story) (digests : Digests) (name : Name) (st : State) (piece : Tex
       (ap (λ (q : Standing). q.attached) k) (λ n ne. ap (λ (q : Standing). q.files n) k ∙ other_file old name n ne)
       (ap (λ (q : Standing). q.disk) k)
 
-  -- Where the attach is done.
-  pub at_again_attach : (new : Standing) → new ≡ attached_to old name → InPlay (from_state g st piece digests name) old new
-  at_again_attach new is = in_finding new new is refl
+-- How resuming the session of the attached store ends where it isn't open.
+pub not_again : {F : Type 0} (g : Story) (name : Name) (old new : Standing) (seat : PlayerView F) (piece : Text) (o : PlayEnd) →
+    ResumesTo g (store_bytes old name) seat piece (Err o) → new ≡ attached_to old name → PlaysAgain g name old new o
+not_again g name old new seat piece (end.Refused r) h e = refused r h e
+not_again g name old new seat piece (end.State at) h e = resumes_play (end.State at) _ h.0 (no_state at h.1 h.2 h.3 h.4 h.5 e)
+not_again g name old new seat piece (end.Outside c) h e = rw h (unread e)
+not_again g name old new seat piece _ h e = absurd h
 
-  -- Once it is found.
-  pub in_taking_up : (m : Standing) → InPlay (from_state g st piece digests name) (attached_to old name) m → InPlay (from_state g st piece digests name) old m
-  in_taking_up m i = playing_from (from_state g st piece digests name) old m i
+-- ---- where it is open ----
 
--- While the session is found, where stages say what stands.
-pub found_again : {S : Type 0} (s : Ghosts S) (first mid last : S) (g : Story) (digests : Digests) (name : Name) (st : State) (piece : Text) →
-    Valid g.game → ShowsState g.game digests (store_bytes (s.standing first) name) st piece →
-    s.standing mid ≡ attached_to (s.standing first) name → EachMoment s mid last (Still (s.standing mid)) →
-    EachMoment s mid last (InPlay (from_state g st piece digests name) (s.standing first))
-found_again s first mid last g digests name st piece valid shows is h =
-    Passes_map _ _ _ _ _ (InPlay (from_state g st piece digests name) (s.standing first)) h
-    (λ m e. in_finding g digests name st piece (s.standing first) valid shows (s.standing mid) m is e)
+module _ {F : Type 0} (g : Story) (name : Name) (before now : Standing) (seat : PlayerView F) (piece : Text) (o : OpenSession)
+    (r : ResumesTo g (store_bytes before name) seat piece (Ok o)) where
+  pub opens_again : now ≡ attached_to before name → IsStable now.disk → o.events ≤ EVENT_LIMIT →
+      IsPlaying g (from_state g r.1 piece (kept_digests (store_bytes before name)) name) (attached_to before name) now seat piece 0
+  opens_again is stable few =
+      let s : PlayedSession = from_state g r.1 piece (kept_digests (store_bytes before name)) name in
+      let first : Standing = attached_to before name in
+      starts g s first now seat piece (store_attached before name) (subst (ChangesStoreOnly first) (sym is) (beside_none first))
+      (subst (λ (q : Standing). IsOpen g s 0 [] seat [] piece q.disk.bytes) (sym is) (r.4 name)) stable (omega (arith, few, r.3))
+      (ap (λ (q : Standing). q.disk.bytes) is
+      ∙ had_bytes s (kept_digests (store_bytes before name)) (kept_bytes r.1) piece (store_bytes before name) r.2.shown)
 
--- The moments from the attach of its store on, with what a stage says of the moment at which it stands.
-pub taken_up_again : {S : Type 0} (s : Ghosts S) →
-    ((x : S) (m : Standing) → s.Tells x → s.since x (s.clock x) m → m ≡ s.standing x) →
-    ((x : S) (t : ℕ) → s.Tells x → t ≤ s.clock x → s.since x t (s.standing x)) →
-    (first mid last : S) (g : Story) (digests : Digests) (name : Name) (st : State) (piece : Text) →
-    Valid g.game → ShowsState g.game digests (store_bytes (s.standing first) name) st piece → s.Tells mid →
-    s.standing mid ≡ attached_to (s.standing first) name →
-    EachMoment s first mid (InAttach (s.standing first) (s.standing mid) name) →
-    EachMoment s mid last (InPlay (from_state g st piece digests name) (s.standing first)) →
-    InTwoParts s first last (NotYet name (s.standing first)) (InPlay (from_state g st piece digests name) (s.standing first))
-taken_up_again s only counts first mid last g digests name st piece valid shows now is h k =
-    then_attached s only counts first mid last name (InPlay (from_state g st piece digests name) (s.standing first)) now
-    (at_again_attach g digests name st piece (s.standing first) valid shows (s.standing mid) is) h k
+  pub plays_again : (new : Standing) (end : PlayEnd) →
+      PlaysOn (from_state g r.1 piece (kept_digests (store_bytes before name)) name) (EVENT_LIMIT - r.1.events) (attached_to before name) new end →
+      PlaysAgain g name before new end
+  plays_again new end p = resumes_play end (kept_digests (store_bytes before name)) r.0 (plays_on end r.1 piece r.2 p)
 
--- ---- where there is no session ----
+  -- It is the one that goes on from these bytes.
+  pub in_again : (s : PlayedSession) → Valid g.game → GoesOnFrom g name (store_bytes before name) s → (m : Standing) →
+      InPlay (from_state g r.1 piece (kept_digests (store_bytes before name)) name) (attached_to before name) m → InPlay s before m
+  in_again s valid from m i =
+      subst (λ q. InPlay q before m) (same_again g name (store_bytes before name) s valid from seat piece o r)
+      (playing_from (from_state g r.1 piece (kept_digests (store_bytes before name)) name) before m i)
 
-module _ (g : Story) (name : Name) (old new : Standing) where
-  pub refused_again : (r : JournalRefusal) →
-      IsSessionRefused (recover (store_bytes old name)) (story_digests g).game (story_digests g).routines r →
-      IfSome (outside r) (IsOneOf (call.Read ∷ [])) →
-      new ≡ attached_to old name → PlaysAgain g name old new (end_of r)
-  refused_again (refusal.Unmade n mark) h c e = refused (refusal.Unmade n mark) h e
-  refused_again (refusal.Damaged part at) h c e = refused (refusal.Damaged part at) h e
-  refused_again (refusal.WrongGame kept found) h c e =
-      refused (refusal.WrongGame kept found) (digests_of kept h.0, h.1, h.2, h.3, refl, h.4, h.5) e
-  refused_again (refusal.WrongRoutines kept found) h c e =
-      refused (refusal.WrongRoutines kept found) (digests_of (story_digests g).game kept, h.0, h.1, h.2, refl, refl, h.3, h.4, h.5) e
-  refused_again (refusal.Outside q) h (inl c) e = rw c (unread e)
-  refused_again (refusal.Outside q) h (inr c) e = absurd c
-
--- A store isn't refused for the call that failed.
-pub not_for_call : (r : JournalRefusal) → IsNotForCall (end_of r)
-not_for_call (refusal.Unmade n mark) = tt
-not_for_call (refusal.Damaged part at) = tt
-not_for_call (refusal.WrongGame kept found) = tt
-not_for_call (refusal.WrongRoutines kept found) = tt
-not_for_call (refusal.Outside q) = tt
-
-read_sessions : (c : StageCall) → IsOneOf (call.Read ∷ []) c → IsOneOf session_calls c
-read_sessions c (inl e) = inr (inl e)
-read_sessions c (inr h) = absurd h
-
--- A search that found no session ended with the call that failed.
-pub serves_refused : {S : Type 0} (g : Ghosts S) (r : JournalRefusal) (old new : S) → FailsOnlyBy g (call.Read ∷ []) (outside r) old new →
-    FailsOnlyBy g session_calls (call_of_end (end_of r)) old new
-serves_refused g (refusal.Unmade n mark) old new s = serves_among g (call.Read ∷ []) session_calls None old new read_sessions s
-serves_refused g (refusal.Damaged part at) old new s = serves_among g (call.Read ∷ []) session_calls None old new read_sessions s
-serves_refused g (refusal.WrongGame kept found) old new s = serves_among g (call.Read ∷ []) session_calls None old new read_sessions s
-serves_refused g (refusal.WrongRoutines kept found) old new s = serves_among g (call.Read ∷ []) session_calls None old new read_sessions s
-serves_refused g (refusal.Outside q) old new s = serves_among g (call.Read ∷ []) session_calls (Some q) old new read_sessions s
+-- While it is found.
+pub in_search : (g : Story) (name : Name) (before old : Standing) (s : PlayedSession) → Valid g.game → GoesOnFrom g name (store_bytes before name) s →
+    old ≡ attached_to before name → (m : Standing) → Still old m → InPlay s before m
+in_search g name before old s valid from is m e =
+    let k = is_shown g name (store_bytes before name) s from in
+    subst (λ q. InPlay q before m) k.same (in_finding g k.digests name k.state k.piece before valid k.shows old m is e)

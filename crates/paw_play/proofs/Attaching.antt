@@ -12,7 +12,7 @@ use Rattle.paw_play.specs.Keeping.{InPlay, InMaking, InNewSession}
 use Rattle.paw_play.specs.Play.{attached_to, store_bytes}
 use Rattle.paw_play.specs.inner.OnTheWay.{IsRestingStore}
 
-no_bytes : (bytes : Bytes) → length bytes ≡ 0 → bytes ≡ []
+pub no_bytes : (bytes : Bytes) → length bytes ≡ 0 → bytes ≡ []
 no_bytes [] h = refl
 no_bytes (b ∷ bytes) h = cc
 

@@ -1,7 +1,7 @@
 -- What a session keeps of a player.
 use Rattle.std.proofs.Common.{◌≡◌, ℕ, ◌+◌, List, [], ◌∷◌, ◌++◌, refl, sym, ap, ◌∙◌, length}
 use Rattle.std.specs.Prelude.{reverse}
-use Rattle.paw_base.specs.Bytes.{Text, Texts, Lines}
+use Rattle.paw_base.specs.Bytes.{Text, Texts}
 use Rattle.paw_effects.specs.declared.act.Prompt.{Prompt}
 use Rattle.paw_effects.specs.declared.act.Prompt.TheVariants as prompt
 use Rattle.paw_reading.specs.Run.{StepRow}
@@ -10,7 +10,7 @@ use Rattle.paw_reading.specs.Turn.{Ending, WaitsAt, Halted}
 use Rattle.paw_turn.specs.inner.Player.{PlayerView, run_at, PlaysTo, StandsClosed}
 use Rattle.paw_turn.specs.declared.Step.{Step}
 use Rattle.paw_turn.specs.declared.Step.TheVariants as step
-use Rattle.paw_journal.specs.Session.{Digests, Recovered, Shown}
+use Rattle.paw_journal.specs.Session.{Digests, Shown}
 use Rattle.paw_process.specs.Kept.{frames_at}
 use Rattle.paw_process.specs.inner.Kept.{machine_kept}
 use Rattle.paw_process.specs.declared.kept.Frames.{Frames}
@@ -18,16 +18,11 @@ use Rattle.paw_state.specs.State.{last_piece}
 use Rattle.paw_state.specs.State.{State}
 use Rattle.paw_reading.specs.declared.frames.Frame.{Frame}
 use Rattle.paw_play.specs.Session.{kept_bytes, IsKept}
-use Rattle.paw_play.specs.Walk.{EndingOf, first_lines}
-use Rattle.paw_play.specs.Played.{PlayedSession}
+use Rattle.paw_play.specs.Walk.{EndingOf}
 use Rattle.paw_turn.specs.inner.Player.{IsStanding}
 use Rattle.paw_play.specs.inner.OnTheWay.{seat_state}
 use Rattle.paw_play.proofs.Walking.{on_waits}
 use Rattle.paw_effects.specs.Story.{Story}
-
--- The session keeps the reading of the first n of these lines.
-abbrev pub KeepsLines : PlayedSession → Lines → ℕ → Recovered → Type 0
-KeepsLines s lines n r = IsKept s.digests (s.before + n) (s.whole (first_lines n lines)) r
 
 pub last_more : (pieces : Texts) (piece : Text) → last_piece (pieces ++ piece ∷ []) ≡ piece
 last_more [] piece = refl

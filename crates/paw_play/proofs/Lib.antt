@@ -3,17 +3,16 @@ mod ShownSteps
 pub mod Walking
 mod States
 pub mod Kept
-mod Resting
 mod Written
-mod Following
+pub mod Opened
 mod Lines
-mod Playing
+pub mod Playing
 mod Beginning
-mod Begun
 pub mod Parts
 pub mod Attaching
 pub mod Resuming
 pub mod Showing
+pub mod Reopening
 mod Again
 mod Rounds
 pub mod Going
@@ -22,3 +21,4 @@ pub mod Standing
 mod Older
 pub mod Digits
 pub mod ImageFiles
+pub mod Failing

@@ -1,431 +1,449 @@
 -- A session, line by line.
-use Rattle.std.proofs.Common.{◌≡◌, ◌≢◌, ℕ, zero, suc, ◌+◌, ◌≤◌, ◌<◌, [], ◌∷◌, ◌++◌, Option, Some, None, refl, sym}
-use Rattle.std.proofs.Common.{ap, ◌∙◌, subst}
-use Rattle.std.proofs.Common.{length, take, drop, arith, append_assoc, inl, inr}
+use Rattle.std.proofs.Common.{◌≡◌, ◌≢◌, ℕ, zero, suc, ◌+◌, ◌-◌, ◌≤◌, ◌<◌, List, [], ◌∷◌, ◌++◌, Some, None, refl, sym, ap, ◌∙◌}
+use Rattle.std.proofs.Common.{subst, length, take, drop, arith, append_assoc, length-append, inl, inr}
 use Rattle.std.proofs.lemmas.List.{append-nil, take-append-drop}
-use Rattle.std.specs.Prelude.{reverse}
-use Rattle.std.specs.List.{concat}
+use Rattle.std.specs.Prelude.{reverse, Result, Ok, Err, IfOk, IfErr, IsSome}
 use Rattle.paw_base.specs.Bytes.{Bytes, Line, Lines, Text, Name}
 use Rattle.paw_base.specs.declared.limits.TheConstants.{EVENT_LIMIT, LINE_LIMIT}
-use Rattle.paw_stage.specs.Disk.{MayLeave, IsStable}
-use Rattle.paw_stage.specs.Stage.{Standing, AsksTo}
-use Rattle.paw_stage.specs.Stage.{InAsk, InShow}
-use Rattle.paw_stage.specs.declared.StageCall.TheVariants as call
-use Rattle.paw_stage.specs.declared.StageCall.{StageCall}
+use Rattle.paw_stage.specs.Disk.{Disk, MayLeave, IsStable}
+use Rattle.paw_stage.specs.Stage.{Standing, AsksTo, InAsk, InShow}
+use Rattle.paw_stage.specs.AcrossCalls.{IsOneOf}
 use Rattle.paw_stage.specs.declared.Asked.{Asked}
 use Rattle.paw_stage.specs.declared.Asked.TheVariants as asked
-use Rattle.paw_journal.proofs.Disks.{stable_leaves}
-use Rattle.paw_reading.specs.Turn.{going_on_from, text_of}
-use Rattle.paw_turn.specs.inner.Player.{PlayerView, run_at, IsSeated, StandsClosed}
-use Rattle.paw_turn.specs.inner.Player.{PlaysTo as StepsTo}
-use Rattle.paw_turn.specs.declared.Step.{Step}
+use Rattle.paw_stage.specs.declared.StageCall.{StageCall}
+use Rattle.paw_stage.specs.declared.StageCall.TheVariants as call
+use Rattle.paw_effects.specs.Story.{Story}
+use Rattle.paw_effects.specs.declared.act.Prompt.{Prompt}
+use Rattle.paw_reading.specs.declared.frames.Frame.{Frame}
+use Rattle.paw_reading.specs.Run.{Run}
+use Rattle.paw_reading.specs.declared.halt.Halt.{Halt}
+use Rattle.paw_reading.specs.declared.halt.Halt.TheVariants as halt
+use Rattle.paw_reading.specs.Turn.{WaitsAt, Halted, text_of}
+use Rattle.paw_turn.specs.inner.Player.{PlayerView, IsSeated, run_at, prompt_at}
 use Rattle.paw_turn.specs.declared.Step.TheVariants as step
-use Rattle.paw_journal.specs.Session.{Shown, recover, kept_digests, session_committed}
-use Rattle.paw_journal.specs.inner.Store.{ChangesStoreOnly, InStore, CrashLeavesSuch, IsOldOrNew}
-use Rattle.paw_stage.specs.AcrossCalls.{IsOneOf}
 use Rattle.paw_journal.specs.Journal.{writing_calls}
+use Rattle.paw_journal.specs.Session.{recover, kept_digests, slot_in_use}
+use Rattle.paw_journal.specs.inner.Journal.{KeptIn}
+use Rattle.paw_journal.specs.inner.Room.{Room, KeepsSlots}
+use Rattle.paw_journal.specs.inner.Session.{session_shown}
+use Rattle.paw_journal.specs.declared.journal.Journal.{Journal}
+use Rattle.paw_journal.specs.inner.Store.{ChangesStoreOnly}
+use Rattle.paw_journal.proofs.Disks.{stable_leaves}
 use Rattle.paw_play.specs.declared.PlayEnd.{PlayEnd}
 use Rattle.paw_play.specs.declared.PlayEnd.TheVariants as end
-use Rattle.paw_play.specs.Walk.{first_lines, text_for, with_lines_taken, Walks}
+use Rattle.paw_play.specs.Walk.{first_lines, text_for, text_before, with_lines_taken, WalkWaits, WalkHalts}
 use Rattle.paw_play.specs.Played.{PlayedSession}
-use Rattle.paw_play.specs.Keeping.{AgreesWith, IsUpToDateWith, InPlay, StaysAttached, RestsWith, KeepsAllButLast}
-use Rattle.paw_play.specs.Play.{with_store, Uncommitted, PlaysOn}
-use Rattle.paw_play.specs.inner.Calls.{unless_ended}
-use Rattle.paw_play.specs.inner.ShowSteps.{Plain}
-use Rattle.paw_turn.specs.inner.Player.{IsStanding, step_halt}
-use Rattle.paw_turn.proofs.Halting.{halted_stands}
-use Rattle.paw_reading.specs.declared.halt.Halt.TheVariants as halt
-use Rattle.paw_play.specs.inner.OnTheWay.{IsWalking, WalksTo, ShowsStep, end_if_no_piece, seat_state, seat_base, IsPlaying}
-use Rattle.paw_play.specs.inner.OnTheWay.{PlaysLineTo}
-use Rattle.paw_play.specs.Written.{bytes_before, store_bytes_after}
-use Rattle.paw_play.proofs.Kept.{KeepsLines, step_kept}
-use Rattle.paw_play.proofs.Written.{more_bytes}
-use Rattle.paw_play.proofs.Resting.{rests_on}
-use Rattle.paw_play.proofs.ShownSteps.{shows_piece}
-use Rattle.paw_play.proofs.Walking.{walks_on, long_walk, none_left, none_asked, text_so_far, text_shown, read_after}
-use Rattle.paw_play.proofs.Walking.{drop_more}
-use Rattle.paw_play.proofs.Walking.{stands_after, shown_nothing}
-use Rattle.paw_effects.specs.Story.{Story}
+use Rattle.paw_play.specs.Written.{bytes_before}
+use Rattle.paw_play.specs.Keeping.{KeptBy, AgreesWith, IsUpToDateWith, InPlay, StaysAttached, RestsWith, KeepsAll}
+use Rattle.paw_play.specs.Play.{with_store, PlaysOn}
+use Rattle.paw_play.specs.inner.Calls.{call_of_end}
+use Rattle.paw_play.specs.inner.OnTheWay.{IsPlaying, PlaysLineTo, IsRestingStore, ShowsOpen}
+use Rattle.paw_play.specs.declared.open.OpenSession.{OpenSession}
+use Rattle.paw_play.specs.inner.Open.{IsOpen, KeepsAfter, TakesLineTo, InTaking, HaltsAfter, HoldsSession, bytes_with_commit}
+use Rattle.paw_play.proofs.Opened.{waits_here, over_here}
+use Rattle.paw_play.proofs.Walking.{drop_more, drop_all, lines_more}
 
--- ---- at a prompt ----
+-- ---- what stands ----
+
+-- All but the store, by its parts.
+stands_by : (first new : Standing) (n : ℕ) (text : Text) → new.lines ≡ drop n first.lines → new.asked ≡ first.asked + n →
+    new.shown ≡ first.shown ++ text → new ≡ with_lines_taken (with_store new first) n text
+stands_by first new n text l a s =
+    ap (λ x. record new { lines = x }) l ∙ ap (λ x. record new { lines = drop n first.lines; asked = x }) a
+    ∙ ap (λ x. record new { lines = drop n first.lines; asked = first.asked + n; shown = x }) s
+
+-- Lines that are asked for and a text that is shown leave the store at rest.
+pub rests_on : (s : PlayedSession) (first kept new : Standing) (n : ℕ) (lines : Lines) (asked : ℕ) (text : Text) →
+    new ≡ record kept { lines = lines; asked = asked; shown = text } → RestsWith s first kept n → RestsWith s first new n
+rests_on s first kept new n lines asked text e r = subst (λ q. RestsWith s first q n) (sym e) (record {
+  there = r.there;
+  few = r.few;
+  attached = r.attached;
+  stable = r.stable;
+  file = r.file;
+  others = r.others;
+  keeps = r.keeps;
+  bytes = r.bytes;
+})
 
 keeps_all : (s : PlayedSession) (lines : Lines) (n : ℕ) (text bytes : Bytes) → AgreesWith s lines n text bytes →
     IsUpToDateWith s lines n text bytes
 keeps_all s lines zero text bytes h = h
 keeps_all s lines (suc n) text bytes h = inl h
 
-whole_text : (s : PlayedSession) (lines : Lines) (n : ℕ) (text : Text) → text_for s.whole lines n ≡ text →
-    (rest : Text) × (text ++ rest ≡ text_for s.whole lines n)
-whole_text s lines n text e = ([], append-nil text ∙ sym e)
-
--- The text so far.
-text_is : {F : Type 0} (g : Story) (s : PlayedSession) (first now : Standing) (seat : PlayerView F) (n : ℕ)
-    (w : IsPlaying g s first now seat n) → IsSeated seat →
-    text_for s.whole first.lines n ≡ concat w.walking.pieces
-text_is g s first now seat n w seated = text_so_far Plain g s.whole n (with_store now first) now seat w.walking seated
-
-asked_is : {F : Type 0} (g : Story) (s : PlayedSession) (first now : Standing) (seat : PlayerView F) (n : ℕ) → IsPlaying g s first now seat n
-    → now.asked ≡ first.asked + n
-asked_is g s first now seat n w = ap (λ (q : Standing). q.asked) w.walking.stands
-
-shown_is : {F : Type 0} (g : Story) (s : PlayedSession) (first now : Standing) (seat : PlayerView F) (n : ℕ)
-    (w : IsPlaying g s first now seat n) → now.shown ≡ first.shown ++ concat w.walking.pieces
-shown_is g s first now seat n w = ap (λ (q : Standing). q.shown) w.walking.stands
-
-agrees_now : {F : Type 0} (g : Story) (s : PlayedSession) (first now : Standing) (seat : PlayerView F) (n : ℕ)
-    (w : IsPlaying g s first now seat n) → IsSeated seat → (image : Bytes) → MayLeave now.disk image →
-    AgreesWith s first.lines n (concat w.walking.pieces) image
-agrees_now g s first now seat n w seated image may = (
-  subst (λ b. KeepsLines s first.lines n (recover b)) (sym (stable_leaves now.disk image w.rests.stable may)) w.rests.keeps,
-  whole_text s first.lines n (concat w.walking.pieces) (text_is g s first now seat n w seated),
-)
-
--- At a prompt.
-pub at_prompt : {F : Type 0} (g : Story) (s : PlayedSession) (first now : Standing) (seat : PlayerView F) (n : ℕ) →
-    IsPlaying g s first now seat n → IsSeated seat → InPlay s first now
-at_prompt g s first now seat n w seated = record {
-  taken = n;
-  text = concat w.walking.pieces;
-  last = w.last;
-  there = w.walking.there;
-  few = w.rests.few;
-  asked = asked_is g s first now seat n w;
-  shown = shown_is g s first now seat n w;
-  before = sym (text_is g s first now seat n w seated) ∙ w.grown;
-  attached = w.rests.attached;
-  files = w.rests.others;
-  leaves = λ image may. keeps_all s first.lines n (concat w.walking.pieces) image (agrees_now g s first now seat n w seated image may);
+-- The store stays attached, and no other file has changed.
+pub stays_by : (name : Name) (old new : Standing) → ChangesStoreOnly old new → old.attached ≡ Some name → old.files name ≡ Some old.disk.bytes →
+    StaysAttached name old new
+stays_by name old new b attached file = record {
+  attached = b.attached ∙ attached;
+  file = b.file name attached file;
+  others = λ f other. b.files f (λ e. let a : Some name ≡ Some f = sym attached ∙ e in other (cc));
 }
 
--- Inside an ask that takes a line.
-line_asked : {F : Type 0} (g : Story) (s : PlayedSession) (first now : Standing) (seat : PlayerView F) (n : ℕ) (left : Lines) →
-    IsPlaying g s first now seat n → IsSeated seat → suc n ≤ length first.lines → s.before + suc n ≤ EVENT_LIMIT →
-    InPlay s first (record now { lines = left; asked = now.asked + 1 })
-line_asked g s first now seat n left w seated there few = record {
-  taken = suc n;
-  text = concat w.walking.pieces;
-  last = [];
-  there = there;
-  few = few;
-  asked = let a = asked_is g s first now seat n w in omega (arith, a);
-  shown = shown_is g s first now seat n w;
-  before = sym (append-nil (text_for s.whole first.lines n) ∙ text_is g s first now seat n w seated);
-  attached = w.rests.attached;
-  files = w.rests.others;
-  leaves = λ image may. inr (agrees_now g s first now seat n w seated image may);
-}
+-- A reading that waits hasn't ended.
+no_halt : {p : Prompt} {path : List Frame} {r q : Run} → WaitsAt p path r ≡ Halted halt.Over q → ⊥
+no_halt e = cc
 
-is_there : {F : Type 0} (g : Story) (s : PlayedSession) (first now mid : Standing) (seat : PlayerView F) (n : ℕ) (line : Line) →
-    IsPlaying g s first now seat n → now.lines ≡ line ∷ mid.lines → suc n ≤ length first.lines
-is_there g s first now mid seat n line w e =
-    (drop_more first.lines n line mid.lines (ap (λ (q : Standing). q.lines) (sym w.walking.stands) ∙ e)).1
+-- ---- a session that begins, or that is resumed ----
 
--- Inside an ask.
-pub in_ask : {F : Type 0} {g : Story} {s : PlayedSession} {first now : Standing} {seat : PlayerView F} {n : ℕ} (w : IsPlaying g s first now seat n)
-    (mid : Standing)
-    (a : Asked) (into : Bytes) → IsSeated seat → s.before + suc n ≤ EVENT_LIMIT → AsksTo now mid a into → (m : Standing) → InAsk now mid m → InPlay s first m
-in_ask {F} {g} {s} {first} {now} {seat} {n} w mid a into seated few asks m (inl e) =
-    subst (InPlay s first) (sym e) (at_prompt g s first now seat n w seated)
-in_ask {F} {g} {s} {first} {now} {seat} {n} w mid (asked.Line k) into seated few asks m (inr e) =
-    subst (InPlay s first) (sym (e ∙ asks.3))
-    (line_asked g s first now seat n mid.lines w seated (is_there g s first now mid seat n asks.0 w asks.1) few)
-in_ask {F} {g} {s} {first} {now} {seat} {n} w mid asked.End into seated few asks m (inr e) =
-    subst (InPlay s first) (sym (e ∙ asks.1)) (at_prompt g s first now seat n w seated)
-in_ask {F} {g} {s} {first} {now} {seat} {n} w mid asked.Failed into seated few asks m (inr e) =
-    subst (InPlay s first) (sym (e ∙ asks)) (at_prompt g s first now seat n w seated)
-
--- ---- the store after a commit ----
-
--- After the ask that took a line.
-mid_attached : {F : Type 0} (g : Story) (s : PlayedSession) (first now mid : Standing) (seat : PlayerView F) (n : ℕ) →
-    IsPlaying g s first now seat n → mid ≡ record now { lines = mid.lines; asked = now.asked + 1 } →
-    mid.attached ≡ Some s.name
-mid_attached g s first now mid seat n w e = ap (λ (q : Standing). q.attached) e ∙ w.rests.attached
-
--- A line was taken that brought a piece.
-pub record Taken {F : Type 0} (g : Story) (s : PlayedSession) (most n events : ℕ) (first now mid : Standing) (seat next : PlayerView F) (given line : Bytes)
-    (found : Step) (w : IsPlaying g s first now seat n) : Type 0 where
-  pub few : n < most
-  pub seated : IsSeated seat
-  pub then_seated : IsSeated next
-  pub last : next.last ≡ found
-  pub lines : now.lines ≡ line ∷ mid.lines
-  pub cut : given ≡ take LINE_LIMIT line
-  pub took : mid ≡ record now { lines = mid.lines; asked = now.asked + 1 }
-  pub plays : StepsTo g (λ more. going_on_from g w.walking.prompt (reverse seat.machine.frames) (run_at seat w.walking.pieces w.walking.traces (given ∷ more)))
-      found next w.walking.pieces w.walking.traces
-  pub shows : IsStanding found
-  pub counts : events ≡ s.before + suc n
-  pub fit : events ≤ EVENT_LIMIT
-
-pub taken : {F : Type 0} (g : Story) (s : PlayedSession) (most n events : ℕ) (first now mid : Standing) (seat next : PlayerView F) (given line : Bytes)
-    (found : Step) (w : IsPlaying g s first now seat n) → n < most → IsSeated seat → IsSeated next → next.last ≡ found →
-    now.lines ≡ line ∷ mid.lines → given ≡ take LINE_LIMIT line
-    → mid ≡ record now { lines = mid.lines; asked = now.asked + 1 } →
-    StepsTo g (λ more. going_on_from g w.walking.prompt (reverse seat.machine.frames) (run_at seat w.walking.pieces w.walking.traces (given ∷ more)))
-    found next w.walking.pieces w.walking.traces → None ≡ end_if_no_piece found → events ≡ s.before + suc n → events ≤ EVENT_LIMIT →
-    Taken g s most n events first now mid seat next given line found w
-taken g s most n events first now mid seat next given line found w few seated then_seated last lines cut took plays fine counts fit =
-    assumption (shows_piece found fine)
-
-module _ {F : Type 0} {g : Story} {s : PlayedSession} {most n events : ℕ} {first now mid : Standing} {seat next : PlayerView F}
-    {given line : Bytes} {found : Step}
-    {w : IsPlaying g s first now seat n} (t : Taken g s most n events first now mid seat next given line found w) where
-  -- The text of all lines that were taken.
-  whole_is : s.whole (first_lines (suc n) first.lines)
-      ≡ going_on_from g w.walking.prompt (reverse seat.machine.frames) (run_at seat w.walking.pieces w.walking.traces (given ∷ []))
-  whole_is = read_after Plain g s.whole n (with_store now first) now mid seat given line w.walking t.lines t.cut
-
-  machine_stands : StandsClosed found next.machine
-  machine_stands = subst (λ q. StandsClosed q next.machine) t.last t.then_seated.machine
-
-  text_more : text_of (s.whole (first_lines (suc n) first.lines)) ≡ concat w.walking.pieces ++ next.piece
-  text_more = ap text_of whole_is ∙ text_shown Plain g _ found next w.walking.pieces w.walking.traces tt tt t.shows machine_stands t.plays
-
-  -- The session that is committed keeps them.
-  keeps_more : KeepsLines s first.lines (suc n) (Shown s.digests (seat_state events next) next.piece)
-  keeps_more =
-      let counts = t.counts in
-      rw (← counts, whole_is) (step_kept g s.digests events _ found next w.walking.pieces w.walking.traces t.shows t.last machine_stands t.plays)
-
-  there : suc n ≤ length first.lines
-  there = is_there g s first now mid seat n line w t.lines
-
-  all_few : s.before + suc n ≤ EVENT_LIMIT
-  all_few = omega (arith, t.counts, t.fit)
-
-  asked_more : mid.asked ≡ first.asked + suc n
-  asked_more = let a = asked_is g s first now seat n w in let b = ap (λ (q : Standing). q.asked) t.took in omega (arith, a, b)
-
-  shown_so_far : mid.shown ≡ first.shown ++ concat w.walking.pieces
-  shown_so_far = ap (λ (q : Standing). q.shown) t.took ∙ shown_is g s first now seat n w
-
-  attached_still : mid.attached ≡ Some s.name
-  attached_still = mid_attached g s first now mid seat n w t.took
-
-  not_this : (f : Name) → f ≢ s.name → mid.attached ≢ Some f
-  not_this f other e = let a : Some s.name ≡ Some f = sym attached_still ∙ e in other (cc)
-
-  others_still : (f : Name) → f ≢ s.name → mid.files f ≡ first.files f
-  others_still f other = ap (λ (q : Standing). q.files f) t.took ∙ w.rests.others f other
-
-  digests_still : kept_digests mid.disk.bytes ≡ s.digests
-  digests_still = ap (λ (q : Standing). kept_digests q.disk.bytes) t.took ∙ w.digests
-
-  -- Inside the commit.
-  pub in_commit : (m : Standing) → InStore mid
-      (CrashLeavesSuch (IsOldOrNew (recover mid.disk.bytes)
-      (Shown (kept_digests mid.disk.bytes) (seat_state events next) next.piece))) m → InPlay s first m
-  in_commit m i = record {
-    taken = suc n;
-    text = concat w.walking.pieces;
-    last = [];
-    there = there;
-    few = all_few;
-    asked = i.asked ∙ asked_more;
-    shown = i.shown ∙ shown_so_far;
-    before = sym (append-nil (text_for s.whole first.lines n) ∙ text_is g s first now seat n w t.seated);
-    attached = i.attached ∙ attached_still;
-    files = λ f other. i.files f (not_this f other) ∙ others_still f other;
-    leaves = λ image may. elim (i.disk image may) [
-      | inl e ↦ inr (
-        subst (λ r. KeepsLines s first.lines n r) (sym e) before_it,
-        whole_text s first.lines n
-            (concat w.walking.pieces) (text_is g s first now seat n w t.seated),
-      )
-      | inr e ↦ inl (
-        subst (λ r. KeepsLines s first.lines (suc n) r)
-            (sym (e ∙ ap (λ d. Shown d (seat_state events next) next.piece) digests_still)) keeps_more,
-        (next.piece, sym text_more),
-      )
-    ];
-  }
-    where
-      before_it : KeepsLines s first.lines n (recover mid.disk.bytes)
-      before_it = subst (λ (q : Standing). KeepsLines s first.lines n (recover q.disk.bytes)) (sym t.took) w.rests.keeps
-
-  -- Once it is committed.
-  module _ (kept : Standing) (beside : ChangesStoreOnly mid kept) where
-    -- The walk, with the store as it stands after the commit.
-    walking_with : IsWalking Plain g s.whole (with_store kept first) (with_store kept now) seat n
-    walking_with = record {
-      prompt = w.walking.prompt;
-      waits = w.walking.waits;
-      pieces = w.walking.pieces;
-      traces = w.walking.traces;
-      each = tt;
-      keeps = tt;
-      goes_on = w.walking.goes_on;
-      there = w.walking.there;
-      stands = ap (with_store kept) w.walking.stands;
-    }
-
-    kept_is : kept ≡ record (with_store kept now) { lines = kept.lines; asked = (with_store kept now).asked + 1 }
-    kept_is =
-        let a : kept.asked ≡ now.asked + 1 = beside.asked ∙ ap (λ (q : Standing). q.asked) t.took in
-        let b : kept.shown ≡ now.shown = beside.shown ∙ ap (λ (q : Standing). q.shown) t.took in
-        ap (λ x. record kept { asked = x }) a ∙ ap (λ x. record kept { asked = now.asked + 1; shown = x }) b
-
-    -- A commit that failed.
-    uncommitted : Uncommitted s.whole most first kept
-    unfolding walking_with
-    uncommitted = (
-      n,
-      t.few,
-      there,
-      stands_after (with_store kept first) (with_store kept now) kept kept n (concat w.walking.pieces) [] line walking_with.stands
-          (t.lines ∙ ap (λ xs. line ∷ xs) (sym beside.lines)) kept_is (shown_nothing kept)
-          ∙ ap (with_lines_taken (with_store kept first) (suc n)) (append-nil (concat w.walking.pieces) ∙ sym (text_is g s first now seat n w t.seated)),
-    )
-
-    -- It leaves the store attached, and no other file has changed.
-    stays : StaysAttached s.name first kept
-    stays = record {
-      attached = beside.attached ∙ attached_still;
-      file = beside.file s.name attached_still (subst (λ (q : Standing). q.files s.name ≡ Some q.disk.bytes) (sym t.took) w.rests.file);
-      others = λ f other. beside.files f (not_this f other) ∙ others_still f other;
-    }
-
-    pub plays_not : (c : StageCall) → IsOneOf writing_calls c → PlaysOn s most first kept (end.Outside c)
-    plays_not c (inl e) = rw e (record { shows = uncommitted; session = stays })
-    plays_not c (inr (inl e)) = rw e (record { shows = uncommitted; session = stays })
-    plays_not c (inr (inr h)) = absurd h
-
-    module _ (stable : IsStable kept.disk) (is : recover kept.disk.bytes ≡ Shown (kept_digests mid.disk.bytes) (seat_state events next) next.piece)
-        (digests : kept_digests kept.disk.bytes ≡ kept_digests mid.disk.bytes)
-        (wrote : kept.disk.bytes ≡ session_committed (seat_base events next) next.piece mid.disk.bytes) where
-      -- One commit was made of the bytes before.
-      bytes_more : kept.disk.bytes ≡ store_bytes_after s first.lines (suc n) (bytes_before s first.disk.bytes)
-      bytes_more =
-          more_bytes s n first.lines (seat_state events next) next.piece
-          (bytes_before s first.disk.bytes) mid.disk.bytes kept.disk.bytes keeps_more wrote
-          (ap (λ (q : Standing). q.disk.bytes) t.took ∙ w.rests.bytes)
-
-      -- The store is at rest, and keeps all lines.
-      rests : RestsWith s first kept (suc n)
+pub starts : {F : Type 0} (g : Story) (s : PlayedSession) (first now : Standing) (seat : PlayerView F) (piece : Text) → IsRestingStore s.name first →
+    ChangesStoreOnly first now → IsOpen g s 0 [] seat [] piece now.disk.bytes → IsStable now.disk → s.before ≤ EVENT_LIMIT →
+    now.disk.bytes ≡ bytes_before s first.disk.bytes → IsPlaying g s first now seat piece 0
+starts g s first now seat piece store b opened stable few bytes =
+    let stays = stays_by s.name first now b store.attached store.file in
+    record {
+      opened = opened;
+      lines = b.lines;
+      asked = b.asked ∙ omega arith;
+      shown = b.shown ∙ sym (append-nil first.shown);
       rests = record {
-        there = there;
-        few = all_few;
+        there = omega arith;
+        few = omega (arith, few);
         attached = stays.attached;
         stable = stable;
         file = stays.file;
         others = stays.others;
-        keeps = subst (λ r. KeepsLines s first.lines (suc n) r) (sym (is ∙ ap (λ d. Shown d (seat_state events next) next.piece) digests_still)) keeps_more;
-        bytes = bytes_more;
-      }
+        keeps = opened.keeps;
+        bytes = bytes;
+      };
+    }
 
-      -- Inside the show of its piece.
-      pub in_show : (m : Standing) → InShow kept next.piece m → InPlay s first m
-      in_show m i = subst (InPlay s first) (sym i.1) (record {
+-- ---- a session that is played ----
+
+module _ {F : Type 0} {g : Story} {s : PlayedSession} {first now : Standing} {seat : PlayerView F} {piece : Text} {n : ℕ}
+    (w : IsPlaying g s first now seat piece n) where
+  text_is : text_for s.whole first.lines n ≡ text_before s.whole first.lines n ++ piece
+  text_is = w.opened.played.text
+
+  keeps_now : (image : Bytes) → MayLeave now.disk image → KeptBy s first.lines n image
+  keeps_now image may =
+      subst (λ b. KeepsAfter s n (first_lines n first.lines) (recover b)) (sym (stable_leaves now.disk image w.rests.stable may)) w.opened.keeps
+
+  shown_with : (part : Text) → now.shown ++ part ≡ first.shown ++ (text_before s.whole first.lines n ++ part)
+  shown_with part = ap (λ t. t ++ part) w.shown ∙ append_assoc first.shown (text_before s.whole first.lines n) part
+
+  -- Part of the last piece is shown.
+  in_part : (part rest : Text) → part ++ rest ≡ piece → (m : Standing) → m ≡ record now { shown = now.shown ++ part } → InPlay s first m
+  in_part part rest e m is = subst (InPlay s first) (sym is) (record {
+    taken = n;
+    text = text_before s.whole first.lines n ++ part;
+    last = part;
+    there = w.rests.there;
+    few = w.rests.few;
+    asked = w.asked;
+    shown = shown_with part;
+    before = refl;
+    attached = w.rests.attached;
+    files = w.rests.others;
+    leaves = λ image may. keeps_all s first.lines n (text_before s.whole first.lines n ++ part) image (
+      keeps_now image may,
+      (
+        rest,
+        append_assoc (text_before s.whole first.lines n) part rest
+            ∙ ap (λ t. text_before s.whole first.lines n ++ t) e ∙ sym text_is,
+      ),
+    );
+  })
+
+  pub in_show : (m : Standing) → InShow now piece m → InPlay s first m
+  in_show m i = in_part (take i.0 piece) (drop i.0 piece) (take-append-drop i.0 piece) m i.1
+
+  part_stands : (new : Standing) (part : Text) → new ≡ record now { shown = now.shown ++ part } →
+      new ≡ with_lines_taken (with_store new first) n (text_before s.whole first.lines n ++ part)
+  part_stands new part e =
+      stands_by first new n (text_before s.whole first.lines n ++ part) (ap (λ (q : Standing). q.lines) e ∙ w.lines)
+      (ap (λ (q : Standing). q.asked) e ∙ w.asked) (ap (λ (q : Standing). q.shown) e ∙ shown_with part)
+
+  all_kept : (new : Standing) (part : Text) → new ≡ record now { shown = now.shown ++ part } → KeepsAll s first new
+  all_kept new part e = (
+    n,
+    ap (λ (q : Standing). q.asked) e ∙ w.asked,
+    rests_on s first now new n now.lines now.asked (now.shown ++ part) e w.rests,
+  )
+
+  -- The show failed.
+  part_shown : (most : ℕ) → n ≤ most → (new : Standing) (k : ℕ) → 0 < length piece → new ≡ record now { shown = now.shown ++ take k piece } →
+      PlaysOn s most first new (end.Outside call.Show)
+  part_shown most few new k some e = record {
+    shows = (
+      n,
+      few,
+      record {
+        shown = text_before s.whole first.lines n ++ take k piece;
+        rest = drop k piece;
+        part = append_assoc (text_before s.whole first.lines n) (take k piece) (drop k piece)
+            ∙ ap (λ t. text_before s.whole first.lines n ++ t) (take-append-drop k piece) ∙ sym text_is;
+        last = take k piece;
+        before = refl;
+        grows = omega (arith, some, ap length text_is, length-append (text_before s.whole first.lines n) piece);
+        there = w.rests.there;
+        stands = part_stands new (take k piece) e;
+      },
+    );
+    session = all_kept new (take k piece) e;
+  }
+
+  -- ---- once it is shown ----
+
+  module _ (mid : Standing) (shown : mid ≡ record now { shown = now.shown ++ piece }) (seated : IsSeated seat) where
+    at_prompt : (m : Standing) → m ≡ mid → InPlay s first m
+    at_prompt m e = in_part piece [] (append-nil piece) m (e ∙ shown)
+
+    walk_waits : (p : Prompt) → seat.last ≡ step.Waits p → WalkWaits s.whole (with_store mid first) mid n
+    walk_waits p last =
+        let is = waits_here w.opened.played p last seated in (
+          p,
+          reverse seat.machine.frames,
+          run_at seat w.opened.played.pieces w.opened.played.traces [],
+          record {
+            reading = is;
+            there = w.rests.there;
+            stands = part_stands mid piece shown ∙ ap (with_lines_taken (with_store mid first) n) (sym text_is ∙ ap text_of is);
+          },
+        )
+
+    -- The game is over.
+    over_plays : (most : ℕ) → n ≤ most → seat.last ≡ step.Ended → PlaysOn s most first mid end.Ended
+    over_plays most few last =
+        let is = over_here w.opened.played last in
+        record {
+          shows = (
+            n,
+            few,
+            run_at seat w.opened.played.pieces w.opened.played.traces [],
+            refl,
+            record {
+              reading = is;
+              there = w.rests.there;
+              stands = part_stands mid piece shown ∙ ap (with_lines_taken (with_store mid first) n) (sym text_is ∙ ap text_of is);
+            },
+          );
+          session = all_kept mid piece shown;
+        }
+
+    -- The session has all the lines that it may have.
+    long_plays : (most : ℕ) → n ≡ most → (p : Prompt) → seat.last ≡ step.Waits p → PlaysOn s most first mid (end.Long EVENT_LIMIT)
+    long_plays most all p last = record {
+      shows = (refl, subst (λ k. WalkWaits s.whole (with_store mid first) mid k) all (walk_waits p last));
+      session = all_kept mid piece shown;
+    }
+
+    -- No line is left, or none could be asked for.
+    pub none_left : (most : ℕ) → n < most → (p : Prompt) → seat.last ≡ step.Waits p → (new : Standing) → AsksTo mid new asked.End [] →
+        PlaysOn s most first new end.InputEnded
+    none_left most few p last new e =
+        let all : n ≡ length first.lines = drop_all first.lines n (sym w.lines ∙ ap (λ (q : Standing). q.lines) (sym shown) ∙ e.0) w.rests.there in
+        subst (λ q. PlaysOn s most first q end.InputEnded) (sym e.1) (record {
+          shows = (omega (arith, all, few), subst (λ k. WalkWaits s.whole (with_store mid first) mid k) all (walk_waits p last));
+          session = all_kept mid piece shown;
+        })
+
+    pub none_asked : (most : ℕ) → n < most → (p : Prompt) → seat.last ≡ step.Waits p → (new : Standing) → new ≡ mid →
+        PlaysOn s most first new (end.Outside call.Ask)
+    none_asked most few p last new e = subst (λ q. PlaysOn s most first q (end.Outside call.Ask)) (sym e) (record {
+      shows = (n, few, walk_waits p last);
+      session = all_kept mid piece shown;
+    })
+
+    -- ---- a line ----
+
+    module _ (asking : Standing) (line given : Line) (there : mid.lines ≡ line ∷ asking.lines) (cut : given ≡ take LINE_LIMIT line)
+        (took : asking ≡ record mid { lines = asking.lines; asked = mid.asked + 1 }) (few : s.before + n < EVENT_LIMIT) where
+      left : (drop (suc n) first.lines ≡ asking.lines) × (suc n ≤ length first.lines)
+      left = drop_more first.lines n line asking.lines (sym w.lines ∙ ap (λ (q : Standing). q.lines) (sym shown) ∙ there)
+
+      same_lines : first_lines n first.lines ++ given ∷ [] ≡ first_lines (suc n) first.lines
+      same_lines =
+          ap (λ l. first_lines n first.lines ++ l ∷ []) cut
+          ∙ sym (lines_more first.lines n line asking.lines [] (sym w.lines ∙ ap (λ (q : Standing). q.lines) (sym shown) ∙ there))
+          ∙ append-nil (first_lines (suc n) first.lines)
+
+      asked_is : asking.asked ≡ first.asked + suc n
+      asked_is =
+          let a = ap (λ (q : Standing). q.asked) took in let b = ap (λ (q : Standing). q.asked) shown in omega (arith, a, b, w.asked)
+
+      shown_is : asking.shown ≡ first.shown ++ text_for s.whole first.lines n
+      shown_is = ap (λ (q : Standing). q.shown) took ∙ ap (λ (q : Standing). q.shown) shown ∙ shown_with piece ∙ ap (λ t. first.shown ++ t) (sym text_is)
+
+      attached_is : asking.attached ≡ Some s.name
+      attached_is = ap (λ (q : Standing). q.attached) took ∙ ap (λ (q : Standing). q.attached) shown ∙ w.rests.attached
+
+      others_are : (f : Name) → f ≢ s.name → asking.files f ≡ first.files f
+      others_are f other = ap (λ (q : Standing). q.files f) took ∙ ap (λ (q : Standing). q.files f) shown ∙ w.rests.others f other
+
+      disk_is : asking.disk ≡ now.disk
+      disk_is = ap (λ (q : Standing). q.disk) took ∙ ap (λ (q : Standing). q.disk) shown
+
+      file_is : asking.files s.name ≡ Some asking.disk.bytes
+      file_is = ap (λ (q : Standing). q.files s.name) took ∙ ap (λ (q : Standing). q.files s.name) shown ∙ w.rests.file
+          ∙ ap (λ (d : Disk). Some d.bytes) (sym disk_is)
+
+      -- A moment at which it is taken: a crash leaves the lines before it, or it too.
+      in_line : (m : Standing) → m.asked ≡ asking.asked → m.shown ≡ asking.shown → m.attached ≡ asking.attached →
+          ((f : Name) → f ≢ s.name → m.files f ≡ asking.files f) →
+          ((image : Bytes) → MayLeave m.disk image → IsUpToDateWith s first.lines (suc n) (text_for s.whole first.lines n) image) → InPlay s first m
+      in_line m a b c f d = record {
         taken = suc n;
-        text = concat w.walking.pieces ++ take i.0 next.piece;
-        last = take i.0 next.piece;
-        there = there;
-        few = all_few;
-        asked = beside.asked ∙ asked_more;
-        shown = ap (λ x. x ++ take i.0 next.piece) (beside.shown ∙ shown_so_far)
-            ∙ append_assoc first.shown (concat w.walking.pieces) (take i.0 next.piece);
-        before = ap (λ x. x ++ take i.0 next.piece) (sym (text_is g s first now seat n w t.seated));
-        attached = rests.attached;
-        files = rests.others;
-        leaves = λ image may. inl (
-          subst (λ b. KeepsLines s first.lines (suc n) (recover b)) (sym (stable_leaves kept.disk image rests.stable may)) rests.keeps,
-          (
-            drop i.0 next.piece,
-            append_assoc (concat w.walking.pieces) (take i.0 next.piece) (drop i.0 next.piece)
-                ∙ ap (λ x. concat w.walking.pieces ++ x) (take-append-drop i.0 next.piece) ∙ sym text_more,
-          ),
-        );
-      })
-
-      -- What comes of showing it.
-      walks_then : (new : Standing) (o : Option PlayEnd) → ShowsStep kept new next.piece found o →
-          WalksTo Plain g s.whole most (with_store kept first) new next (suc n) o
-      unfolding walking_with
-      walks_then new o told =
-          walks_on Plain g s.whole most n (with_store kept first) (with_store kept now) kept new seat next given line found o walking_with t.few tt
-          t.seated t.then_seated t.last (t.lines ∙ ap (λ xs. line ∷ xs) (sym beside.lines)) t.cut kept_is t.plays told
-
-      rests_then : (new : Standing) (text : Text) → new ≡ record kept { shown = text } → RestsWith s first new (suc n)
-      rests_then new text e = rests_on s first kept new (suc n) kept.lines kept.asked text e rests
-
-      asked_then : (new : Standing) (text : Text) → new ≡ record kept { shown = text } → new.asked ≡ first.asked + suc n
-      asked_then new text e = ap (λ (q : Standing). q.asked) e ∙ beside.asked ∙ asked_more
-
-      -- The session is at the next prompt, or playing on has ended, with the piece shown or not.
-      pub plays_to : {A : Type 0} (a : A) (new : Standing) (o : Option PlayEnd) → ShowsStep kept new next.piece found o →
-          PlaysLineTo g s most first new next n (unless_ended o a)
-      plays_to a new None told = record {
-        walking = subst (λ (q : Standing). IsWalking Plain g s.whole (with_store q first) new next (suc n)) (sym told.2) (walks_then new None told);
-        rests = rests_then new (kept.shown ++ next.piece) told.2;
-        digests = ap (λ (q : Standing). kept_digests q.disk.bytes) told.2 ∙ digests ∙ digests_still;
-        last = next.piece;
-        grown = text_more ∙ ap (λ x. x ++ next.piece) (sym (text_is g s first now seat n w t.seated));
+        text = text_for s.whole first.lines n;
+        last = [];
+        there = left.1;
+        few = omega (arith, few);
+        asked = a ∙ asked_is;
+        shown = b ∙ shown_is;
+        before = sym (append-nil (text_for s.whole first.lines n));
+        attached = c ∙ attached_is;
+        files = λ x other. f x other ∙ others_are x other;
+        leaves = d;
       }
-      plays_to a new (Some end.Ended) told = record {
-        shows = subst (λ (q : Standing). Walks s.whole most (with_store q first) new end.Ended) (sym told.1) (walks_then new (Some end.Ended) told);
-        session = (suc n, asked_then new (kept.shown ++ next.piece) told.1, rests_then new (kept.shown ++ next.piece) told.1);
-      }
-      plays_to a new (Some (end.Outside call.Show)) told = record {
-        shows = subst (λ (q : Standing). Walks s.whole most (with_store q first) new (end.Outside call.Show)) (sym told.3)
-            (walks_then new (Some (end.Outside call.Show)) told);
-        session = (suc n, asked_then new (kept.shown ++ take told.2 next.piece) told.3, rests_then new (kept.shown ++ take told.2 next.piece) told.3);
-      }
-      plays_to a new (Some (end.Spent kind)) told = absurd (halted_stands found (halt.Spent kind) told.0 refl t.shows)
-      plays_to a new (Some (end.TooDeep table)) told = absurd (halted_stands found (halt.TooDeep table) told.0 refl t.shows)
-      plays_to a new (Some _) told = absurd told
 
--- All the lines that a session may have were taken.
-pub long_play : {F : Type 0} (g : Story) (s : PlayedSession) (most n : ℕ) (first now : Standing) (seat : PlayerView F) →
-    IsPlaying g s first now seat n → IsSeated seat → n ≡ most → PlaysOn s most first now (end.Long EVENT_LIMIT)
-long_play g s most n first now seat w seated all = record {
-  shows = long_walk Plain g s.whole most n (with_store now first) now seat w.walking seated all;
-  session = (n, asked_is g s first now seat n w, w.rests);
+      in_asked : (m : Standing) → m ≡ asking → InPlay s first m
+      in_asked m e = subst (InPlay s first) (sym e) (in_line asking refl refl refl (λ f other. refl) (λ image may. inr (
+        keeps_now image (subst (λ d. MayLeave d image) disk_is may),
+        ([], append-nil (text_for s.whole first.lines n)),
+      )))
+
+      pub in_take : (m : Standing) → InTaking s n (first_lines n first.lines) given asking m → InPlay s first m
+      in_take m i = in_line m i.asked i.shown i.attached
+          (λ f other. i.files f (λ e. let a : Some s.name ≡ Some f = sym attached_is ∙ e in other (cc)))
+          (λ image may. elim (i.disk image may) [
+            | inl k ↦ inr (k, ([], append-nil (text_for s.whole first.lines n)))
+            | inr k ↦ inl (
+              subst (λ ls. KeepsAfter s (suc n) ls (recover image)) same_lines k.0,
+              (k.1.0, sym k.1.1 ∙ ap (λ ls. text_of (s.whole ls)) same_lines),
+            )
+          ])
+
+      pub open_still : IsOpen g s n (first_lines n first.lines) seat (text_before s.whole first.lines n) piece asking.disk.bytes
+      open_still = subst (λ (d : Disk). IsOpen g s n (first_lines n first.lines) seat (text_before s.whole first.lines n) piece d.bytes) (sym disk_is) w.opened
+
+      -- What it leads to.
+      module _ (kept : Standing) (next : PlayerView F) (brought : Text) (beside : ChangesStoreOnly asking kept) where
+        stays : StaysAttached s.name first kept
+        stays =
+            let k = stays_by s.name asking kept beside attached_is file_is in
+            record { attached = k.attached; file = k.file; others = λ f other. k.others f other ∙ others_are f other }
+
+        line_stands : (text : Text) → kept.shown ≡ first.shown ++ text → kept ≡ with_lines_taken (with_store kept first) (suc n) text
+        line_stands text e = stands_by first kept (suc n) text (beside.lines ∙ sym left.0) (beside.asked ∙ asked_is) e
+
+        takes_on : IsOpen g s (suc n) (first_lines n first.lines ++ given ∷ []) next (text_of (s.whole (first_lines n first.lines))) brought
+            kept.disk.bytes → kept.disk.bytes ≡ bytes_with_commit s (suc n) (first_lines n first.lines ++ given ∷ []) asking.disk.bytes → IsStable kept.disk →
+            IsPlaying g s first kept next brought (suc n)
+        takes_on opened bytes stable =
+            let open_more : IsOpen g s (suc n) (first_lines (suc n) first.lines) next (text_for s.whole first.lines n) brought kept.disk.bytes =
+            subst (λ ls. IsOpen g s (suc n) ls next (text_for s.whole first.lines n) brought kept.disk.bytes) same_lines opened in
+            record {
+              opened = open_more;
+              lines = beside.lines ∙ sym left.0;
+              asked = beside.asked ∙ asked_is;
+              shown = beside.shown ∙ shown_is;
+              rests = record {
+                there = left.1;
+                few = omega (arith, few);
+                attached = stays.attached;
+                stable = stable;
+                file = stays.file;
+                others = stays.others;
+                keeps = open_more.keeps;
+                bytes = bytes ∙ ap (λ ls. bytes_with_commit s (suc n) ls asking.disk.bytes) same_lines
+                    ∙ ap (bytes_with_commit s (suc n) (first_lines (suc n) first.lines)) (ap (λ (d : Disk). d.bytes) disk_is ∙ w.rests.bytes);
+              };
+            }
+
+        -- The call that commits it failed.
+        fails : (most : ℕ) → n < most → (c : StageCall) → IsOneOf writing_calls c → PlaysOn s most first kept (end.Outside c)
+        fails most few c (inl e) = rw e (record {
+          shows = (n, few, left.1, line_stands (text_for s.whole first.lines n) (beside.shown ∙ shown_is));
+          session = stays;
+        })
+        fails most few c (inr (inl e)) = rw e (record {
+          shows = (n, few, left.1, line_stands (text_for s.whole first.lines n) (beside.shown ∙ shown_is));
+          session = stays;
+        })
+        fails most few c (inr (inr h)) = absurd h
+
+        -- Its piece isn't closed.
+        line_halts : (most : ℕ) → n < most → (halt : Halt) → HaltsAfter s.whole (first_lines n first.lines ++ given ∷ [])
+            (text_for s.whole first.lines n) halt → WalkHalts s.whole most (with_store kept first) kept halt
+        line_halts most few halt h = (
+          suc n,
+          omega (arith, few),
+          h.0,
+          h.2,
+          record {
+            reading = ap s.whole (sym same_lines) ∙ h.1;
+            there = left.1;
+            stands = line_stands (text_of (Halted halt h.0)) (beside.shown ∙ shown_is ∙ ap (λ t. first.shown ++ t) (sym h.3));
+          },
+        )
+
+        line_lost : kept ≡ asking → (k : ℕ) × (kept.asked ≡ first.asked + suc k) × RestsWith s first kept k
+        line_lost still = (
+          n,
+          beside.asked ∙ asked_is,
+          subst (λ q. RestsWith s first q n) (sym still)
+              (rests_on s first mid asking n asking.lines (mid.asked + 1) mid.shown took
+              (rests_on s first now mid n now.lines now.asked (now.shown ++ piece) shown w.rests)),
+        )
+
+        pub line_comes : (A : Type 0) (most : ℕ) → n < most → (p : Prompt) → seat.last ≡ step.Waits p → (o : PlayEnd) →
+            TakesLineTo {A = A} g s n (first_lines n first.lines) given asking kept next brought (Err o) → (call_of_end o ≡ None → kept ≡ asking) →
+            PlaysOn s most first kept o
+        line_comes A most under p last (end.Outside c) h still = fails most under c h
+        line_comes A most under p last (end.Spent kind) h still =
+            record { shows = line_halts most under (halt.Spent kind) h.2; session = line_lost (still refl) }
+        line_comes A most under p last (end.TooDeep table) h still =
+            record { shows = line_halts most under (halt.TooDeep table) h.2; session = line_lost (still refl) }
+        line_comes A most under p last end.Ended h still = absurd (no_halt (sym (waits_here w.opened.played p last seated) ∙ h.1))
+        line_comes A most under p last (end.Long k) h still = absurd (omega (arith, h.0, few))
+        line_comes A most under p last _ h still = absurd h
+
+        pub comes_to : (p : Prompt) → seat.last ≡ step.Waits p → (result : Result OpenSession PlayEnd) →
+            TakesLineTo g s n (first_lines n first.lines) given asking kept next brought result → {tells : Type 0} (events : ℕ) (room : Room) →
+            IfOk result (HoldsSession tells events room kept) → tells → {Still : Type 0} → IfErr result (λ o. call_of_end o ≡ None → Still) →
+            (Still → kept ≡ asking) → PlaysLineTo g s n first kept next brought result
+        comes_to p last (Ok a) h events room holds t still to = takes_on h.2 h.3 (holds.kept t).rests.stable
+        comes_to p last (Err o) h events room holds t still to =
+            line_comes OpenSession (EVENT_LIMIT - s.before) (omega (arith, few)) p last o h (λ e. to (still e))
+
+    -- Inside the ask.
+    pub in_ask : s.before + n < EVENT_LIMIT → (new : Standing) (a : Asked) (into : Bytes) → AsksTo mid new a into → (m : Standing) → InAsk mid new m →
+        InPlay s first m
+    in_ask few new a into asks m (inl e) = at_prompt m e
+    in_ask few new (asked.Line k) into asks m (inr e) = in_asked new asks.0 (take LINE_LIMIT asks.0) asks.1 refl asks.3 few m e
+    in_ask few new asked.End into asks m (inr e) = at_prompt m (e ∙ asks.1)
+    in_ask few new asked.Failed into asks m (inr e) = at_prompt m (e ∙ asks)
+
+  -- Playing has ended with the show.
+  pub shown_ends : (new : Standing) (events : ℕ) → IsSeated seat → events ≡ s.before + n → (o : PlayEnd) →
+      ShowsOpen now new piece seat.last events (Some o) → PlaysOn s (EVENT_LIMIT - s.before) first new o
+  shown_ends new events seated count end.Ended h =
+      over_plays new h.1 seated (EVENT_LIMIT - s.before) (omega (arith, w.rests.few)) h.0
+  shown_ends new events seated count (end.Long most) h =
+      rw h.2 (long_plays new h.3 seated (EVENT_LIMIT - s.before) (omega (arith, w.rests.few, h.1, count)) (prompt_at seat.last) h.0)
+  shown_ends new events seated count (end.Outside call.Show) h =
+      part_shown (EVENT_LIMIT - s.before) (omega (arith, w.rests.few)) new h.1 h.0 h.2
+  shown_ends new events seated count _ h = absurd h
+
+-- ---- what the journal keeps ----
+
+keeps_by : (journal : Journal) (room : Room) (now new : Standing) → KeptIn journal room now → new.attached ≡ now.attached → new.disk ≡ now.disk →
+    KeptIn journal room new
+keeps_by journal room now new k a d = record {
+  rests = record { attached = subst IsSome (sym a) k.rests.attached; stable = subst IsStable (sym d) k.rests.stable };
+  chosen = ap (λ (x : Disk). slot_in_use x.bytes) d ∙ k.chosen;
+  shown = subst (λ (x : Disk). recover x.bytes ≡ session_shown (kept_digests x.bytes) room.state room.piece) (sym d) k.shown;
+  slots = subst (λ (x : Disk). KeepsSlots room x.bytes) (sym d) k.slots;
 }
 
--- ---- where nothing is committed ----
+-- A text that was shown and a line that was asked for change nothing of it.
+pub keeps_standing : (journal : Journal) (room : Room) (now mid asking : Standing) {text : Text} {lines : Lines} {asked : ℕ} → KeptIn journal room now →
+    mid ≡ record now { shown = text } → asking ≡ record mid { lines = lines; asked = asked } → KeptIn journal room asking
+keeps_standing journal room now mid asking k e f =
+    keeps_by journal room now asking k (ap (λ (q : Standing). q.attached) f ∙ ap (λ (q : Standing). q.attached) e)
+    (ap (λ (q : Standing). q.disk) f ∙ ap (λ (q : Standing). q.disk) e)
 
-module _ {F : Type 0} (g : Story) (s : PlayedSession) (most n : ℕ) (first now : Standing) (seat : PlayerView F)
-    (w : IsPlaying g s first now seat n) (seated : IsSeated seat) (few : n < most) where
-  -- No line is left.
-  pub no_line : (new : Standing) → AsksTo now new asked.End [] → PlaysOn s most first new end.InputEnded
-  no_line new e = rw e.1 (record {
-    shows = none_left Plain g s.whole most n (with_store now first) now now seat w.walking seated few (e.0, refl);
-    session = (n, asked_is g s first now seat n w, w.rests);
-  })
-
-  pub no_ask : (new : Standing) → new ≡ now → PlaysOn s most first new (end.Outside call.Ask)
-  no_ask new e = rw e (record {
-    shows = none_asked Plain g s.whole most n (with_store now first) now now seat w.walking seated few refl;
-    session = (n, asked_is g s first now seat n w, w.rests);
-  })
-
-  module _ (mid : Standing) (next : PlayerView F) (given line : Bytes) (found : Step) (then_seated : IsSeated next) (last : next.last ≡ found)
-      (lines : now.lines ≡ line ∷ mid.lines) (cut : given ≡ take LINE_LIMIT line)
-      (took : mid ≡ record now { lines = mid.lines; asked = now.asked + 1 })
-      (plays : StepsTo g (λ more. going_on_from g w.walking.prompt (reverse seat.machine.frames)
-      (run_at seat w.walking.pieces w.walking.traces (given ∷ more))) found next w.walking.pieces w.walking.traces)
-    where
-      refused_rests : KeepsAllButLast s first mid
-      refused_rests = (
-        n,
-        let a = asked_is g s first now seat n w in let b = ap (λ (q : Standing). q.asked) took in omega (arith, a, b),
-        rests_on s first now mid n mid.lines (now.asked + 1) now.shown took w.rests,
-      )
-
-      refused_shows : (o : PlayEnd) → ShowsStep mid mid next.piece found (Some o) → Walks s.whole most (with_store mid first) mid o
-      refused_shows o told =
-          subst (λ (q : Standing). Walks s.whole most (with_store q first) mid o) (sym took)
-          (walks_on Plain g s.whole most n (with_store now first) now mid mid seat next given line found (Some o) w.walking few tt
-          seated then_seated last lines cut took plays told)
-
-      -- The piece is spent, or a call is too deep.
-      pub plays_refused : (o : PlayEnd) → end_if_no_piece found ≡ Some o → PlaysOn s most first mid o
-      plays_refused o e = elim found as (λ q. found ≡ q → end_if_no_piece q ≡ Some o → PlaysOn s most first mid o) [
-        | step.Waits p ↦ λ is e. cc
-        | step.Ended ↦ λ is e. cc
-        | step.Spent kind ↦ λ is e. let k : o ≡ end.Spent kind = cc in
-            rw k (record { shows = refused_shows (end.Spent kind) (ap step_halt is, refl); session = refused_rests })
-        | step.TooDeep table ↦ λ is e. let k : o ≡ end.TooDeep table = cc in
-            rw k (record { shows = refused_shows (end.TooDeep table) (ap step_halt is, refl); session = refused_rests })
-      ] refl e
+pub holds_since : (result : Result OpenSession PlayEnd) {before after : Type 0} (events : ℕ) (room : Room) (now : Standing) → (before → after) →
+    IfOk result (HoldsSession after events room now) → IfOk result (HoldsSession before events room now)
+holds_since (Ok a) events room now f h = record { events = h.events; kept = λ t. h.kept (f t) }
+holds_since (Err o) events room now f h = tt

@@ -26,7 +26,7 @@ use Rattle.paw_play.specs.Played.{PlayedSession, session_begun, from_lines}
 use Rattle.paw_play.specs.Keeping.{KeptBy, IsUpToDateWith, InPlay, InNewSession, RestsWith}
 use Rattle.paw_play.specs.Play.{PlaysOn, MadeAndPlayed, NewSession, GoesOn, NotYet, attached_to, store_bytes}
 use Rattle.paw_play.specs.Play.{memory, halts, unmade, plays, unattached, occupied, starts_play, unread}
-use Rattle.paw_play.specs.Laws.{RoundStop, cut_at, came_to, Round, MayBeLeft, BeginsOver, AtRest, StopsWith, AreRounds}
+use Rattle.paw_play.specs.Laws.{RoundStop, cut_at, came_to, Round, MayBeLeft, BeginsOver, FailsAtMoment, StopsWith, AreRounds}
 use Rattle.paw_play.specs.Laws.{left_after}
 use Rattle.paw_play.specs.Laws.{lines_lost, AreKept, AreKeptOf, RoundsStand}
 use Rattle.paw_play.proofs.Attaching.{store_attached}
@@ -75,6 +75,12 @@ store_left name left m is (inr apart) = absurd (apart.0 is)
 
 -- ---- the lines of a round ----
 
+-- Play ended with the store at rest: no write and no sync of it failed.
+abbrev AtRest : PlayEnd → Type 0
+AtRest (end.Outside call.Write) = ⊥
+AtRest (end.Outside call.Sync) = ⊥
+AtRest o = Unit {0}
+
 -- n lines are kept of a round, and there is room for them; the bytes that it left keep them.
 abbrev KeptOf : PlayedSession → Standing → RoundStop → Bytes → Type 0
 KeptOf s old stop left = (n : ℕ) × AreKept old stop n × (n ≤ length old.lines) × (s.before + n ≤ EVENT_LIMIT) × KeptBy s old.lines n left
@@ -91,7 +97,7 @@ module _ (s : PlayedSession) (old : Standing) where
   cut_keeps m left i may = kept_up m i.taken i.text left i.there i.few i.asked (i.leaves left (store_left s.name left m i.attached may))
 
   -- Of a round that ended by itself, all lines but those that are lost by its end.
-  at_rest : (new : Standing) (o : PlayEnd) (n : ℕ) → new.asked ≡ old.asked + n + lines_lost o → RestsWith s (attached_to old s.name) new n →
+  at_rest : (new : Standing) (o : PlayEnd) (n : ℕ) → AreKept old (came_to new o) n → RestsWith s (attached_to old s.name) new n →
       KeptOf s old (came_to new o) (store_bytes new s.name)
   at_rest new o n asked r = (n, asked, r.there, r.few, subst (KeptBy s old.lines n) (sym (ap bytes_or_none r.file)) r.keeps)
 
@@ -144,11 +150,20 @@ module _ (g : Story) (seed : Seed) (r : Round) (begins : BeginsOver [] r) (made 
   first_came new _ (occupied some e) rest left = absurd (omega (arith, some, ap length begins.has))
   first_came new _ (starts_play o empty p) rest left = first_in new o p rest left
 
+  first_ended : (new : Standing) (o : PlayEnd) → NewSession (session_begun g seed r.name) r.old new o →
+      FailsAtMoment (λ m. NotYet r.name r.old m ⊎ InNewSession (session_begun g seed r.name) r.old m) r.name new o →
+      r.left ≡ store_bytes new r.name → KeptOf (session_begun g seed r.name) r.old (came_to new o) r.left
+  first_ended new (end.Outside call.Write) comes now left =
+      first_cut new now.moment (subst (MayBeLeft r.name new) (sym left) now.left)
+  first_ended new (end.Outside call.Sync) comes now left =
+      first_cut new now.moment (subst (MayBeLeft r.name new) (sym left) now.left)
+  first_ended new o comes now left =
+      subst (KeptOf (session_begun g seed r.name) r.old (came_to new o)) (sym left) (first_came new o comes tt left)
+
   first_stops : (stop : RoundStop) → StopsWith (λ m. NotYet r.name r.old m ⊎ InNewSession (session_begun g seed r.name) r.old m)
       (NewSession (session_begun g seed r.name) r.old) r.name r.left stop → KeptOf (session_begun g seed r.name) r.old stop r.left
   first_stops (cut_at m) stopped = first_cut m stopped.0 stopped.1
-  first_stops (came_to new o) stopped =
-      subst (KeptOf (session_begun g seed r.name) r.old (came_to new o)) (sym stopped.2) (first_came new o stopped.0 stopped.1 stopped.2)
+  first_stops (came_to new o) stopped = first_ended new o stopped.0 stopped.1 stopped.2
 
 -- ---- a later round ----
 
@@ -184,11 +199,19 @@ module _ (g : Story) (seed : Seed) (es : Lines) (bytes : Bytes) (r : Round) (beg
       more_stand (came_to new o) (store_bytes new r.name)
       (came_keeps (from_lines g seed es stands.digests r.name) r.old (EVENT_LIMIT - length es) new o p rest)
 
+  later_ended : (new : Standing) (o : PlayEnd) → GoesOn (from_lines g seed es stands.digests r.name) r.old new o →
+      FailsAtMoment (λ m. NotYet r.name r.old m ⊎ InPlay (from_lines g seed es stands.digests r.name) r.old m) r.name new o →
+      r.left ≡ store_bytes new r.name → StandsBehind g seed es r.old (came_to new o) r.left
+  later_ended new (end.Outside call.Write) comes now left =
+      later_cut new now.moment (subst (MayBeLeft r.name new) (sym left) now.left)
+  later_ended new (end.Outside call.Sync) comes now left =
+      later_cut new now.moment (subst (MayBeLeft r.name new) (sym left) now.left)
+  later_ended new o comes now left = subst (StandsBehind g seed es r.old (came_to new o)) (sym left) (later_came new o comes tt)
+
   later_stops : (stop : RoundStop) → StopsWith (λ m. NotYet r.name r.old m ⊎ InPlay (from_lines g seed es stands.digests r.name) r.old m)
       (GoesOn (from_lines g seed es stands.digests r.name) r.old) r.name r.left stop → StandsBehind g seed es r.old stop r.left
   later_stops (cut_at m) stopped = later_cut m stopped.0 stopped.1
-  later_stops (came_to new o) stopped =
-      subst (StandsBehind g seed es r.old (came_to new o)) (sym stopped.2) (later_came new o stopped.0 stopped.1)
+  later_stops (came_to new o) stopped = later_ended new o stopped.0 stopped.1 stopped.2
 
 -- ---- all rounds ----
 

@@ -27,7 +27,7 @@ use Rattle.paw_reading.specs.inner.Waits.{AreOpenAt, StandsRightly, StopsRightly
 use Rattle.paw_reading.proofs.Counts.{pieces_of_lines}
 use Rattle.paw_reading.proofs.Rightly.{readings_stop_rightly, readings_are_bounded}
 use Rattle.paw_state.specs.State.{last_piece, state_at}
-use Rattle.paw_state.specs.State.{HoldsBytes}
+use Rattle.paw_state.specs.State.{HoldsBytes, IsValidState, FitsFields}
 use Rattle.paw_state.proofs.Ruled.{valid_of}
 use Rattle.paw_play.specs.Stands.{IsPlayedWith}
 use Rattle.paw_process.proofs.Fitting.{frames_fit, eleven_frames}
@@ -77,6 +77,36 @@ world_sound g v w k = record {
 
 -- ---- readings ----
 
+-- Where a run stands as it may, within the bounds of a state, its state follows the rules.
+pub state_follows : (g : GameLists) → Valid g → (n : ℕ) → n ≤ EVENT_LIMIT → (p : Prompt) (path : List Frame) (r : Run) → StandsRightly g p path r →
+    r.world.seed < 2 ^ 64 → r.world.draws ≤ READ_LIMIT * (n + 1) → length (last_piece r.pieces) ≤ PIECE_LIMIT →
+    IsValidState g (state_at n p path r) × FitsFields (state_at n p path r)
+state_follows g v n few p path r k seeded drew short = (
+  valid_of g (state_at n p path r) (record {
+    world = k.world.of;
+    sound = world_sound g v r.world k.world;
+    places = (k.world.places, (saved_stands g r.world.saved k.world.saved, λ i d low. saved_stands g _ (k.world.kept i d low)));
+    events = few;
+    draws = drew;
+    rows = eleven_frames g (waiting_code p) path r.turning k.frames;
+    frames = frames_fit g (waiting_code p) path r.turning k.frames;
+    line = k.pending.short;
+    pending = closed_line g p path r k;
+  }),
+  record {
+    flags = k.world.flags;
+    places = places_are_bytes g v r.world.places k.world.places;
+    saved = saved_fits g v r.world.saved k.world.saved;
+    kept = λ i d low. saved_fits g v _ (k.world.kept i d low);
+    seed = seeded;
+    draws = omega (arith, drew, few);
+    events = omega (arith, few);
+    earlier = k.earlier;
+    line = k.pending.bytes;
+    piece = omega (arith, short);
+  },
+)
+
 module _ (g : GameLists) (v : Valid g) (seed : Seed) (n : ℕ) (fits : seed < 2 ^ 64) (few : n ≤ EVENT_LIMIT) where
   -- One piece was closed for each line, and one before them.
   drawn : (r : Run) → IsBounded seed 0 r → length r.pieces + length r.events ≡ suc n → r.world.draws ≤ READ_LIMIT * (n + 1)
@@ -84,34 +114,10 @@ module _ (g : GameLists) (v : Valid g) (seed : Seed) (n : ℕ) (fits : seed < 2 
 
   settles : (p : Prompt) (path : List Frame) (r : Run) → StandsRightly g p path r → IsBounded seed 0 r → length r.pieces + length r.events ≡ suc n →
       Settles g n p path r
-  settles p path r k bound count = record {
-    valid = valid_of g (state_at n p path r) (record {
-      world = k.world.of;
-      sound = world_sound g v r.world k.world;
-      places = (k.world.places, (saved_stands g r.world.saved k.world.saved, λ i d low. saved_stands g _ (k.world.kept i d low)));
-      events = few;
-      draws = drawn r bound count;
-      rows = eleven_frames g (waiting_code p) path r.turning k.frames;
-      frames = frames_fit g (waiting_code p) path r.turning k.frames;
-      line = k.pending.short;
-      pending = closed_line g p path r k;
-    });
-    fits = record {
-      flags = k.world.flags;
-      places = places_are_bytes g v r.world.places k.world.places;
-      saved = saved_fits g v r.world.saved k.world.saved;
-      kept = λ i d low. saved_fits g v _ (k.world.kept i d low);
-      seed = subst (λ s. s < 2 ^ 64) (sym bound.seeded) fits;
-      draws = omega (arith, drawn r bound count, few);
-      events = omega (arith, few);
-      earlier = k.earlier;
-      line = k.pending.bytes;
-      piece = omega (arith, last_short r.pieces bound.pieces);
-    };
-    current = k.piece;
-    read = k.read;
-    traced = bound.traced;
-  }
+  settles p path r k bound count =
+      let state = state_follows g v n few p path r k (subst (λ s. s < 2 ^ 64) (sym bound.seeded) fits) (drawn r bound count)
+      (last_short r.pieces bound.pieces) in
+      record { valid = state.0; fits = state.1; current = k.piece; read = k.read; traced = bound.traced }
 
   ending_settles : (e : Ending) → StopsRightly g e → StopsBounded seed 0 e → Counted n e → IsSettled g n e
   ending_settles (WaitsAt p path r) at bound count = settles p path r at.1 bound count.1

@@ -12,19 +12,17 @@ use Rattle.paw_effects.specs.Story.{Story}
 use Rattle.paw_effects.specs.inner.Worlds.{StandsIn}
 use Rattle.paw_effects.specs.inner.Standing.{MayBePosition, IsWorldOf}
 use Rattle.paw_reading.specs.Turn.{text_of}
-use Rattle.paw_process.specs.inner.OpenTables.{OpenTables, only_counting}
-use Rattle.paw_routines.specs.declared.routines.Routines.{Routines}
-use Rattle.paw_stage.specs.Stage.{Standing}
+use Rattle.paw_process.specs.inner.OpenTables.{OpenTables}
 use Rattle.paw_process.specs.Kept.{waiting_code}
 use Rattle.paw_process.specs.inner.Kept.{machine_kept}
 use Rattle.paw_process.specs.inner.Kept.{machine_restored, waiting_at, WaitsAtPrompt}
 use Rattle.paw_process.proofs.Restored.{stands_at}
 use Rattle.paw_process.proofs.Again.{restored_kept}
-use Rattle.paw_turn.specs.inner.Parts.{Fits, IsPending, prompt_step, seat_at}
-use Rattle.paw_turn.specs.inner.Player.{PlayerView, StandsClosed, IsSeated}
+use Rattle.paw_turn.specs.inner.Parts.{Fits, IsPending, prompt_step}
+use Rattle.paw_turn.specs.inner.Player.{StandsClosed}
 use Rattle.paw_turn.proofs.Seating.{restored_fits}
-use Rattle.paw_journal.specs.Session.{Digests, Shown, recover, kept_digests, piece_length, state_length}
-use Rattle.paw_journal.proofs.ShownPieces.{shown_long, buffer_long}
+use Rattle.paw_journal.specs.Session.{Digests, Shown, recover, state_length}
+use Rattle.paw_journal.proofs.ShownPieces.{shown_long}
 use Rattle.paw_state.specs.State.{State, IsValidState, FitsFields, HoldsBytes}
 use Rattle.paw_state.specs.inner.State.{state_of}
 use Rattle.paw_state.specs.State.{state_bytes}
@@ -35,11 +33,10 @@ use Rattle.paw_state.proofs.Ruled.{each_of}
 use Rattle.paw_state.proofs.Lawful.{bytes_give_the_state, long_state}
 use Rattle.paw_play.specs.Session.{kept_bytes, IsKept}
 use Rattle.paw_play.specs.Played.{ShowsState, going_on, from_state}
-use Rattle.paw_play.specs.inner.OnTheWay.{IsRestingStore}
-use Rattle.paw_play.proofs.Resuming.{goes_on_from, kept_at, text_at, seat_game, read_session, MadeOfRead}
+use Rattle.paw_play.proofs.Resuming.{goes_on_from, kept_at, text_at}
 
 -- A buffer begins with the bytes of a state.
-shows_kept : (digests : Digests) (bytes buffer piece : Bytes) (st : State) →
+pub shows_kept : (digests : Digests) (bytes buffer piece : Bytes) (st : State) →
     recover bytes ≡ Shown digests (take state_length buffer) piece → take state_length buffer ≡ state_bytes st →
     recover bytes ≡ Shown digests (kept_bytes st) piece
 unfolding kept_bytes
@@ -100,35 +97,6 @@ read_fits g bytes r is =
     restored_fits g r.prompt (machine_kept r.machine) r.world r.machine r.pending (world_of g (state_read r) is.valid is.fits)
     (pending_of g (state_read r) r.machine is.valid is.fits is.stands)
     is.valid.rows is.machine is.stands (each_of g (state_read r) is.valid).frames
-
--- ---- a player that was made of what was read ----
-
-pub resumed : {F : Type 0} (g : Story) (name buffer state piece : Bytes) (r : Restored) (first : Standing) (routines : Routines F) (seat : PlayerView F) →
-    recover first.disk.bytes ≡ Shown (kept_digests first.disk.bytes) (take state_length state) piece → buffer ≡ state → IsRead g.game buffer r →
-    piece_length buffer ≡ r.piece →
-    seat ≡ seat_at g.game routines r.world (only_counting r.machine) r.pending r.prompt → IsSeated seat → IsRestingStore name first →
-    MadeOfRead g name piece r first routines seat
-resumed g name buffer state piece r first routines seat shown same read long is seated store =
-    let bytes : Bytes = first.disk.bytes in
-    let digests : Digests = kept_digests first.disk.bytes in
-    let there : recover bytes ≡ Shown digests (take state_length buffer) piece =
-    subst (λ x. recover bytes ≡ Shown digests (take state_length x) piece) (sym same) shown in
-    record {
-      long = buffer_long bytes digests buffer piece r.piece there long read.fits.piece;
-      is = is;
-      stands = (read_fits g.game buffer r read).machine;
-      seated = seated;
-      store = store;
-      state = record { valid = read.valid; fits = read.fits; shown = shows_kept digests bytes buffer piece (state_read r) there read.are };
-    }
-
--- The store shows no other state and piece.
-pub one_session : {F : Type 0} (g : Story) (name piece : Bytes) (r : Restored) (first : Standing) (routines : Routines F) (seat : PlayerView F)
-    (digests : Digests) (st : State) (other : Text) → MadeOfRead g name piece r first routines seat →
-    ShowsState g.game digests first.disk.bytes st other → read_session g name piece r first ≡ from_state g st other digests name
-one_session g name piece r first routines seat digests st other u shows =
-    let valid : Valid g.game = subst Valid (seat_game g.game routines r.world (only_counting r.machine) r.pending r.prompt seat u.is) u.seated.valid in
-    one_state g (kept_digests first.disk.bytes) digests first.disk.bytes name (state_read r) st piece other valid u.state shows
 
 -- ---- a state that bytes show ----
 

@@ -1,9 +1,9 @@
 -- How a walk shows pieces: each as it is, or after the text of its steps.
-use Rattle.std.proofs.Common.{◌≡◌, ℕ, zero, suc, List, [], ◌∷◌, ◌++◌, None, refl, sym, ap, ◌∙◌}
+use Rattle.std.proofs.Common.{◌≡◌, ℕ, zero, suc, List, [], ◌∷◌, ◌++◌, Option, Some, None, refl, sym, ap, ◌∙◌}
 use Rattle.std.proofs.Common.{length, take, arith, append_assoc, length-append}
 use Rattle.std.proofs.lemmas.List.Folds.{concat-append}
 use Rattle.std.proofs.lemmas.List.{append-nil}
-use Rattle.std.specs.Prelude.{◌-◌, flat_map}
+use Rattle.std.specs.Prelude.{◌-◌, flat_map, IfNone}
 use Rattle.std.specs.List.{concat}
 use Rattle.paw_base.specs.Bytes.{Text, Texts}
 use Rattle.paw_base.specs.declared.limits.TheConstants.{STEP_LIMIT}
@@ -18,8 +18,9 @@ use Rattle.paw_reading.specs.Turn.{WaitsAt, Halted}
 use Rattle.paw_turn.specs.inner.Player.{PlayerView, run_at}
 use Rattle.paw_turn.specs.declared.Step.{Step}
 use Rattle.paw_turn.specs.declared.Step.TheVariants as step
+use Rattle.paw_play.specs.declared.PlayEnd.{PlayEnd}
 use Rattle.paw_play.specs.Traces.{step_line, more_line, steps_text, traced_pieces}
-use Rattle.paw_play.specs.inner.ShowSteps.{ShowSteps, Plain, Stepped, kept_text, seat_text, HaveSteps, KeepsShown}
+use Rattle.paw_play.specs.inner.ShowSteps.{ShowSteps, Plain, Stepped, kept_text, seat_text, HaveSteps, NotesShown}
 use Rattle.paw_play.specs.inner.ShowSteps.{shown_pieces, shown_run, shown_ending}
 use Rattle.paw_turn.specs.inner.Player.{IsStanding}
 use Rattle.paw_play.specs.inner.OnTheWay.{end_if_no_piece}
@@ -50,7 +51,7 @@ traced_more (p ∷ pieces) (t ∷ traces) piece steps each =
 
 -- One piece more of a player.
 pub pieces_more : {F : Type 0} (showing : ShowSteps) (next : PlayerView F) (pieces : Texts) (traces : List (List StepRow)) (steps : List StepRow) →
-    HaveSteps showing pieces traces → KeepsShown showing next.machine.steps.most → next.machine.steps ≡ kept_steps next.machine.steps.most steps →
+    HaveSteps showing pieces traces → NotesShown showing next.machine.steps.most → next.machine.steps ≡ kept_steps next.machine.steps.most steps →
     concat (shown_pieces showing (pieces ++ next.piece ∷ []) (traces ++ steps ∷ [])) ≡ concat (shown_pieces showing pieces traces) ++ seat_text showing next
 pieces_more Plain next pieces traces steps each keeps kept = joined_more pieces next.piece
 pieces_more Stepped next pieces traces steps each keeps kept =
@@ -96,7 +97,7 @@ text_shown_is Stepped r pieces traces e f = ap (λ ps. concat (traced_pieces ps 
 
 -- The text of a player's last piece comes last.
 pub shown_more : {F : Type 0} (showing : ShowSteps) (next : PlayerView F) (pieces : Texts) (traces : List (List StepRow)) (steps : List StepRow) →
-    HaveSteps showing pieces traces → KeepsShown showing next.machine.steps.most → next.machine.steps ≡ kept_steps next.machine.steps.most steps →
+    HaveSteps showing pieces traces → NotesShown showing next.machine.steps.most → next.machine.steps ≡ kept_steps next.machine.steps.most steps →
     concat (shown_run showing (run_at next (pieces ++ next.piece ∷ []) (traces ++ steps ∷ []) [])).pieces
     ≡ concat (shown_pieces showing pieces traces) ++ seat_text showing next
 shown_more showing next pieces traces steps each keeps kept =
@@ -109,6 +110,11 @@ shows_piece (step.Waits p) h = tt
 shows_piece step.Ended h = tt
 shows_piece (step.Spent kind) h = cc
 shows_piece (step.TooDeep table) h = cc
+
+-- What holds of a player that stands holds where playing goes on.
+pub may_if_none : {P : Type 0} (found : Step) (o : Option PlayEnd) → o ≡ end_if_no_piece found → (IsStanding found → P) → IfNone o P
+may_if_none found None e f = f (shows_piece found e)
+may_if_none found (Some o) e f = tt
 
 -- ---- one text after another ----
 

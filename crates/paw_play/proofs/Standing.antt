@@ -20,7 +20,7 @@ use Rattle.paw_reading.proofs.Ends.{going_on_ends}
 use Rattle.paw_state.specs.State.{State}
 use Rattle.paw_state.specs.State.{state_bytes}
 use Rattle.paw_state.specs.Fit.{Fit}
-use Rattle.paw_journal.specs.Session.{Digests, Shown, recover, state_length}
+use Rattle.paw_journal.specs.Session.{Digests, Shown, recover, kept_digests, state_length}
 use Rattle.paw_journal.specs.declared.refusal.JournalRefusal.{JournalRefusal}
 use Rattle.paw_journal.specs.declared.refusal.JournalRefusal.TheVariants as refusal
 use Rattle.paw_play.specs.declared.PlayEnd.{PlayEnd}
@@ -31,6 +31,12 @@ use Rattle.paw_play.specs.Stands.{Stands, IsPlayedWith, ending_since, reading_si
 use Rattle.paw_play.specs.Played.{PlayedSession, ShowsState, GoesOnFrom, from_shown, from_played, session_begun, from_lines}
 use Rattle.paw_play.specs.Played.{from_state, going_on, resumed_run}
 use Rattle.paw_play.specs.Keeping.{KeptBy}
+use Rattle.paw_play.specs.inner.Open.{KeepsAfter, IsOpen, ResumesTo}
+use Rattle.paw_play.specs.inner.Calls.{call_of_end}
+use Rattle.paw_play.specs.declared.open.OpenSession.{OpenSession}
+use Rattle.paw_play.specs.declared.PlayEnd.TheVariants as end
+use Rattle.paw_turn.specs.inner.Player.{PlayerView}
+use Rattle.std.specs.Prelude.{None, Ok, Err}
 use Rattle.paw_play.specs.Play.{PlaysOn, Refuses, Resumed, no_state, plays_on, PlaysAgain, refused, without_memory, resumes_play}
 use Rattle.paw_play.specs.Play.{GoesOn, memory, unattached, unread, plays, attached_to, store_bytes}
 use Rattle.paw_play.specs.Laws.{StandingShows, StandingGoesOn, KeptLinesStand, GoingOnIsTheReading}
@@ -99,33 +105,40 @@ going_on_is_the_reading g seed es fs p path r played few is =
 count_lines : (n : ℕ) (lines : Lines) → n ≤ length lines → length (first_lines n lines) ≡ n
 count_lines n lines there = length-map (take n lines) (take LINE_LIMIT) ∙ length-take-le n lines there
 
--- Those that it took.
+-- Those that a session took, which is begun.
+pub begun_keeps : (g : Story) (seed : Seed) (taken : Lines) (name : Name) (n : ℕ) (bytes : Bytes) → n ≡ length taken → n ≤ EVENT_LIMIT →
+    KeepsAfter (session_begun g seed name) n taken (recover bytes) → Stands g seed taken bytes
+begun_keeps g seed taken name n bytes count few kept = record {
+  few = omega (arith, count, few);
+  digests = story_digests g;
+  belongs = record { of_game = refl; of_routines = inr refl };
+  keeps = subst (λ k. IsKept (story_digests g) k (reading g seed taken) (recover bytes)) (omega (arith, count)) kept;
+}
+
 pub begun_stands : (g : Story) (seed : Seed) (lines : Lines) (name : Name) (n : ℕ) (bytes : Bytes) → n ≤ length lines → n ≤ EVENT_LIMIT →
     KeptBy (session_begun g seed name) lines n bytes → Stands g seed (first_lines n lines) bytes
 begun_stands g seed lines name n bytes there few kept =
-    let count : length (first_lines n lines) ≡ n = count_lines n lines there in
-    let all : 0 + n ≡ length (first_lines n lines) = omega (arith, count) in
-    record {
-      few = omega (arith, count, few);
-      digests = story_digests g;
-      belongs = record { of_game = refl; of_routines = inr refl };
-      keeps = subst (λ k. IsKept (story_digests g) k (reading g seed (first_lines n lines)) (recover bytes)) all kept;
-    }
+    begun_keeps g seed (first_lines n lines) name n bytes (sym (count_lines n lines there)) few kept
 
--- Bytes that keep lines of a session stand for those that it went on after, and for these.
-pub later_stands : (g : Story) (seed : Seed) (es lines : Lines) (digests : Digests) (name : Name) (n : ℕ) (bytes : Bytes) → IsOfStory g digests →
-    n ≤ length lines → length es + n ≤ EVENT_LIMIT → KeptBy (from_lines g seed es digests name) lines n bytes → Stands g seed (es ++ first_lines n lines) bytes
-later_stands g seed es lines digests name n bytes belongs there few kept =
-    let fs : Lines = first_lines n lines in
-    let all : length (es ++ fs) ≡ length es + n = omega (arith, length-append es fs, count_lines n lines there) in
+-- Those that it went on after, and these.
+pub later_keeps : (g : Story) (seed : Seed) (es taken : Lines) (digests : Digests) (name : Name) (n : ℕ) (bytes : Bytes) → IsOfStory g digests →
+    n ≡ length taken → length es + n ≤ EVENT_LIMIT → KeepsAfter (from_lines g seed es digests name) n taken (recover bytes) →
+    Stands g seed (es ++ taken) bytes
+later_keeps g seed es taken digests name n bytes belongs count few kept =
+    let all : length (es ++ taken) ≡ length es + n = omega (arith, length-append es taken, count) in
     record {
       few = omega (arith, all, few);
       digests = digests;
       belongs = belongs;
-      keeps = whole_kept digests (length es) (length (es ++ fs)) (length (es ++ fs)) (reading g seed (es ++ fs)) (recover bytes)
-          (pieces_of_lines g seed (es ++ fs)) (omega (arith, all))
-          (subst (λ m. IsKept digests m (reading_since g seed es fs) (recover bytes)) (sym all) kept);
+      keeps = whole_kept digests (length es) (length (es ++ taken)) (length (es ++ taken)) (reading g seed (es ++ taken)) (recover bytes)
+          (pieces_of_lines g seed (es ++ taken)) (omega (arith, all))
+          (subst (λ m. IsKept digests m (reading_since g seed es taken) (recover bytes)) (sym all) kept);
     }
+
+pub later_stands : (g : Story) (seed : Seed) (es lines : Lines) (digests : Digests) (name : Name) (n : ℕ) (bytes : Bytes) → IsOfStory g digests →
+    n ≤ length lines → length es + n ≤ EVENT_LIMIT → KeptBy (from_lines g seed es digests name) lines n bytes → Stands g seed (es ++ first_lines n lines) bytes
+later_stands g seed es lines digests name n bytes belongs there few kept =
+    later_keeps g seed es (first_lines n lines) digests name n bytes belongs (sym (count_lines n lines there)) few kept
 
 pub kept_lines_stand : KeptLinesStand
 kept_lines_stand = record { first = begun_stands; later = later_stands }
@@ -197,6 +210,31 @@ is_fit g d e bytes buffer piece q st shows is =
       fits = shows.fits;
       are = same_state e d (take state_length buffer) piece (state_bytes st) q (sym is ∙ shows.shown);
     }
+
+-- A session that goes on from these bytes.
+module _ {F : Type 0} (g : Story) (name : Name) (bytes : Bytes) (s : PlayedSession) (valid : Valid g.game) (from : GoesOnFrom g name bytes s)
+    (seat : PlayerView F) (piece : Text) where
+  -- Resuming it opens it.
+  pub same_again : (o : OpenSession) (r : ResumesTo g bytes seat piece (Ok o)) → from_state g r.1 piece (kept_digests bytes) name ≡ s
+  same_again o r =
+      let k = is_shown g name bytes s from in
+      one_state g (kept_digests bytes) k.digests bytes name r.1 k.state piece k.piece valid r.2 k.shows ∙ k.same
+
+  pub open_from : (o : OpenSession) → ResumesTo g bytes seat piece (Ok o) → IsOpen g s 0 [] seat [] piece bytes × (o.events ≡ s.before)
+  open_from o r =
+      let same = same_again o r in
+      (subst (λ q. IsOpen g q 0 [] seat [] piece bytes) same (r.4 name), r.3 ∙ ap (λ (q : PlayedSession). q.before) same)
+
+  -- It isn't refused.
+  pub refuses_none : (o : PlayEnd) → ResumesTo g bytes seat piece (Err o) → call_of_end o ≡ None → ⊥
+  refuses_none (end.Refused r) h e =
+      let k = is_shown g name bytes s from in
+      never_refused g k.digests bytes (kept_bytes k.state) k.piece r k.belongs k.shows.shown h
+  refuses_none (end.State at) h e =
+      let k = is_shown g name bytes s from in
+      h.4 (is_fit g.game k.digests (kept_digests bytes) bytes h.1 h.2 k.piece k.state k.shows h.3)
+  refuses_none (end.Outside c) h e = cc
+  refuses_none _ h e = h
 
 module _ (g : Story) (name : Name) (old new : Standing) (valid : Valid g.game) (d : Digests) (of : IsOfStory g d) (st : State) (piece : Text)
     (shows : ShowsState g.game d (store_bytes old name) st piece) where

@@ -6,12 +6,17 @@ use Rattle.paw_world.specs.World.{World}
 use Rattle.paw_phrase.specs.Pending.{PendingLine}
 use Rattle.paw_effects.specs.declared.act.Prompt.{Prompt}
 use Rattle.paw_process.specs.inner.OpenTables.{OpenTables}
+use Rattle.paw_journal.specs.Session.{Digests, Shown}
 use Rattle.paw_state.specs.inner.State.{state_of}
 use Rattle.paw_play.specs.Session.{kept_bytes}
 
 -- The first bytes of a buffer.
 pub cut : (bytes rest into : Bytes) (n : ℕ) → into ≡ bytes ++ rest → length bytes ≡ n → take n into ≡ bytes
 cut bytes rest into n e l = ap (take n) e ∙ ap (λ k. take k (bytes ++ rest)) (sym l) ∙ take-append_seam bytes rest
+
+-- What a session shows, by its parts.
+pub shown_as : (digests : Digests) {state kept piece text : Bytes} → state ≡ kept → piece ≡ text → Shown digests state piece ≡ Shown digests kept text
+shown_as digests e f = cc
 
 -- States of the same parts.
 pub same_parts : (v w : World) (m k : OpenTables) (p q : PendingLine) (a b : Prompt) (events n l : ℕ) → v ≡ w → m ≡ k → p ≡ q → a ≡ b → n ≡ l →

@@ -26,7 +26,7 @@ use Rattle.paw_play.specs.declared.PlayEnd.{PlayEnd}
 use Rattle.paw_play.specs.declared.PlayEnd.TheVariants as end
 use Rattle.paw_stage.specs.declared.StageCall.TheVariants as call
 use Rattle.paw_play.specs.Walk.{EndingOf, first_lines, with_lines_taken, text_before, PartShown, WalkWaits, WalkHalts}
-use Rattle.paw_play.specs.inner.ShowSteps.{ShowSteps, seat_text, shown_pieces, HaveSteps, KeepsShown, shown_run, shown_ending}
+use Rattle.paw_play.specs.inner.ShowSteps.{ShowSteps, seat_text, shown_pieces, HaveSteps, NotesShown, shown_run, shown_ending}
 use Rattle.paw_play.specs.inner.ShowSteps.{with_shown_steps}
 use Rattle.paw_turn.specs.inner.Player.{IsStanding}
 use Rattle.paw_play.specs.inner.OnTheWay.{IsWalking, ShowsStep, WalksTo}
@@ -146,7 +146,7 @@ text_so_far showing g whole n first now seat w seated =
 
 -- The text of a step that brings a piece.
 pub text_shown : {F : Type 0} (showing : ShowSteps) (g : Story) (whole : EndingOf) (s : Step) (next : PlayerView F)
-    (pieces : Texts) (traces : List (List StepRow)) → HaveSteps showing pieces traces → KeepsShown showing next.machine.steps.most → IsStanding s → StandsClosed s next.machine →
+    (pieces : Texts) (traces : List (List StepRow)) → HaveSteps showing pieces traces → NotesShown showing next.machine.steps.most → IsStanding s → StandsClosed s next.machine →
     PlaysTo g whole s next pieces traces →
     text_of (with_shown_steps showing whole []) ≡ concat (shown_pieces showing pieces traces) ++ seat_text showing next
 text_shown showing g whole (step.Waits p) next pieces traces each keeps h m plays =
@@ -168,7 +168,7 @@ shown_nothing mid = ap (λ t. record mid { shown = t }) (sym (append-nil mid.sho
 -- How a step ends after n lines, where `after` is the reading of those that are left then.
 module _ {F : Type 0} (showing : ShowSteps) (g : Story) (whole after : EndingOf) (n : ℕ) (first mid new : Standing) (next : PlayerView F) (s : Step)
     (pieces : Texts) (traces : List (List StepRow)) (each : HaveSteps showing pieces traces)
-    (keeps : KeepsShown showing next.machine.steps.most)
+    (keeps : NotesShown showing next.machine.steps.most)
     (last : next.last ≡ s) (seated : IsSeated next) (there : n ≤ length first.lines)
     (whole_after : (more : Lines) → whole (first_lines n first.lines ++ more) ≡ after more)
     (earlier : text_before (with_shown_steps showing whole) first.lines n ≡ concat (shown_pieces showing pieces traces))
@@ -277,7 +277,7 @@ module _ {F : Type 0} (showing : ShowSteps) (g : Story) (whole : EndingOf) (n : 
 
 pub walks_on : {F : Type 0} (showing : ShowSteps) (g : Story) (whole : EndingOf) (most n : ℕ) (first now mid new : Standing)
     (seat next : PlayerView F) (given line : Bytes) (s : Step) (o : Option PlayEnd)
-    (w : IsWalking showing g whole first now seat n) → n < most → KeepsShown showing next.machine.steps.most → IsSeated seat → IsSeated next → next.last ≡ s →
+    (w : IsWalking showing g whole first now seat n) → n < most → NotesShown showing next.machine.steps.most → IsSeated seat → IsSeated next → next.last ≡ s →
     now.lines ≡ line ∷ mid.lines → given ≡ take LINE_LIMIT line
     → mid ≡ record now { lines = mid.lines; asked = now.asked + 1 } →
     PlaysTo g (λ more. going_on_from g w.prompt (reverse seat.machine.frames) (run_at seat w.pieces w.traces (given ∷ more))) s next w.pieces w.traces →
@@ -323,7 +323,7 @@ first_stands old new part e = let a : old.asked + 0 ≡ old.asked = omega arith 
 
 -- After piece 0 the walk is at the first prompt, or has ended this way.
 pub walk_begins : {F : Type 0} (showing : ShowSteps) (g : Story) (whole : EndingOf) (most : ℕ) (old new : Standing) (seat : PlayerView F) (s : Step)
-    (o : Option PlayEnd) → KeepsShown showing seat.machine.steps.most → IsSeated seat → seat.last ≡ s →
+    (o : Option PlayEnd) → NotesShown showing seat.machine.steps.most → IsSeated seat → seat.last ≡ s →
     PlaysTo g whole s seat [] [] → ShowsStep old new (seat_text showing seat) s o → WalksTo showing g whole most old new seat 0 o
 walk_begins showing g whole most old new seat s o keeps seated last plays told =
     comes_to showing g whole whole 0 old old new seat s [] [] (steps_none showing) keeps last seated (omega arith) (λ more. refl) (sym (shown_none showing))
@@ -332,7 +332,7 @@ walk_begins showing g whole most old new seat s o keeps seated last plays told =
 
 -- A player that was new has played piece 0.
 pub walk_starts : {F : Type 0} (showing : ShowSteps) (g : Story) (seed : Seed) (most : ℕ) (old new : Standing) (fresh seat : PlayerView F) (s : Step)
-    (o : Option PlayEnd) → IsNew fresh seed → KeepsShown showing seat.machine.steps.most → IsSeated seat → seat.last ≡ s →
+    (o : Option PlayEnd) → IsNew fresh seed → NotesShown showing seat.machine.steps.most → IsSeated seat → seat.last ≡ s →
     PlaysTo g (reading g fresh.world.seed) s seat [] [] → ShowsStep old new (seat_text showing seat) s o →
     WalksTo showing g (reading g seed) most old new seat 0 o
 walk_starts showing g seed most old new fresh seat s o is keeps seated last plays told =

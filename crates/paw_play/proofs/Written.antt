@@ -19,17 +19,17 @@ shown_piece_is : (d : Digests) (a p b q : Bytes) → Shown d a p ≡ Shown d b q
 shown_piece_is d a p b q e = cc
 
 -- A session that keeps a reading has the state and the piece of it.
-base_is : (digests : Digests) (events : ℕ) (e : Ending) (state piece : Bytes) → IsKept digests events e (Shown digests state piece) →
+pub base_is : (digests : Digests) (events : ℕ) (e : Ending) (state piece : Bytes) → IsKept digests events e (Shown digests state piece) →
     state ++ zeros (base_length - state_length) ≡ base_after events e
 base_is digests events e state piece k =
     ap (λ x. x ++ zeros (base_length - state_length))
     (shown_state_is digests state piece (state_after events e) (last_piece (pieces_of e)) k.shown)
 
-piece_is : (digests : Digests) (events : ℕ) (e : Ending) (state piece : Bytes) → IsKept digests events e (Shown digests state piece) →
+pub piece_is : (digests : Digests) (events : ℕ) (e : Ending) (state piece : Bytes) → IsKept digests events e (Shown digests state piece) →
     piece ≡ last_piece (pieces_of e)
 piece_is digests events e state piece k = shown_piece_is digests state piece (state_after events e) (last_piece (pieces_of e)) k.shown
 
-committed_same : (state base piece last old bytes : Bytes) → state ≡ base → piece ≡ last → old ≡ bytes →
+pub committed_same : (state base piece last old bytes : Bytes) → state ≡ base → piece ≡ last → old ≡ bytes →
     session_committed state piece old ≡ session_committed base last bytes
 committed_same state base piece last old bytes e f g =
     ap (λ x. session_committed x piece old) e ∙ ap (λ x. session_committed base x old) f ∙ ap (λ x. session_committed base last x) g

@@ -78,8 +78,7 @@ GoingOnIsTheReading =
 
 -- ---- rounds ----
 
--- How a round of play stops: it is cut off at a moment, by a crash or right after a call that failed; or it ends this
--- way, and then this stands.
+-- How a round of play stops: it is cut off at a moment, by a crash; or it ends this way, and then this stands.
 pub data RoundStop : Type 0 where
   cut_at : Standing → RoundStop
   came_to : Standing → PlayEnd → RoundStop
@@ -104,17 +103,23 @@ pub record BeginsOver (bytes : Bytes) (r : Round) : Type 0 where
   pub settled : (image : Bytes) → MayBeLeft r.name r.old image → image ≡ bytes
   pub lines : All AreBytes r.old.lines
 
--- Play ended with the store at rest: no write and no sync of it failed.
-abbrev pub AtRest : PlayEnd → Type 0
-AtRest (end.Outside call.Write) = ⊥
-AtRest (end.Outside call.Sync) = ⊥
-AtRest o = Unit {0}
+-- What stands is one of these moments, and a crash then may leave of the file of this name what it has.
+pub record StandsAtMoment (Inside : Standing → Type 0) (name : Name) (now : Standing) : Type 0 where
+  pub moment : Inside now
+  pub left : MayBeLeft name now (store_bytes now name)
+
+-- What stands where a write or a sync of the store failed: it is one of these moments. Otherwise the store is at rest.
+abbrev pub FailsAtMoment : (Standing → Type 0) → Name → Standing → PlayEnd → Type 0
+FailsAtMoment Inside name new (end.Outside call.Write) = StandsAtMoment Inside name new
+FailsAtMoment Inside name new (end.Outside call.Sync) = StandsAtMoment Inside name new
+FailsAtMoment Inside name new o = Unit {0}
 
 -- A round stops: it is cut off at one of these moments, where a crash may leave these bytes of the file; or it ends in
--- one of these ways, with the store at rest and these bytes in the file.
+-- one of these ways, with these bytes in the file. Where a write or a sync failed, what stands is one of these moments.
 abbrev pub StopsWith : (Standing → Type 0) → (Standing → PlayEnd → Type 0) → Name → Bytes → RoundStop → Type 0
 StopsWith Inside Comes name left (cut_at m) = Inside m × MayBeLeft name m left
-StopsWith Inside Comes name left (came_to new o) = Comes new o × AtRest o × (left ≡ store_bytes new name)
+StopsWith Inside Comes name left (came_to new o) =
+    Comes new o × FailsAtMoment Inside name new o × (left ≡ store_bytes new name)
 
 -- A round is played with these moments once its store is attached, and with one of these ends.
 abbrev pub PlaysUntil : (Standing → Type 0) → (Standing → PlayEnd → Type 0) → Round → Type 0
@@ -150,10 +155,16 @@ left_after bytes (r ∷ rounds) = left_after r.left rounds
 abbrev pub lines_lost : PlayEnd → ℕ
 lines_lost o = option_map_or (λ halt. if closes_piece halt then 0 else 1) (end_halt o) 0
 
--- This number of lines of a round is kept: where it was cut off, all that were taken by then, or all but the last;
--- where it ended, all that were taken but those lost by that end.
+-- This number is that of all lines that were taken by then, or of all but the last.
+abbrev pub AllOrAllButLast : Standing → Standing → ℕ → Type 0
+AllOrAllButLast old m n = (m.asked ≡ old.asked + n) ⊎ (m.asked ≡ old.asked + suc n)
+
+-- This number of lines of a round is kept: where it was cut off, or a write or a sync failed, all that were taken by
+-- then, or all but the last; where it ended otherwise, all that were taken but those lost by that end.
 abbrev pub AreKept : Standing → RoundStop → ℕ → Type 0
-AreKept old (cut_at m) n = (m.asked ≡ old.asked + n) ⊎ (m.asked ≡ old.asked + suc n)
+AreKept old (cut_at m) n = AllOrAllButLast old m n
+AreKept old (came_to new (end.Outside call.Write)) n = AllOrAllButLast old new n
+AreKept old (came_to new (end.Outside call.Sync)) n = AllOrAllButLast old new n
 AreKept old (came_to new o) n = new.asked ≡ old.asked + n + lines_lost o
 
 -- The lines that are kept of these rounds, one round after the other.

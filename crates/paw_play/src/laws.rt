@@ -26,9 +26,10 @@ pub fn going_on_is_the_reading()
 {}
 
 /// A session may be played in any number of rounds, from the first command on, each over what the one before left. Each
-/// is cut off by a crash at any moment or by a call that failed, or ends by itself. After them the store stands for the
-/// lines that are kept of each, one round after the other. A round that ended by itself keeps all lines that it took,
-/// except a last one whose piece ran out or called too deep; one that was cut off keeps all, or all but the last.
+/// is cut off by a crash at any moment, is ended by a call that failed, or ends by itself. After them the store stands for
+/// the lines that are kept of each, one round after the other. A round that was cut off, or that a failed write or sync
+/// ended, keeps all lines that it took, or all but the last. Any other keeps all, except a last one whose piece ran out or
+/// called too deep.
 pub fn rounds_stand()
     ensures rounds { RoundsStand }
 {}

@@ -8,6 +8,7 @@ ghost use Rattle.paw_play.specs.inner.OnTheWay.{end_of_halt};
 pub mod laws;
 pub mod line;
 pub mod numbers;
+pub mod open;
 pub mod play;
 pub mod preface;
 pub mod resume;

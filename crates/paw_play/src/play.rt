@@ -1,108 +1,86 @@
 // Playing a new session.
 
-ghost use Rattle.std.specs.Prelude.{◌≡◌, ◌+◌, ◌-◌, ◌*◌, ◌≤◌, [], length, IfOk, IfErr};
+ghost use Rattle.std.specs.Prelude.{◌≡◌, ◌⊎◌, ◌-◌, [], length, IfOk};
 ghost use Rattle.sha2.specs.Sha256.{sha256};
 ghost use Rattle.paw_base.specs.Bytes.{Name};
-ghost use Rattle.paw_base.specs.declared.limits.TheConstants.{EVENT_LIMIT, READ_LIMIT};
+ghost use Rattle.paw_base.specs.declared.limits.TheConstants.{EVENT_LIMIT};
 ghost use Rattle.paw_game.specs.Image.{image};
 ghost use Rattle.paw_stage.specs.Disk.{IsStable};
+ghost use Rattle.paw_stage.specs.Stage.{Standing};
 ghost use Rattle.paw_stage.specs.AcrossCalls.{IfTelling, EachMoment, InTwoParts, FailsOnlyBy};
 ghost use Rattle.paw_routines.specs.Routines.{HaveAnswers};
-ghost use Rattle.paw_routines.specs.Measure.{measure};
-ghost use Rattle.paw_journal.specs.inner.Session.{digests_of};
-ghost use Rattle.paw_journal.specs.inner.Journal.{IsAtRest, KeptIn};
-ghost use Rattle.paw_play.specs.Played.{session_begun};
+ghost use Rattle.paw_turn.specs.inner.Player.{IsSeated};
+ghost use Rattle.paw_journal.specs.inner.Journal.{KeptIn};
+ghost use Rattle.paw_play.specs.Played.{PlayedSession, session_begun};
 ghost use Rattle.paw_play.specs.Keeping.{InPlay, InNewSession};
 ghost use Rattle.paw_play.specs.Play.{NotYet, PlaysOn, MadeAndPlayed, NewSession, store_bytes};
-ghost use Rattle.paw_play.specs.inner.OnTheWay.{EachStory, EachStarting, Begins, IsRestingStore, begun_with};
-ghost use Rattle.paw_play.specs.inner.OnTheWay.{MayPlay, MayBegin, StillPlays, IsAttached, HoldsSession};
+ghost use Rattle.paw_play.specs.Laws.{StandsAtMoment};
+ghost use Rattle.paw_play.specs.inner.OnTheWay.{EachStory, IsRestingStore, IsAttached, IsPlaying};
+ghost use Rattle.paw_play.specs.inner.Open.{MayTake};
 ghost use Rattle.paw_play.specs.Calls.{play_calls, session_calls};
-ghost use Rattle.paw_play.specs.inner.Calls.{IsNotForCall, call_of_end, end_failed_or};
+ghost use Rattle.paw_play.specs.inner.Calls.{DoneWithMoments, IsNotForCall, call_of_end};
 
 use crate::PlayEnd;
-use crate::line::{Session, play_line, put_state, unless_ended};
-use crate::preface::Nothing;
-use crate::walk::{end_without_piece, show_step};
-use paw_base::limits::EVENT_LIMIT;
+use crate::line::play_line;
+use crate::open::{OpenSession, begin};
+use paw_base::fault::NoRoom;
+use paw_base::limits::{EVENT_LIMIT, LINE_LIMIT};
 use paw_game::tables::Tables;
-use paw_journal::{Attached, Journal, Room, attach};
+use paw_journal::{Attached, Room, attach};
 use paw_routines::routines::Routines;
 use paw_stage::Stage;
-use paw_state::STATE_ROOM;
 use paw_turn::Player;
 use std::alloc::Global;
 
-/// Takes lines until the game is over or no line is left, at most as many as a session may have.
+/// Plays an open session, whose last piece isn't shown yet, until the game is over or no line is left, with at most as
+/// many lines as a session may have.
 pub(crate) fn play_lines<S: Stage, T: Tables, F: Fn(u8, u8) -> u8>(
     stage: &mut S,
     player: &mut Player<'_, T, F>,
     room: &mut Room,
-    session: Session,
+    session: OpenSession,
 ) -> PlayEnd
-    requires player { MayPlay F.Fn (READ_LIMIT * (session.events + 1)) player.old }
-    requires few { session.events ≤ EVENT_LIMIT }
+    requires may { MayTake F.Fn session.events player.old }
     requires kept { S.Tells stage.old → KeptIn session.journal room.old (S.standing stage.old) }
     ensures serves { FailsOnlyBy S.Stage play_calls (call_of_end result) stage.old stage.new }
     ensures refused { IsNotForCall result }
-    ensures meaning { IfTelling S.Stage stage.old stage.new (λ old new.
-        EachStory F.Fn player.old.routines player.old.game (λ g.
-        EachStarting g player.old session.events old (λ s first.
-        PlaysOn s (EVENT_LIMIT - s.before) first new result))) }
-    ensures any_moment { IfTelling S.Stage stage.old stage.new (λ old new.
-        EachStory F.Fn player.old.routines player.old.game (λ g.
-        EachStarting g player.old session.events old (λ s first.
-        EachMoment S.Stage stage.old stage.new (InPlay s first)))) }
+    ensures promises { IfTelling S.Stage stage.old stage.new (λ old new.
+        EachStory F.Fn player.old.routines player.old.game (λ g. (s : PlayedSession) (first : Standing) →
+        IsPlaying g s first old player.old room.old.piece 0 → session.events ≡ s.before →
+        DoneWithMoments S.Stage stage.old stage.new
+        (PlaysOn s (EVENT_LIMIT - s.before) first new result) (InPlay s first))) }
 {
     let mut session = session;
-    for _ in session.events..EVENT_LIMIT {
-        match play_line(stage, player, room, session) {
+    let mut line = [0u8; LINE_LIMIT];
+    for _ in session.events..EVENT_LIMIT + 1 {
+        match play_line(stage, player, room, session, &mut line) {
             Ok(next) => session = next,
             Err(end) => return end,
         }
     }
+    // This is never reached: a session that has all its lines ends before it asks for one more.
     PlayEnd::Long {
         events: EVENT_LIMIT,
     }
 }
 
-// Plays the piece before the first line; makes a session with it in the attached store, which is empty, and shows it.
-fn make_session<S: Stage, T: Tables, F: Fn(u8, u8) -> u8>(
-    stage: &mut S,
-    player: &mut Player<'_, T, F>,
-    room: &mut Room,
-    at: Attached,
-    game: &[u8; 32],
-    rules: &[u8; 32],
-) -> Result<Session, PlayEnd>
-    requires player { MayBegin F.Fn player.old }
-    requires empty { at.length ≡ 0 }
-    requires attached { S.Tells stage.old → IsAttached at (S.standing stage.old) }
-    ensures player { StillPlays READ_LIMIT player.old player.new }
-    ensures serves { FailsOnlyBy S.Stage play_calls (end_failed_or result) stage.old stage.new }
-    ensures refused { IfErr result IsNotForCall }
-    ensures session { IfOk result (HoldsSession (S.Tells stage.old) 0 room.new (S.standing stage.new)) }
-    ensures meaning { IfTelling S.Stage stage.old stage.new (λ old new.
-        EachStory F.Fn player.old.routines player.old.game (λ g. (name : Name) → IsRestingStore name old →
-        Begins g (begun_with g player.old.world.seed (digests_of game.now rules.now) name) old new player.new result)) }
-    ensures any_moment { IfTelling S.Stage stage.old stage.new (λ old new.
-        EachStory F.Fn player.old.routines player.old.game (λ g. (name : Name) → IsRestingStore name old →
-        EachMoment S.Stage stage.old stage.new
-        (InNewSession (begun_with g player.old.world.seed (digests_of game.now rules.now) name) old))) }
+/// What a session is played with: a player of the game at its start, which only counts its steps, and a journal's room.
+///
+/// # Errors
+/// NoRoom where there is no memory for them.
+pub(crate) fn seats<'a, T: Tables, F: Fn(u8, u8) -> u8>(
+    alloc: Global,
+    tables: &'a T,
+    routines: &'a Routines<F>,
+    seed: u64,
+) -> Result<(Player<'a, T, F>, Room), NoRoom>
+    ensures seated { IfOk result (λ s. IsSeated s.0) }
+    ensures game { IfOk result (λ s. s.0.game ≡ T.game tables.now) }
+    ensures routines { IfOk result (λ s. s.0.routines ≡ routines.now) }
 {
-    let step = player.start();
-    if let Some(end) = end_without_piece(step) {
-        return Err(end);
-    }
-    let mut state = [0u8; STATE_ROOM];
-    put_state(player, 0, &mut state);
-    let journal = match Journal::create(stage, room, at, game, rules, &state, player.piece()) {
-        Ok(journal) => journal,
-        Err(call) => return Err(PlayEnd::Outside(call)),
-    };
-    unless_ended(
-        show_step(&mut Nothing, stage, player, step),
-        Session { journal, events: 0 },
-    )
+    let room = Room::new(alloc)?;
+    let player = Player::new_only_counting(alloc, tables, routines, seed)?;
+    Ok((player, room))
 }
 
 // Makes what a new session is played with, and plays it in the attached store, which is empty.
@@ -116,26 +94,30 @@ fn play_in<S: Stage, T: Tables, F: Fn(u8, u8) -> u8>(
     game: &[u8; 32],
 ) -> PlayEnd
     requires answers { HaveAnswers F.Fn routines.now }
+    requires game { game.now ≡ sha256 (image (T.game tables.now)) }
     requires empty { at.length ≡ 0 }
-    requires rests { S.Tells stage.old → IsAtRest (S.standing stage.old) }
-    requires attached { S.Tells stage.old → at.length ≡ length (S.standing stage.old).disk.bytes }
+    requires attached { S.Tells stage.old → IsAttached at (S.standing stage.old) }
     ensures serves { FailsOnlyBy S.Stage play_calls (call_of_end result) stage.old stage.new }
     ensures refused { IsNotForCall result }
-    ensures plays { IfTelling S.Stage stage.old stage.new (λ old new.
+    ensures promises { IfTelling S.Stage stage.old stage.new (λ old new.
         EachStory F.Fn routines.now (T.game tables.now) (λ g. (name : Name) → IsRestingStore name old →
-        MadeAndPlayed (begun_with g seed (digests_of game.now (measure g.answers)) name) old new result)) }
-    ensures any_moment { IfTelling S.Stage stage.old stage.new (λ old new.
-        EachStory F.Fn routines.now (T.game tables.now) (λ g. (name : Name) → IsRestingStore name old →
-        EachMoment S.Stage stage.old stage.new
-        (InNewSession (begun_with g seed (digests_of game.now (measure g.answers)) name) old))) }
+        DoneWithMoments S.Stage stage.old stage.new
+        (MadeAndPlayed (session_begun g seed name) old new result)
+        (InNewSession (session_begun g seed name) old))) }
 {
-    let Ok(mut room) = Room::new(alloc) else {
-        return PlayEnd::Memory;
+    let (mut player, mut room) = match seats(alloc, tables, routines, seed) {
+        Ok(seats) => seats,
+        Err(_) => return PlayEnd::Memory,
     };
-    let Ok(mut player) = Player::new_only_counting(alloc, tables, routines, seed) else {
-        return PlayEnd::Memory;
-    };
-    match make_session(stage, &mut player, &mut room, at, game, &routines.measure()) {
+    match begin(
+        stage,
+        &mut player,
+        &mut room,
+        at,
+        game,
+        &routines.measure(),
+        seed,
+    ) {
         Ok(session) => play_lines(stage, &mut player, &mut room, session),
         Err(end) => end,
     }
@@ -166,6 +148,12 @@ pub fn play_loop<S: Stage, T: Tables, F: Fn(u8, u8) -> u8>(
         EachStory F.Fn routines.now (T.game tables.now) (λ g. store_bytes old name.now ≡ [] →
         InTwoParts S.Stage stage.old stage.new (NotYet name.now old)
         (InNewSession (session_begun g seed name.now) old))) }
+
+    // However it ends, what stands is one of its moments: so with no crash the file is as a crash could have left it.
+    ensures stands { IfTelling S.Stage stage.old stage.new (λ old new.
+        EachStory F.Fn routines.now (T.game tables.now) (λ g. store_bytes old name.now ≡ [] →
+        StandsAtMoment (λ m. NotYet name.now old m ⊎ InNewSession (session_begun g seed name.now) old m)
+        name.now new)) }
 {
     let at = match attach(stage, name) {
         Ok(at) => at,

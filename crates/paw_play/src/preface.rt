@@ -13,7 +13,7 @@ pub trait Preface: Drop {
     ghost use Rattle.paw_effects.specs.declared.act.Prompt.TheVariants as prompt;
     ghost use Rattle.paw_turn.specs.declared.Step.TheVariants as step;
     ghost use Rattle.paw_turn.specs.inner.Player.{IsNew, IsSeated};
-    ghost use Rattle.paw_play.specs.inner.ShowSteps.{ShowSteps, KeepsShown, preface};
+    ghost use Rattle.paw_play.specs.inner.ShowSteps.{ShowSteps, NotesShown, preface};
 
     /// Whether the pieces are shown as they are or traced.
     ghost showing: { ShowSteps };
@@ -38,7 +38,7 @@ pub trait Preface: Drop {
         ensures game { IfOk result (λ p. p.game ≡ T.game tables.now) }
         ensures routines { IfOk result (λ p. p.routines ≡ routines.now) }
         ensures new { IfOk result (λ p. IsNew p seed) }
-        ensures keeps { IfOk result (λ p. KeepsShown showing p.machine.steps.most) }
+        ensures keeps { IfOk result (λ p. NotesShown showing p.machine.steps.most) }
         ensures last { IfOk result (λ p. p.last ≡ step.Waits prompt.Main) }
         ensures seated { IfOk result IsSeated };
 

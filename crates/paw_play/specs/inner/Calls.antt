@@ -1,7 +1,10 @@
 -- The calls of a stage that playing makes: words that contracts between crates and proofs use besides those of
 -- specs/Calls.antt.
 use Rattle.std.specs.Prelude.{Option, Some, None, Result, Ok, Err}
+use Rattle.paw_stage.specs.declared.Stage.{Ghosts}
 use Rattle.paw_stage.specs.declared.StageCall.{StageCall}
+use Rattle.paw_stage.specs.Stage.{Standing}
+use Rattle.paw_stage.specs.AcrossCalls.{EachMoment}
 use Rattle.paw_journal.specs.declared.refusal.JournalRefusal.TheVariants as refusal
 use Rattle.paw_play.specs.declared.PlayEnd.{PlayEnd}
 use Rattle.paw_play.specs.declared.PlayEnd.TheVariants as end
@@ -27,7 +30,8 @@ abbrev pub end_failed_or : {A : Type 0} → Result A PlayEnd → Option StageCal
 end_failed_or (Ok a) = None
 end_failed_or (Err o) = call_of_end o
 
--- Playing goes on with this, or has ended.
-abbrev pub unless_ended : {A : Type 0} → Option PlayEnd → A → Result A PlayEnd
-unless_ended None a = Ok a
-unless_ended (Some o) a = Err o
+-- What calls promise: `Done` of what they gave, and `Inside` of each moment of them, at which a crash may come.
+pub record DoneWithMoments {S : Type 0} (g : Ghosts S) (old new : S) (Done : Type 0) (Inside : Standing → Type 0)
+    : Type 0 where
+  pub meaning : Done
+  pub any_moment : EachMoment g old new Inside

@@ -1,6 +1,6 @@
 -- What stands on the way, inside a call.
-use Rattle.std.specs.Prelude.{◌≡◌, ◌≢◌, ℕ, suc, ◌+◌, ◌<◌, ◌≤◌, List, [], ◌++◌, length, take}
-use Rattle.std.specs.Prelude.{◌-◌, reverse, Option, Some, None, Result, Ok, Err, MatchBool, MatchOption, if◌then◌else◌}
+use Rattle.std.specs.Prelude.{◌≡◌, ℕ, suc, ◌+◌, ◌<◌, ◌≤◌, List, ◌++◌, length, take, drop}
+use Rattle.std.specs.Prelude.{◌-◌, reverse, Option, Some, None, Result, Ok, Err, MatchOption, if◌then◌else◌}
 use Rattle.std.specs.Option.{option_map}
 use Rattle.std.specs.List.{concat}
 use Rattle.std.specs.Fn.{Shared}
@@ -9,50 +9,38 @@ use Rattle.paw_stage.specs.Disk.{IsStable}
 use Rattle.paw_stage.specs.Stage.{Standing}
 use Rattle.paw_stage.specs.declared.StageCall.TheVariants as call
 use Rattle.paw_game.specs.Game.{GameLists}
-use Rattle.paw_routines.specs.Routines.{AreAnswersOf, HaveAnswers}
+use Rattle.paw_routines.specs.Routines.{AreAnswersOf}
 use Rattle.paw_routines.specs.declared.routines.Routines.{Routines}
 use Rattle.paw_effects.specs.Story.{Story, story_of}
 use Rattle.paw_effects.specs.declared.act.Prompt.{Prompt}
-use Rattle.paw_effects.specs.declared.act.Prompt.TheVariants as prompt
-use Rattle.paw_reading.specs.Run.{Run, StepRow}
+use Rattle.paw_reading.specs.Run.{StepRow}
 use Rattle.paw_reading.specs.declared.halt.Halt.{Halt}
 use Rattle.paw_reading.specs.declared.halt.Halt.TheVariants as halt
-use Rattle.paw_reading.specs.Reading.{closes_piece}
-use Rattle.paw_reading.specs.Turn.{Halted, reading, going_on_from}
-use Rattle.paw_turn.specs.inner.Player.{step_halt, brings_piece, PlayerView, run_at, IsSeated, IsNew}
+use Rattle.paw_reading.specs.Turn.{reading, going_on_from}
+use Rattle.paw_turn.specs.inner.Player.{step_halt, brings_piece, PlayerView, run_at, IsSeated}
 use Rattle.paw_turn.specs.inner.Parts.{prompt_at, IsStanding}
 use Rattle.paw_turn.specs.declared.Step.{Step}
 use Rattle.paw_turn.specs.declared.Step.TheVariants as step
-use Rattle.paw_base.specs.Bytes.{Bytes, Lines, Name, RoutineAnswers, Seed, Text, Texts, zeros}
-use Rattle.paw_journal.specs.Session.{Digests, Recovered, Shown, recover, kept_digests, base_length, state_length}
-use Rattle.paw_journal.specs.Session.{session_committed}
-use Rattle.paw_journal.specs.inner.Store.{InStore, CrashLeavesSuch, IsOldOrNew}
+use Rattle.paw_base.specs.Bytes.{Lines, Name, RoutineAnswers, Text, Texts}
+use Rattle.paw_journal.specs.Session.{Digests, Recovered, Shown, recover, kept_digests}
+use Rattle.paw_journal.specs.Session.{session_committed, made_session}
+use Rattle.paw_journal.specs.inner.Store.{InStore, CrashLeavesSuch, IsOldOrNew, IsUnmadeOr}
 use Rattle.paw_journal.specs.inner.Writes.{SameDigests}
-use Rattle.paw_journal.specs.inner.Room.{Room}
-use Rattle.paw_journal.specs.inner.Journal.{IsAtRest, KeptIn}
+use Rattle.paw_journal.specs.inner.Journal.{IsAtRest}
 use Rattle.paw_journal.specs.declared.store.Attached.{Attached}
 use Rattle.paw_journal.specs.declared.refusal.JournalRefusal.{JournalRefusal}
 use Rattle.paw_journal.specs.declared.refusal.JournalRefusal.TheVariants as refusal
-use Rattle.paw_state.specs.inner.State.{state_of}
 use Rattle.paw_play.specs.declared.PlayEnd.{PlayEnd}
 use Rattle.paw_play.specs.declared.PlayEnd.TheVariants as end
-use Rattle.paw_play.specs.declared.line.Session.{Session}
-use Rattle.paw_play.specs.Session.{kept_bytes}
-use Rattle.paw_play.specs.Walk.{end_halt, EndingOf, first_lines, text_for, text_before, with_lines_taken, Walks}
+use Rattle.paw_play.specs.Walk.{end_halt, EndingOf, first_lines, text_before, with_lines_taken, Walks}
 use Rattle.paw_play.specs.Played.{PlayedSession}
-use Rattle.paw_play.specs.Keeping.{StaysAttached, RestsWith}
-use Rattle.paw_play.specs.Play.{PlaysOn, with_store}
-use Rattle.paw_play.specs.inner.ShowSteps.{ShowSteps, Plain, HaveSteps, KeepsShown, shown_pieces, with_shown_steps}
+use Rattle.paw_play.specs.Keeping.{RestsWith}
+use Rattle.paw_play.specs.Play.{PlaysOn}
+use Rattle.paw_play.specs.inner.Open.{IsOpen}
+pub use Rattle.paw_play.specs.inner.Open.{seat_state, seat_base}
+use Rattle.paw_play.specs.inner.ShowSteps.{ShowSteps, HaveSteps, NotesShown, shown_pieces, with_shown_steps}
 
 -- ---- a walk ----
-
--- The bytes of the state of a player, after this number of lines of its session.
-abbrev pub seat_state : {F : Type 0} → ℕ → PlayerView F → Bytes
-seat_state events p = kept_bytes (state_of p.world p.machine p.pending (prompt_at p.last) events (length p.piece))
-
--- The same as they are written: filled up with zeros.
-abbrev pub seat_base : {F : Type 0} → ℕ → PlayerView F → Bytes
-seat_base events p = seat_state events p ++ zeros (base_length - state_length)
 
 -- The walk is at a prompt: n lines were taken, these pieces were shown, with their prefaces, and whatever lines come,
 -- the reading of all goes on from the player.
@@ -64,7 +52,7 @@ pub record IsWalking {F : Type 0} (showing : ShowSteps) (g : Story) (whole : End
   pub pieces : Texts
   pub traces : List (List StepRow)
   pub each : HaveSteps showing pieces traces
-  pub keeps : KeepsShown showing seat.machine.steps.most
+  pub keeps : NotesShown showing seat.machine.steps.most
   pub goes_on : (more : Lines) →
       whole (first_lines n old.lines ++ more)
       ≡ going_on_from g prompt (reverse seat.machine.frames) (run_at seat pieces traces more)
@@ -99,56 +87,39 @@ WalksTo showing g whole most first now seat n (Some o) = Walks (with_shown_steps
 
 -- ---- a session ----
 
--- The session of a story that is begun with this seed, whatever its digests.
-abbrev pub begun_with : Story → Seed → Digests → Name → PlayedSession
-begun_with g seed digests name = record { whole = reading g seed; before = 0; digests = digests; name = name }
-
--- The session is at a prompt: the walk is, the store keeps all lines that were taken, and the text of the last piece
--- came last.
+-- The session is open after the first n lines, and the text for all of them but the last was shown: its last piece
+-- isn't shown yet.
 pub record IsPlaying {F : Type 0} (g : Story) (s : PlayedSession) (first now : Standing) (seat : PlayerView F)
-    (n : ℕ) : Type 0 where
-  pub walking : IsWalking Plain g s.whole (with_store now first) now seat n
+    (piece : Text) (n : ℕ) : Type 0 where
+  pub opened : IsOpen g s n (first_lines n first.lines) seat (text_before s.whole first.lines n) piece now.disk.bytes
+  pub lines : now.lines ≡ drop n first.lines
+  pub asked : now.asked ≡ first.asked + n
+  pub shown : now.shown ≡ first.shown ++ text_before s.whole first.lines n
   pub rests : RestsWith s first now n
-  pub digests : kept_digests now.disk.bytes ≡ s.digests
-  pub last : Text
-  pub grown : text_for s.whole first.lines n ≡ text_before s.whole first.lines n ++ last
 
--- After one more line the session is at the next prompt, or playing on has ended this way.
-abbrev pub PlaysLineTo : {A F : Type 0} → Story → PlayedSession → ℕ → Standing → Standing → PlayerView F → ℕ →
+-- After one more line the session is open, or playing on has ended this way.
+abbrev pub PlaysLineTo : {A F : Type 0} → Story → PlayedSession → ℕ → Standing → Standing → PlayerView F → Text →
     Result A PlayEnd → Type 0
-PlaysLineTo g s most first now seat n (Ok a) = IsPlaying g s first now seat (suc n)
-PlaysLineTo g s most first now seat n (Err o) = PlaysOn s most first now o
+PlaysLineTo g s n first now seat piece (Ok a) = IsPlaying g s first now seat piece (suc n)
+PlaysLineTo g s n first now seat piece (Err o) = PlaysOn s (EVENT_LIMIT - s.before) first now o
+
+-- What showing the last piece of an open session does: it is shown where the player waits, where the game is over, and
+-- where the session has all its lines; or a part is shown of a piece that isn't empty, and the call failed.
+abbrev pub ShowsOpen : Standing → Standing → Text → Step → ℕ → Option PlayEnd → Type 0
+ShowsOpen old new piece s events None = (s ≡ step.Waits (prompt_at s)) × (events < EVENT_LIMIT)
+    × (new ≡ record old { shown = old.shown ++ piece })
+ShowsOpen old new piece s events (Some end.Ended) = (s ≡ step.Ended) × (new ≡ record old { shown = old.shown ++ piece })
+ShowsOpen old new piece s events (Some (end.Long most)) = (s ≡ step.Waits (prompt_at s)) × (EVENT_LIMIT ≤ events)
+    × (most ≡ EVENT_LIMIT) × (new ≡ record old { shown = old.shown ++ piece })
+ShowsOpen old new piece s events (Some (end.Outside call.Show)) =
+    (0 < length piece) × (n : ℕ) × (new ≡ record old { shown = old.shown ++ take n piece })
+ShowsOpen old new piece s events (Some _) = ⊥
 
 -- The store of this name is attached and at rest, and its file holds its bytes.
 pub record IsRestingStore (name : Name) (s : Standing) : Type 0 where
   pub attached : s.attached ≡ Some name
   pub stable : IsStable s.disk
   pub file : s.files name ≡ Some s.disk.bytes
-
--- Play ended in this way before the piece before the first line was closed, and nothing was changed.
-abbrev pub HaltsAtOnce : PlayedSession → Standing → Standing → Halt → Type 0
-HaltsAtOnce s first now halt = (r : Run) × (s.whole [] ≡ Halted halt r) × (now ≡ first)
-
--- How making a new session ends, once its store is attached, and what it leaves.
-abbrev pub BegunAs : PlayedSession → Standing → Standing → PlayEnd → Type 0
-BegunAs s first now (end.Outside call.Write) = (now ≡ with_store now first) × StaysAttached s.name first now
-BegunAs s first now (end.Outside call.Sync) = (now ≡ with_store now first) × StaysAttached s.name first now
-BegunAs s first now o = MatchOption (end_halt o) (PlaysOn s EVENT_LIMIT first now o) (λ halt.
-    MatchBool (closes_piece halt) (PlaysOn s EVENT_LIMIT first now o) (HaltsAtOnce s first now halt))
-
--- The session is at its first prompt, or making it has ended this way.
-abbrev pub Begins : {A F : Type 0} → Story → PlayedSession → Standing → Standing → PlayerView F → Result A PlayEnd →
-    Type 0
-Begins g s first now seat (Ok a) = IsPlaying g s first now seat 0
-Begins g s first now seat (Err o) = BegunAs s first now o
-
--- What showing a piece again does: the session waits at its prompt, or is over, or the call failed after a part.
-abbrev pub ShowsAgain : Standing → Standing → Text → Prompt → Option PlayEnd → Type 0
-ShowsAgain old new piece p None = (p ≢ prompt.Over) × (new ≡ record old { shown = old.shown ++ piece })
-ShowsAgain old new piece p (Some end.Ended) = (p ≡ prompt.Over) × (new ≡ record old { shown = old.shown ++ piece })
-ShowsAgain old new piece p (Some (end.Outside call.Show)) =
-    (0 < length piece) × (n : ℕ) × (new ≡ record old { shown = old.shown ++ take n piece })
-ShowsAgain old new piece p (Some _) = ⊥
 
 -- How playing ends where a session isn't found.
 abbrev pub end_of : JournalRefusal → PlayEnd
@@ -159,18 +130,6 @@ end_of (refusal.WrongRoutines kept found) = end.Refused (refusal.WrongRoutines k
 end_of (refusal.Outside c) = end.Outside c
 
 -- ---- a player and its session, between calls ----
-
--- A player may take lines: it has a seat, its routines have answers, and it drew at most this many numbers.
-pub record MayPlay {F : Type 0} (calls : Shared F (ℕ × (ℕ × Unit {0})) ℕ) (draws : ℕ) (p : PlayerView F) : Type 0 where
-  pub seated : IsSeated p
-  pub answers : HaveAnswers calls p.routines
-  pub drew : p.world.draws ≤ draws
-
--- A player was made just now: it has a seat, its routines have answers, and it has played nothing.
-pub record MayBegin {F : Type 0} (calls : Shared F (ℕ × (ℕ × Unit {0})) ℕ) (p : PlayerView F) : Type 0 where
-  pub seated : IsSeated p
-  pub answers : HaveAnswers calls p.routines
-  pub new : IsNew p p.world.seed
 
 -- The player still plays the same game with the same routines, and drew at most this many numbers.
 pub record StillPlays {F : Type 0} (draws : ℕ) (old new : PlayerView F) : Type 0 where
@@ -184,11 +143,6 @@ pub record IsAttached (at : Attached) (s : Standing) : Type 0 where
   pub rests : IsAtRest s
   pub long : at.length ≡ length s.disk.bytes
 
--- A session has taken this number of lines. Where a stage says what stands, its store is at rest and holds it.
-pub record HoldsSession (tells : Type 0) (n : ℕ) (room : Room) (now : Standing) (session : Session) : Type 0 where
-  pub events : session.events ≡ n
-  pub kept : tells → KeptIn session.journal room now
-
 -- ---- facts about what is under way ----
 
 -- A fact about the game's story, whatever answers stand for its routines.
@@ -196,19 +150,13 @@ abbrev pub EachStory : {F : Type 0} → Shared F (ℕ × (ℕ × Unit {0})) ℕ 
     (Story → Type 0) → Type 0
 EachStory calls routines game Holds = (X : RoutineAnswers) → AreAnswersOf calls routines X → Holds (story_of game X)
 
--- A fact about each session that is at its prompt with this player, after this number of lines in all: n were taken
--- since `first` stood, of at most `most`.
-abbrev pub EachPlaying : {F : Type 0} → Story → PlayerView F → ℕ → Standing →
-    (PlayedSession → ℕ → ℕ → Standing → Type 0) → Type 0
-EachPlaying g seat events now Holds =
-    (s : PlayedSession) (most n : ℕ) (first : Standing) → IsPlaying g s first now seat n → events ≡ s.before + n →
-    n < most → Holds s most n first
-
--- A fact about each session that is at the prompt where it begins or is resumed, after this number of lines in all.
-abbrev pub EachStarting : {F : Type 0} → Story → PlayerView F → ℕ → Standing → (PlayedSession → Standing → Type 0) →
-    Type 0
-EachStarting g seat events now Holds =
-    (s : PlayedSession) (first : Standing) → IsPlaying g s first now seat 0 → events ≡ s.before → Holds s first
+-- A fact about each session that is open with this player, after this number of lines in all: n were taken since
+-- `first` stood.
+abbrev pub EachPlaying : {F : Type 0} → Story → PlayerView F → Text → ℕ → Standing →
+    (PlayedSession → ℕ → Standing → Type 0) → Type 0
+EachPlaying g seat piece events now Holds =
+    (s : PlayedSession) (n : ℕ) (first : Standing) → IsPlaying g s first now seat piece n → events ≡ s.before + n →
+    Holds s n first
 
 -- What the session of a store shows after this player was committed to it, with this number of lines.
 abbrev pub shown_then : {F : Type 0} → ℕ → PlayerView F → Standing → Recovered
@@ -228,6 +176,17 @@ pub record CommitsPlayer {F : Type 0} (events : ℕ) (seat : PlayerView F) (old 
   pub exact : Writes events seat old new
   pub shown : Commits events seat old new
   pub digests : SameDigests old new
+
+-- The player was made to a session with these digests: the store's bytes are those of a session that is newly made, and
+-- they show the player.
+pub record MakesPlayer {F : Type 0} (whose : Digests) (seat : PlayerView F) (old new : Standing) : Type 0 where
+  pub exact : new.disk.bytes ≡ made_session whose (seat_base 0 seat) seat.piece
+  pub shown : recover new.disk.bytes ≡ Shown whose (seat_state 0 seat) seat.piece
+  pub digests : kept_digests new.disk.bytes ≡ whose
+
+-- A moment at which a crash leaves no session, or the player.
+abbrev pub InMake : {F : Type 0} → Digests → PlayerView F → Standing → Standing → Type 0
+InMake digests seat old m = InStore old (CrashLeavesSuch (IsUnmadeOr (Shown digests (seat_state 0 seat) seat.piece))) m
 
 -- A moment at which a crash leaves what the session showed before, or the player.
 abbrev pub InCommit : {F : Type 0} → ℕ → PlayerView F → Standing → Standing → Type 0

@@ -24,9 +24,9 @@ preface Plain kept = []
 preface Stepped kept = kept_text kept
 
 -- Where pieces are shown after their steps, as many steps of each are kept as have a line.
-abbrev pub KeepsShown : ShowSteps → ℕ → Type 0
-KeepsShown Plain most = Unit {0}
-KeepsShown Stepped most = most ≡ STEP_LIMIT
+abbrev pub NotesShown : ShowSteps → ℕ → Type 0
+NotesShown Plain most = Unit {0}
+NotesShown Stepped most = most ≡ STEP_LIMIT
 
 -- What is shown for a player's last piece.
 abbrev pub seat_text : {F : Type 0} → ShowSteps → PlayerView F → Text

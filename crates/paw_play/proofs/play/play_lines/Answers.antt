@@ -1,91 +1,77 @@
-use Rattle.std.proofs.Common.{◌≡◌, ◌+◌, ◌-◌, ◌<◌, ◌∙◌, suc, arith, subst, sym, refl, None}
-use Rattle.paw_base.specs.declared.limits.TheConstants.{EVENT_LIMIT}
+use Rattle.std.proofs.Common.{◌≡◌, ◌+◌, ◌-◌, ◌∙◌, suc, arith, subst, sym, refl, None}
 use Rattle.paw_stage.proofs.Time.{Passes_on, Passes_none}
-use Rattle.paw_play.specs.Keeping.{InPlay}
-use Rattle.paw_play.specs.inner.OnTheWay.{IsPlaying}
-use Rattle.paw_play.proofs.Playing.{long_play}
-use Rattle.paw_journal.proofs.Serving.{serves_none, serves_then}
-use Rattle.paw_play.specs.inner.Calls.{call_of_end}
+use Rattle.paw_routines.specs.Routines.{AreAnswersOf}
 use Rattle.paw_effects.specs.Story.{story_of}
+use Rattle.paw_journal.proofs.Serving.{serves_none, serves_then}
+use Rattle.paw_play.specs.Keeping.{InPlay}
+use Rattle.paw_play.specs.inner.Calls.{call_of_end}
+use Rattle.paw_play.specs.inner.OnTheWay.{IsPlaying}
 use Rattle.paw_play.proofs.play.play_lines.Goals as goal
 
 pub loop-init : goal.loop-init
 loop-init g c = record {
-  seated = c.requires.player.seated;
-  routines = refl;
-  answers = c.requires.player.answers;
+  stays = record { seated = c.requires.may.seated; game = refl; routines = refl };
+  may = c.requires.may;
   events = refl;
   from = omega arith;
-  few = c.requires.few;
-  draws = c.requires.player.drew;
   serves = serves_none g.S.Stage _ _;
   kept = c.requires.kept;
-  playing = λ tells X answers s first start events.
+  promises = λ tells X answers s first start events.
       let none : 0 ≡ c.args.session.events - s.before = omega (arith, events) in
-      subst (λ k. IsPlaying (story_of c.args.player.now.game X) s first (g.S.Stage.standing c.args.stage.now) c.args.player.now k) none start;
-  passes = λ tells X answers s first start events. Passes_none _ _ _;
+      record {
+        meaning = subst (λ k. IsPlaying (story_of c.args.player.now.game X) s first (g.S.Stage.standing c.args.stage.now) c.args.player.now
+            c.args.room.now.piece k) none start;
+        any_moment = Passes_none _ _ _;
+      };
 }
-
-pub play_line-requires-clause-player : goal.play_line-requires-clause-player
-play_line-requires-clause-player g c =
-    let i = c.loop.invariant in
-    record { seated = i.seated; answers = i.answers; drew = omega (arith, i.draws, i.events) }
 
 pub play_line-requires-clause-kept : goal.play_line-requires-clause-kept
 play_line-requires-clause-kept g c = λ tells. c.loop.invariant.kept (c.loop.invariant.serves.tells.1 tells)
 
-pub returns-in-Err-clause-meaning : goal.returns-in-Err-clause-meaning
-returns-in-Err-clause-meaning g c = λ tells X answers s first start events.
+pub returns-in-Err-clause-promises : goal.returns-in-Err-clause-promises
+returns-in-Err-clause-promises g c = λ tells X answers s first start events.
     let i = c.loop.invariant in
-    c.in-Err.ensures.meaning (i.serves.tells.0 tells) X (rw i.routines answers) s (EVENT_LIMIT - s.before) (c.loop.counter - s.before) first
-    (i.playing tells X answers s first start events) (omega (arith, i.events, i.from, events)) (omega (arith, c.loop-test.true, i.from, events))
-
-pub returns-in-Err-clause-any_moment : goal.returns-in-Err-clause-any_moment
-returns-in-Err-clause-any_moment g c = λ tells X answers s first start events.
-    let i = c.loop.invariant in
-    let few : c.loop.counter - s.before < EVENT_LIMIT - s.before = omega (arith, c.loop-test.true, i.from, events) in
     let at : c.loop.session.events ≡ s.before + (c.loop.counter - s.before) = omega (arith, i.events, i.from, events) in
-    Passes_on _ _ _ _ _ _ (InPlay s first) _ (i.passes tells X answers s first start events)
-    (c.in-Err.ensures.any_moment (i.serves.tells.0 tells) X (rw i.routines answers) s (EVENT_LIMIT - s.before) (c.loop.counter - s.before)
-    first (i.playing tells X answers s first start events) at few) (λ m j. j)
+    let so_far = i.promises tells X answers s first start events in
+    let then = c.in-Err.ensures.promises (i.serves.tells.0 tells) X (subst (λ r. AreAnswersOf g.F.Fn r X) (sym i.stays.routines) answers)
+    s (c.loop.counter - s.before) first
+    (subst (λ k. IsPlaying (story_of k X) s first (g.S.Stage.standing c.loop.stage) c.loop.player c.loop.room.piece (c.loop.counter - s.before))
+    (sym i.stays.game) so_far.meaning) at in
+    record { meaning = then.meaning; any_moment = Passes_on _ _ _ _ _ _ (InPlay s first) _ so_far.any_moment then.any_moment (λ m j. j) }
 
 pub loop-preserved : goal.loop-preserved
 loop-preserved g c =
-    let after_play_line = g.S.Stage.standing c.play_line.new.stage in
     let i = c.loop.invariant in
     record {
-      seated = c.play_line.ensures.player.seated;
-      routines = c.play_line.ensures.player.routines ∙ i.routines;
-      answers = rw c.play_line.ensures.player.routines i.answers;
-      events = c.in-Ok.ensures.session.events ∙ omega (arith, i.events);
+      stays = record {
+        seated = c.play_line.ensures.stays.seated;
+        game = c.play_line.ensures.stays.game ∙ i.stays.game;
+        routines = c.play_line.ensures.stays.routines ∙ i.stays.routines;
+      };
+      may = c.in-Ok.ensures.may;
+      events = c.in-Ok.ensures.holds.events ∙ omega (arith, i.events);
       from = omega (arith, i.from);
-      few = omega (arith, c.loop-test.true);
-      draws = omega (arith, c.play_line.ensures.player.drew, i.draws);
       serves = serves_then g.S.Stage _ _ None _ _ _ i.serves c.in-Ok.ensures.serves;
-      kept = λ tells. c.in-Ok.ensures.session.kept (i.serves.tells.0 tells);
-      playing = λ tells X answers s first start events.
-          let few : c.loop.counter - s.before < EVENT_LIMIT - s.before = omega (arith, c.loop-test.true, i.from, events) in
+      kept = λ tells. c.in-Ok.ensures.holds.kept (i.serves.tells.0 tells);
+      promises = λ tells X answers s first start events.
           let at : c.loop.session.events ≡ s.before + (c.loop.counter - s.before) = omega (arith, i.events, i.from, events) in
-          let next = c.in-Ok.ensures.meaning (i.serves.tells.0 tells) X (rw i.routines answers) s (EVENT_LIMIT - s.before)
-          (c.loop.counter - s.before) first (i.playing tells X answers s first start events) at few in
-          let n : suc (c.loop.counter - s.before) ≡ c.loop.counter + 1 - s.before = omega (arith, i.from, events) in
-          subst (λ k. IsPlaying (story_of k X) s first after_play_line c.play_line.new.player (c.loop.counter + 1 - s.before))
-          (sym c.play_line.ensures.player.game)
-          (subst (λ k. IsPlaying (story_of c.loop.player.game X) s first after_play_line c.play_line.new.player k) n next);
-      passes = λ tells X answers s first start events.
-          let few : c.loop.counter - s.before < EVENT_LIMIT - s.before = omega (arith, c.loop-test.true, i.from, events) in
-          let at : c.loop.session.events ≡ s.before + (c.loop.counter - s.before) = omega (arith, i.events, i.from, events) in
-          Passes_on _ _ _ _ _ _ (InPlay s first) _ (i.passes tells X answers s first start events)
-          (c.in-Ok.ensures.any_moment (i.serves.tells.0 tells) X (rw i.routines answers) s (EVENT_LIMIT - s.before)
-          (c.loop.counter - s.before) first (i.playing tells X answers s first start events) at few) (λ m j. j);
+          let more : suc (c.loop.counter - s.before) ≡ c.loop.counter + 1 - s.before = omega (arith, i.from, events) in
+          let so_far = i.promises tells X answers s first start events in
+          let then = c.in-Ok.ensures.promises (i.serves.tells.0 tells) X (subst (λ r. AreAnswersOf g.F.Fn r X) (sym i.stays.routines) answers)
+          s (c.loop.counter - s.before) first
+          (subst (λ k. IsPlaying (story_of k X) s first (g.S.Stage.standing c.loop.stage) c.loop.player c.loop.room.piece (c.loop.counter - s.before))
+          (sym i.stays.game) so_far.meaning) at in
+          record {
+            meaning = subst (λ k. IsPlaying (story_of k X) s first (g.S.Stage.standing c.play_line.new.stage) c.play_line.new.player
+                c.play_line.new.room.piece (c.loop.counter + 1 - s.before)) i.stays.game
+                (subst (λ k. IsPlaying (story_of c.loop.player.game X) s first (g.S.Stage.standing c.play_line.new.stage) c.play_line.new.player
+                c.play_line.new.room.piece k) more then.meaning);
+            any_moment = Passes_on _ _ _ _ _ _ (InPlay s first) _ so_far.any_moment then.any_moment (λ m j. j);
+          };
     }
 
-pub returns-clause-meaning : goal.returns-clause-meaning
-returns-clause-meaning g c = λ tells X answers s first start events.
-    let i = c.loop.invariant in
-    let all : c.loop.counter - s.before ≡ EVENT_LIMIT - s.before = omega (arith, c.loop-test.false, i.few) in
-    long_play (story_of c.loop.player.game X) s (EVENT_LIMIT - s.before) (c.loop.counter - s.before) first
-    (g.S.Stage.standing c.loop.stage) c.loop.player (i.playing tells X answers s first start events) i.seated all
+pub returns-clause-promises : goal.returns-clause-promises
+returns-clause-promises g c = absurd (omega (arith, c.loop.invariant.may.few, c.loop.invariant.events, c.loop-test.false))
 
 pub returns-in-Err-clause-serves : goal.returns-in-Err-clause-serves
 returns-in-Err-clause-serves g c = serves_then g.S.Stage _ _ (call_of_end c.in-Err.end) _ _ _ c.loop.invariant.serves c.in-Err.ensures.serves

@@ -1,21 +1,18 @@
 use Rattle.std.proofs.Common.{◌<◌, ◌∙◌, [], ◌∷◌, None, refl, sym, ap, subst, length, arith}
 use Rattle.paw_stage.proofs.Time.{Passes_map}
 use Rattle.paw_stage.specs.Stage.{Standing}
-use Rattle.paw_routines.specs.Measure.{measure}
-use Rattle.paw_journal.specs.inner.Session.{digests_of}
 use Rattle.paw_play.specs.Played.{PlayedSession, session_begun}
 use Rattle.paw_play.specs.Keeping.{InNewSession}
 use Rattle.paw_play.specs.Play.{MadeAndPlayed, unattached, occupied, starts_play}
 use Rattle.paw_play.specs.inner.OnTheWay.{IsRestingStore}
 use Rattle.paw_play.proofs.Attaching.{store_attached, store_empty, at_new_attach, new_from}
-use Rattle.paw_play.proofs.Begun.{own_session}
+use Rattle.paw_play.proofs.Failing.{stands_in_parts}
 use Rattle.paw_play.proofs.Parts.{then_attached, attach_failed}
 use Rattle.paw_stage.specs.declared.StageCall.TheVariants as call
-use Rattle.paw_journal.proofs.Serving.{in_front, serves_among, serves_still, serves_then, the_only_one}
+use Rattle.paw_journal.proofs.Serving.{behind, in_front, serves_among, serves_still, serves_then, the_only_one}
 use Rattle.paw_play.specs.Calls.{play_calls}
-use Rattle.paw_play.proofs.Following.{play_sessions}
 use Rattle.paw_play.specs.inner.Calls.{call_of_end}
-use Rattle.paw_effects.specs.Story.{Story, story_of}
+use Rattle.paw_effects.specs.Story.{story_of}
 use Rattle.paw_play.proofs.play.play_loop.Goals as goal
 
 pub returns-in-Err-clause-plays : goal.returns-in-Err-clause-plays
@@ -27,20 +24,19 @@ returns-then-at-ne0-clause-plays g c = λ tells X answers.
     let a = c.in-Ok.ensures.attached tells in
     rw a.0 (occupied (subst (λ n. 0 < n) a.0 (omega (arith, c.if-at-ne0.true))) a.1)
 
+pub play_in-requires-clause-attached : goal.play_in-requires-clause-attached
+play_in-requires-clause-attached g c = λ tells.
+    let before = c.attach.ensures.serves.tells.1 tells in record { rests = c.in-Ok.ensures.rests before; long = c.in-Ok.ensures.length before }
+
 pub returns-clause-plays : goal.returns-clause-plays
 returns-clause-plays g c = λ tells X answers.
-    let story : Story = story_of (g.T.Tables.game c.args.tables.now) X in
-    let after_attach = g.S.Stage.standing c.attach.new.stage in
-    let after_play_in = g.S.Stage.standing c.play_in.new.stage in
-    let a = c.in-Ok.ensures.attached tells in
     let old : Standing = g.S.Stage.standing c.args.stage.now in
     let name = c.args.name.now in
-    let own = own_session story c.args.seed (digests_of c.args.game.now (measure X)) name (ap (λ d. digests_of d (measure X)) c.requires.game) in
-    let store : IsRestingStore name after_attach = subst (IsRestingStore name) (sym a.1) (store_attached old name) in
+    let a = c.in-Ok.ensures.attached tells in
+    let store : IsRestingStore name (g.S.Stage.standing c.attach.new.stage) = subst (IsRestingStore name) (sym a.1) (store_attached old name) in
     starts_play c.play_in.result (store_empty old _ name c.in-Ok.at.length a (omega (arith, c.if-at-ne0.false)))
-    (subst (λ q. MadeAndPlayed (session_begun story c.args.seed name) q after_play_in c.play_in.result) a.1
-    (subst (λ s. MadeAndPlayed s after_attach after_play_in c.play_in.result) own
-    (c.play_in.ensures.plays (c.attach.ensures.serves.tells.0 tells) X answers name store)))
+    (subst (λ q. MadeAndPlayed (session_begun (story_of (g.T.Tables.game c.args.tables.now) X) c.args.seed name) q (g.S.Stage.standing c.play_in.new.stage)
+    c.play_in.result) a.1 (c.play_in.ensures.promises (c.attach.ensures.serves.tells.0 tells) X answers name store).meaning)
 
 pub returns-in-Err-clause-any_moment : goal.returns-in-Err-clause-any_moment
 returns-in-Err-clause-any_moment g c = λ tells X answers empty.
@@ -53,19 +49,40 @@ returns-then-at-ne0-clause-any_moment g c = λ tells X answers empty.
 
 pub returns-clause-any_moment : goal.returns-clause-any_moment
 returns-clause-any_moment g c = λ tells X answers empty.
-    let story = story_of (g.T.Tables.game c.args.tables.now) X in
     let old : Standing = g.S.Stage.standing c.args.stage.now in
     let after_attach : Standing = g.S.Stage.standing c.attach.new.stage in
     let name = c.args.name.now in
     let a = c.in-Ok.ensures.attached tells in
     let now = c.attach.ensures.serves.tells.0 tells in
-    let s : PlayedSession = session_begun story c.args.seed name in
-    let own = own_session story c.args.seed (digests_of c.args.game.now (measure X)) name (ap (λ d. digests_of d (measure X)) c.requires.game) in
+    let s : PlayedSession = session_begun (story_of (g.T.Tables.game c.args.tables.now) X) c.args.seed name in
     let store : IsRestingStore name after_attach = subst (IsRestingStore name) (sym a.1) (store_attached old name) in
     then_attached g.S.Stage g.met.S.Stage.only_now g.met.S.Stage.counts_now c.args.stage.now c.attach.new.stage c.play_in.new.stage
     name (InNewSession s old) now (at_new_attach s old after_attach a.1 empty) (c.in-Ok.ensures.time tells)
-    (Passes_map _ _ _ _ _ _ (c.play_in.ensures.any_moment now X answers name store)
-    (λ m i. new_from s old m (subst (λ q. InNewSession s q m) a.1 (subst (λ q. InNewSession q after_attach m) own i))))
+    (Passes_map _ _ _ _ _ _ (c.play_in.ensures.promises now X answers name store).any_moment
+    (λ m i. new_from s old m (subst (λ q. InNewSession s q m) a.1 i)))
+
+-- ---- what stands at the end ----
+
+pub returns-in-Err-clause-stands : goal.returns-in-Err-clause-stands
+returns-in-Err-clause-stands g c = λ tells X answers empty.
+    stands_in_parts g.S.Stage g.met.S.Stage.only_now g.met.S.Stage.counts_now g.met.S.Stage.may_stay g.met.S.Stage.files_hold
+    c.args.stage.now c.attach.new.stage c.args.name.now
+    (InNewSession (session_begun (story_of (g.T.Tables.game c.args.tables.now) X) c.args.seed c.args.name.now) (g.S.Stage.standing c.args.stage.now)) tells
+    (c.attach.ensures.serves.tells.0 tells) (returns-in-Err-clause-any_moment g c tells X answers empty)
+
+pub returns-then-at-ne0-clause-stands : goal.returns-then-at-ne0-clause-stands
+returns-then-at-ne0-clause-stands g c = λ tells X answers empty.
+    stands_in_parts g.S.Stage g.met.S.Stage.only_now g.met.S.Stage.counts_now g.met.S.Stage.may_stay g.met.S.Stage.files_hold
+    c.args.stage.now c.attach.new.stage c.args.name.now
+    (InNewSession (session_begun (story_of (g.T.Tables.game c.args.tables.now) X) c.args.seed c.args.name.now) (g.S.Stage.standing c.args.stage.now)) tells
+    (c.attach.ensures.serves.tells.0 tells) (returns-then-at-ne0-clause-any_moment g c tells X answers empty)
+
+pub returns-clause-stands : goal.returns-clause-stands
+returns-clause-stands g c = λ tells X answers empty.
+    stands_in_parts g.S.Stage g.met.S.Stage.only_now g.met.S.Stage.counts_now g.met.S.Stage.may_stay g.met.S.Stage.files_hold
+    c.args.stage.now c.play_in.new.stage c.args.name.now
+    (InNewSession (session_begun (story_of (g.T.Tables.game c.args.tables.now) X) c.args.seed c.args.name.now) (g.S.Stage.standing c.args.stage.now)) tells
+    (c.play_in.ensures.serves.tells.0 (c.attach.ensures.serves.tells.0 tells)) (returns-clause-any_moment g c tells X answers empty)
 
 pub returns-in-Err-clause-serves : goal.returns-in-Err-clause-serves
 returns-in-Err-clause-serves g c =
@@ -77,4 +94,4 @@ returns-then-at-ne0-clause-serves g c = serves_still g.S.Stage _ _ None _ _ refl
 pub returns-clause-serves : goal.returns-clause-serves
 returns-clause-serves g c =
     serves_then g.S.Stage _ _ (call_of_end c.play_in.result) _ _ _ c.in-Ok.ensures.serves
-    (serves_among g.S.Stage _ _ (call_of_end c.play_in.result) _ _ play_sessions c.play_in.ensures.serves)
+    (serves_among g.S.Stage _ _ (call_of_end c.play_in.result) _ _ (behind (call.Attach ∷ call.Read ∷ []) play_calls) c.play_in.ensures.serves)

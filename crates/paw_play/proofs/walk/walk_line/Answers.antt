@@ -1,5 +1,5 @@
 use Rattle.std.proofs.Common.{refl, sym, subst, inl}
-use Rattle.paw_play.specs.inner.ShowSteps.{KeepsShown}
+use Rattle.paw_play.specs.inner.ShowSteps.{NotesShown}
 use Rattle.paw_play.proofs.Walking.{walks_on, none_left, none_asked}
 use Rattle.paw_journal.proofs.Serving.{serves_done, serves_then}
 use Rattle.paw_effects.specs.Story.{story_of}
@@ -9,7 +9,7 @@ use Rattle.paw_play.proofs.walk.walk_line.Goals as goal
 pub returns-in-Line-clause-meaning : goal.returns-in-Line-clause-meaning
 returns-in-Line-clause-meaning g c = λ tells X answers whole most n first w few.
     let a = c.in-Line.ensures.answer tells in
-    let keeps = subst (KeepsShown g.P.Preface.showing) (sym c.take-step.ensures.most) w.keeps in
+    let keeps = subst (NotesShown g.P.Preface.showing) (sym c.take-step.ensures.most) w.keeps in
     walks_on g.P.Preface.showing (story_of c.args.player.now.game X) whole most n first _ _ _ c.args.player.now c.take-step.new.self _ a.0
     c.take-step.result c.show_step.result w few keeps c.requires.seated c.take-step.ensures.seated
     c.take-step.ensures.last a.1 a.2.same a.3 (c.take-step.ensures.meaning X answers w.prompt w.waits w.pieces w.traces)

@@ -3,7 +3,7 @@ use Rattle.paw_base.specs.declared.limits.TheConstants.{EVENT_LIMIT}
 use Rattle.paw_routines.specs.Routines.{AreAnswersOf, HaveAnswers}
 use Rattle.paw_reading.specs.Turn.{reading}
 use Rattle.paw_play.specs.Walk.{Walks}
-use Rattle.paw_play.specs.inner.ShowSteps.{with_shown_steps, KeepsShown}
+use Rattle.paw_play.specs.inner.ShowSteps.{with_shown_steps, NotesShown}
 use Rattle.paw_play.specs.inner.OnTheWay.{IsWalking}
 use Rattle.paw_play.proofs.Walking.{walk_starts}
 use Rattle.paw_journal.proofs.Serving.{serves_then}
@@ -21,7 +21,7 @@ walk_lines-requires-clause-answers g c =
 pub returns-in-Some-clause-walks : goal.returns-in-Some-clause-walks
 returns-in-Some-clause-walks g c = λ tells X answers.
     let own = subst (λ r. AreAnswersOf g.F.Fn r X) (sym c.in-Ok-player.ensures.routines) answers in
-    let keeps = subst (KeepsShown g.P.Preface.showing) (sym c.start-step.ensures.most) c.in-Ok-player.ensures.keeps in
+    let keeps = subst (NotesShown g.P.Preface.showing) (sym c.start-step.ensures.most) c.in-Ok-player.ensures.keeps in
     subst (λ k. Walks (with_shown_steps g.P.Preface.showing (reading (story_of k X) c.args.seed)) EVENT_LIMIT (g.S.Stage.standing c.args.stage.now)
     (g.S.Stage.standing c.show_step.new.stage) c.in-Some.end) c.in-Ok-player.ensures.game
     (walk_starts g.P.Preface.showing (story_of c.in-Ok-player.player.game X) c.args.seed EVENT_LIMIT _ _ c.in-Ok-player.player
@@ -34,7 +34,7 @@ returns-clause-walks g c = λ tells X answers.
     let story = story_of c.in-Ok-player.player.game X in
     let old = g.S.Stage.standing c.args.stage.now in
     let own = subst (λ r. AreAnswersOf g.F.Fn r X) (sym c.in-Ok-player.ensures.routines) answers in
-    let keeps = subst (KeepsShown g.P.Preface.showing) (sym c.start-step.ensures.most) c.in-Ok-player.ensures.keeps in
+    let keeps = subst (NotesShown g.P.Preface.showing) (sym c.start-step.ensures.most) c.in-Ok-player.ensures.keeps in
     let later = subst (λ r. AreAnswersOf g.F.Fn r X) (sym (c.start-step.ensures.routines ∙ c.in-Ok-player.ensures.routines)) answers in
     let walking = walk_starts showing story c.args.seed EVENT_LIMIT _ _ c.in-Ok-player.player c.start-step.new.self c.start-step.result
     None c.in-Ok-player.ensures.new keeps c.start-step.ensures.seated

@@ -1,0 +1,28 @@
+use Rattle.std.proofs.Common.{◌∙◌, subst}
+use Rattle.paw_stage.specs.Stage.{Standing}
+use Rattle.paw_journal.specs.Session.{Digests, Recovered}
+use Rattle.paw_journal.specs.inner.Session.{digests_of}
+use Rattle.paw_journal.specs.inner.Store.{InStore, CrashLeavesSuch, IsUnmadeOr}
+use Rattle.paw_journal.proofs.Calls.{writes_weaker}
+use Rattle.paw_play.proofs.States.{shown_as}
+use Rattle.paw_play.proofs.Written.{made_same}
+use Rattle.paw_play.proofs.line.make.Goals as goal
+
+pub create-requires-clause-rests : goal.create-requires-clause-rests
+create-requires-clause-rests g c = λ tells. (c.requires.attached tells).rests
+
+pub create-requires-clause-attached : goal.create-requires-clause-attached
+create-requires-clause-attached g c = λ tells. (c.requires.attached tells).long
+
+pub returns-clause-call : goal.returns-clause-call
+returns-clause-call g c =
+    let old : Standing = g.S.Stage.standing c.args.stage.now in
+    let whose : Digests = digests_of c.args.game.now c.args.rules.now in
+    let same = shown_as whose c.put_state.ensures.state c.piece.ensures.value in
+    writes_weaker c.create.ensures.call
+    (λ tells done. record {
+      exact = done.exact ∙ made_same whose _ _ _ _ c.put_state.ensures.base c.piece.ensures.value;
+      shown = done.shown ∙ same;
+      digests = done.digests;
+    })
+    (λ tells m. subst (λ (x : Recovered). InStore old (CrashLeavesSuch (IsUnmadeOr x)) m) same)

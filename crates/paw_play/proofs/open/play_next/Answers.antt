@@ -1,0 +1,33 @@
+use Rattle.paw_turn.specs.inner.Player.{IsStanding}
+use Rattle.std.proofs.Common.{sym, subst, arith}
+use Rattle.paw_routines.specs.Routines.{HaveAnswers}
+use Rattle.paw_turn.specs.inner.Parts.{prompt_at}
+use Rattle.paw_play.proofs.Opened.{over_stops, full_stops, next_played}
+use Rattle.paw_play.proofs.ShownSteps.{may_if_none}
+use Rattle.paw_play.proofs.open.play_next.Goals as goal
+
+pub returns-then-is_over-clause-meaning : goal.returns-then-is_over-clause-meaning
+returns-then-is_over-clause-meaning g c = λ X answers whole taken earlier piece h. over_stops h c.args.events c.args.line.now c.if-is_over.ensures.cases
+
+pub returns-then-events-ge-EVENT_LIMIT-clause-meaning : goal.returns-then-events-ge-EVENT_LIMIT-clause-meaning
+returns-then-events-ge-EVENT_LIMIT-clause-meaning g c = λ X answers whole taken earlier piece h.
+    full_stops h c.args.events c.args.line.now (prompt_at c.args.player.now.last) c.if-is_over.ensures.cases c.requires.may.seated
+    (omega (arith, c.if-events-ge-EVENT_LIMIT.true))
+
+pub returns-clause-may : goal.returns-clause-may
+returns-clause-may g c =
+    may_if_none c.take-step.result c.end_without_piece.result c.end_without_piece.ensures.value
+    (λ stands. record {
+      seated = c.take-step.ensures.seated;
+      answers = subst (HaveAnswers g.F.Fn) (sym c.take-step.ensures.routines) c.requires.may.answers;
+      standing = subst IsStanding (sym c.take-step.ensures.last) stands;
+      drew = omega (arith, c.requires.may.drew, c.take-step.ensures.draws);
+      few = omega (arith, c.if-events-ge-EVENT_LIMIT.false);
+    })
+
+pub returns-clause-meaning : goal.returns-clause-meaning
+returns-clause-meaning g c = λ X answers whole taken earlier piece h.
+    next_played h (prompt_at c.args.player.now.last) c.if-is_over.ensures.cases c.requires.may.seated c.args.events (omega (arith, c.if-events-ge-EVENT_LIMIT.false))
+    c.args.line.now c.take-step.result c.take-step.new.self c.take-step.ensures.last c.take-step.ensures.seated
+    (c.take-step.ensures.meaning X answers (prompt_at c.args.player.now.last) c.if-is_over.ensures.cases h.pieces h.traces)
+    c.end_without_piece.result c.end_without_piece.ensures.value

@@ -1,0 +1,102 @@
+use Rattle.std.proofs.Common.{◌≡◌, refl, sym, subst}
+use Rattle.std.specs.Prelude.{Result, Ok, Err, IsOk, Option}
+use Rattle.paw_game.specs.Game.{GameLists}
+use Rattle.paw_stage.specs.Stage.{Standing}
+use Rattle.paw_stage.specs.declared.StageCall.{StageCall}
+use Rattle.paw_effects.specs.Story.{Story, story_of}
+use Rattle.paw_turn.specs.inner.Parts.{Fits}
+use Rattle.paw_journal.specs.Session.{recover, kept_digests}
+use Rattle.paw_journal.specs.inner.Session.{session_shown}
+use Rattle.paw_journal.specs.inner.Calls.{ReadsStore}
+use Rattle.paw_state.specs.declared.StateFault.{StateFault}
+use Rattle.paw_state.specs.declared.parts.Restored.{Restored}
+use Rattle.paw_state.specs.Fit.{Fit, Unfit}
+use Rattle.paw_state.specs.inner.Fit.{IsRead, state_read}
+use Rattle.paw_play.specs.Session.{IsOfStory}
+use Rattle.paw_play.proofs.Showing.{read_fits}
+use Rattle.paw_play.proofs.Reopening.{read_shows, state_open, seat_may, of_story, refused_story, resumes_none, end_names, not_for_call, stays_at}
+use Rattle.paw_play.proofs.open.resume.Goals as goal
+
+not_ok : (r : Result Restored StateFault) (e : StateFault) → r ≡ Err e → IsOk r → ⊥
+not_ok (Ok x) e is h = cc
+not_ok (Err f) e is h = cc
+
+pub find-requires-clause-rests : goal.find-requires-clause-rests
+find-requires-clause-rests g c = λ tells. (c.requires.attached tells).rests
+
+pub find-requires-clause-attached : goal.find-requires-clause-attached
+find-requires-clause-attached g c = λ tells. (c.requires.attached tells).long
+
+pub returns-in-Err-clause-reads : goal.returns-in-Err-clause-reads
+returns-in-Err-clause-reads g c =
+    rw c.not_found.ensures.value
+    (subst (λ (f : Option StageCall). ReadsStore g.S.Stage f c.args.stage.now c.find.new.stage) (sym (end_names c.in-Err.refusal)) c.in-Err.ensures.call)
+
+pub returns-in-Err-clause-refused : goal.returns-in-Err-clause-refused
+returns-in-Err-clause-refused g c = rw c.not_found.ensures.value (not_for_call c.in-Err.refusal)
+
+pub returns-in-Err-clause-meaning : goal.returns-in-Err-clause-meaning
+returns-in-Err-clause-meaning g c = λ tells X answers.
+    let story : Story = story_of c.args.player.now.game X in
+    let own = c.requires.player.digests in
+    rw c.not_found.ensures.value
+    (resumes_none story (g.S.Stage.standing c.args.stage.now).disk.bytes c.args.player.now c.find.new.room.piece c.in-Err.refusal
+    (refused_story story c.args.game.now c.args.rules.now _ c.in-Err.refusal own.digest (own.measured X answers) (c.in-Err.ensures.refused tells))
+    c.in-Err.ensures.call.serves.among)
+
+pub returns-in-Err-read_state-clause-meaning : goal.returns-in-Err-read_state-clause-meaning
+returns-in-Err-read_state-clause-meaning g c = λ tells X answers.
+    let story : Story = story_of c.args.player.now.game X in
+    let own = c.requires.player.digests in
+    let still = c.in-Ok.ensures.call.still tells in
+    let kept = c.in-Ok.ensures.kept tells in
+    let fault = c.in-Err-read_state.fault in (
+      subst (λ (q : Standing). IsOfStory story (kept_digests q.disk.bytes)) still
+          (of_story story c.args.game.now c.args.rules.now (g.S.Stage.standing c.find.new.stage).disk.bytes own.digest (own.measured X answers) (c.in-Ok.ensures.belongs tells)),
+      c.find.new.room.state,
+      c.find.new.room.piece,
+      subst (λ (q : Standing). recover q.disk.bytes ≡ session_shown (kept_digests q.disk.bytes) c.find.new.room.state c.find.new.room.piece) still kept.shown,
+      λ fit. not_ok (Err fault) fault refl (c.in-Err-read_state.ensures.fit.1
+          (subst (λ (h : GameLists). Fit h c.state.result.now) c.requires.same (subst (Fit c.args.player.now.game) (sym c.state.ensures.value) fit))),
+      subst (λ b. Unfit c.args.player.now.game b fault.at) c.state.ensures.value
+          (subst (λ (h : GameLists). Unfit h c.state.result.now fault.at) (sym c.requires.same) c.in-Err-read_state.ensures.fault),
+    )
+
+pub seat-requires-clause-fits : goal.seat-requires-clause-fits
+seat-requires-clause-fits g c =
+    let r = c.in-Ok-read_state.restored in
+    subst (λ (h : GameLists). Fits h r.world r.machine r.pending r.prompt) (sym c.requires.same)
+    (read_fits (g.T.Tables.game c.args.tables.now) c.state.result.now r c.in-Ok-read_state.ensures.read)
+
+pub returns-clause-stays : goal.returns-clause-stays
+returns-clause-stays g c = stays_at _ _ _ _ c.args.player.now c.seat.new.player c.seat.ensures.seated c.seat.ensures.value
+
+pub returns-clause-may : goal.returns-clause-may
+returns-clause-may g c =
+    let r = c.in-Ok-read_state.restored in
+    let read = subst (λ (h : GameLists). IsRead h c.state.result.now r) (sym c.requires.same) c.in-Ok-read_state.ensures.read in
+    seat_may (story_of c.args.player.now.game (c.requires.player.answers).0) r c.args.player.now.routines c.seat.new.player c.seat.ensures.value g.F.Fn
+    c.seat.ensures.seated c.requires.player.answers read.valid
+
+pub returns-clause-meaning : goal.returns-clause-meaning
+returns-clause-meaning g c = λ tells X answers.
+    let story : Story = story_of c.args.player.now.game X in
+    let own = c.requires.player.digests in
+    let old : Standing = g.S.Stage.standing c.args.stage.now in
+    let state = c.find.new.room.state in
+    let piece = c.find.new.room.piece in
+    let r = c.in-Ok-read_state.restored in
+    let still = c.in-Ok.ensures.call.still tells in
+    let shown = subst (λ (q : Standing). recover q.disk.bytes ≡ session_shown (kept_digests q.disk.bytes) state piece) still
+    (c.in-Ok.ensures.kept tells).shown in
+    let read = subst (λ (h : GameLists). IsRead h c.state.result.now r) (sym c.requires.same) c.in-Ok-read_state.ensures.read in
+    let shows = read_shows c.args.player.now.game (kept_digests old.disk.bytes) old.disk.bytes state c.state.result.now piece r shown
+    c.state.ensures.value read in (
+      subst (λ (q : Standing). IsOfStory story (kept_digests q.disk.bytes)) still
+          (of_story story c.args.game.now c.args.rules.now (g.S.Stage.standing c.find.new.stage).disk.bytes own.digest (own.measured X answers) (c.in-Ok.ensures.belongs tells)),
+      state_read r,
+      shows,
+      refl,
+      λ name. state_open story r c.args.player.now.routines c.seat.new.player c.seat.ensures.value old.disk.bytes name piece
+          c.requires.player.seated.valid shows,
+    )
