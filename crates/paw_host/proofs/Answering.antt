@@ -12,7 +12,7 @@ use Rattle.paw_stage.specs.Stage.{Standing}
 use Rattle.paw_journal.specs.Session.{IsUnmade, recover}
 use Rattle.paw_journal.specs.inner.Store.{ChangesStoreOnly}
 use Rattle.paw_play.specs.Stands.{Stands}
-use Rattle.paw_host.specs.Replies.{NamedSession, Absent, At, Refused, Answer, gone_on, begun_answer, begun_with_text}
+use Rattle.paw_host.specs.Replies.{NamedSession, Absent, At, From, Refused, Answer, gone_on, begun_answer, begun_with_text}
 use Rattle.paw_host.specs.Replies.{answer_taking, answer, is_over}
 use Rattle.paw_host.specs.Promise.{Stores, LeftOfMaking}
 use Rattle.paw_host.specs.inner.Answers.{Answers, InFile, LeftOf, LeftOfBeginning, StoresEither}
@@ -29,6 +29,7 @@ with_absent : (g : Story) (text : Option Text) (body : Text) (s : NamedSession) 
 with_absent g None body s e = refl
 with_absent g (Some text) body Absent e = refl
 with_absent g (Some text) body (At seed es) e = cc
+with_absent g (Some text) body (From st piece) e = cc
 with_absent g (Some text) body (Refused bytes) e = refl
 
 -- The game isn't begun.
@@ -55,8 +56,9 @@ begun_takes g seed text at = answer_absent g seed (Some text) ∙ ap (begun_with
 
 -- It is, and takes a text.
 pub begun_then : (g : Story) (seed : Seed) (text before mid after bytes : Bytes) → (begun_answer g seed).session ≡ At seed [] →
-    mid ≡ before ++ (begun_answer g seed).body → Answers g (answer_taking g seed [] text) mid after bytes →
+    mid ≡ before ++ (begun_answer g seed).body → Answers g (answer g seed (At seed []) (Some text)) mid after bytes →
     Answers g (answer g seed Absent (Some text)) before after bytes
+unfolding answer
 begun_then g seed text before mid after bytes at grown a = rw (begun_takes g seed text at) (record {
   body = a.body ∙ ap (λ x. x ++ (answer_taking g seed [] text).body) grown ∙ append_assoc before (begun_answer g seed).body (answer_taking g seed [] text).body;
   stores = a.stores;
@@ -117,10 +119,15 @@ in_file_from Left old mid m b i = record {
   disk = i.disk;
 }
 
+left_taking : (g : Story) (seed : Seed) (text : Text) (bytes : Bytes) → Stores g (answer g seed (At seed []) (Some text)).session bytes →
+    Stores g (answer_taking g seed [] text).session bytes
+unfolding answer
+left_taking g seed text bytes h = h
+
 -- While it takes a text.
 pub in_new_taking : (g : Story) (seed : Seed) (text : Text) (old mid : Standing) (m : Standing) → (begun_answer g seed).session ≡ At seed [] →
     ChangesStoreOnly old mid →
-    InFile (StoresEither g (At seed []) (answer_taking g seed [] text).session) mid m →
+    InFile (StoresEither g (At seed []) (answer g seed (At seed []) (Some text)).session) mid m →
     InFile (LeftOf g seed Absent (answer g seed Absent (Some text)).session) old m
 in_new_taking g seed text old mid m at b i = in_file_from (LeftOf g seed Absent (answer g seed Absent (Some text)).session) old mid m b (record {
   asked = i.asked;
@@ -129,6 +136,6 @@ in_new_taking g seed text old mid m at b i = in_file_from (LeftOf g seed Absent 
   files = i.files;
   disk = λ left may. elim (i.disk left may) [
     | inl e ↦ let o = answer_at g seed (Some text) at in inr (inr (making_by g seed (answer g seed Absent (Some text)).session o.0 left o.1 (inr e)))
-    | inr h ↦ inr (inl (subst (λ (a : Answer). Stores g a.session left) (sym (begun_takes g seed text at)) h))
+    | inr h ↦ inr (inl (subst (λ (a : Answer). Stores g a.session left) (sym (begun_takes g seed text at)) (left_taking g seed text left h)))
   ];
 })

@@ -1,5 +1,5 @@
 -- Sessions stay such as may be, whatever is asked of them.
-use Rattle.std.proofs.Common.{◌≡◌, inl, inr, ℕ, ◌<◌, ◌^◌, [], ◌∷◌, ◌++◌, refl, sym, subst, true, false, Bool}
+use Rattle.std.proofs.Common.{◌≡◌, inl, inr, ℕ, ◌+◌, ◌<◌, ◌^◌, [], ◌∷◌, ◌++◌, refl, sym, subst, true, false, Bool}
 use Rattle.std.proofs.Common.{length, nat_le, Option, Some, None}
 use Rattle.std.specs.Prelude.{codes, if◌then◌else◌}
 use Rattle.std.proofs.lemmas.List.Elements.{All-append, All-cons, All-nil}
@@ -9,9 +9,11 @@ use Rattle.paw_effects.specs.Story.{Story}
 use Rattle.paw_reading.specs.Bounds.{IsLine, ValidStory}
 use Rattle.paw_reading.specs.declared.halt.Halt.TheVariants as halt
 use Rattle.paw_reading.specs.Turn.{Ending, WaitsAt, Halted, Unended, reading}
+use Rattle.paw_state.specs.State.{State}
+use Rattle.paw_play.specs.Played.{going_on}
 use Rattle.paw_play.specs.Stands.{IsPlayedWith}
 use Rattle.paw_host.specs.Names.{Request, is_name}
-use Rattle.paw_host.specs.Replies.{NamedSession, Absent, At, Refused, Sessions, gone_on, begun_answer, begun_with_text}
+use Rattle.paw_host.specs.Replies.{NamedSession, Absent, At, From, Refused, Sessions, from_end, gone_on, begun_answer, begun_with_text}
 use Rattle.paw_host.specs.Replies.{answer_taking, answer, is_over}
 use Rattle.paw_host.specs.Replies.{sessions_with}
 use Rattle.paw_host.specs.Promise.{MayBe}
@@ -46,10 +48,23 @@ taken_may : (g : Story) (own : ℕ) (es : Lines) (text : Text) → IsPlayedWith 
 taken_may g own es text p l =
     taken_may_by g own es text (reading g own (es ++ text ∷ [])) (is_over (reading g own es)) (nat_le EVENT_LIMIT (length es)) p (one_more g own es text p l)
 
+end_may : (g : Story) (n : ℕ) (e : Ending) → MayBe g (from_end n e)
+end_may g n (WaitsAt p path r) = tt
+end_may g n (Halted halt r) = tt
+end_may g n Unended = tt
+
+from_may : (g : Story) (st : State) (piece : Text) (e : Ending) (over full : Bool) →
+    MayBe g (if over then record { body = codes "over"; session = From st piece } else if full then record { body = codes "full"; session = From st piece }
+    else gone_on (From st piece) (from_end (st.events + 1) e) e).session
+from_may g st piece e true full = tt
+from_may g st piece e false true = tt
+from_may g st piece e false false = gone_may g (From st piece) (from_end (st.events + 1) e) e tt (end_may g (st.events + 1) e)
+
 begun_may : (g : Story) (text : Option Text) (body : Text) (s : NamedSession) → MayBe g s → IfLine text → MayBe g (begun_with_text g text body s).session
 begun_may g None body s p l = p
 begun_may g (Some text) body Absent p l = tt
 begun_may g (Some text) body (At own es) p l = taken_may g own es text p l
+begun_may g (Some text) body (From st piece) p l = tt
 begun_may g (Some text) body (Refused bytes) p l = tt
 
 -- What a session becomes that may be.
@@ -61,6 +76,9 @@ answer_may g seed Absent text valid small l p =
     (gone_may g Absent (At seed []) (reading g seed []) tt (record { valid = valid; fits = small; lines = All-nil IsLine })) l
 answer_may g seed (At own es) None valid small l p = p
 answer_may g seed (At own es) (Some text) valid small l p = taken_may g own es text p l
+answer_may g seed (From st piece) None valid small l p = tt
+answer_may g seed (From st piece) (Some text) valid small l p =
+    from_may g st piece (going_on g st piece (text ∷ [])) (is_over (going_on g st piece [])) (nat_le EVENT_LIMIT st.events)
 answer_may g seed (Refused bytes) text valid small l p = tt
 
 -- What all sessions become.

@@ -11,9 +11,10 @@ use Rattle.paw_stage.specs.Stage.{file_bytes}
 use Rattle.paw_stage.specs.Stage.{Standing}
 use Rattle.paw_journal.specs.Session.{IsUnmade, recover}
 use Rattle.paw_host.specs.Names.{request_of, is_name, store_name}
-use Rattle.paw_host.specs.Replies.{NamedSession, Absent, At, Refused, Sessions, sessions_with, sessions_after}
+use Rattle.paw_host.specs.Replies.{NamedSession, Absent, At, From, Refused, Sessions, sessions_with, sessions_after}
 use Rattle.paw_host.specs.Promise.{Stores, MayBe, EachLeft, LeftOfMaking, IsUpToDate}
 use Rattle.paw_host.specs.Laws.{before_last, AfterCrash, as_before, as_after, at_no_lines, half_made, MayBeBegunAgain}
+use Rattle.paw_host.specs.Laws.{NoFileIsLeftOut}
 use Rattle.paw_host.specs.inner.Lines.{AllMay}
 use Rattle.paw_host.proofs.Continuing.{all_may}
 use Rattle.paw_host.proofs.Hosting.{asks_line}
@@ -58,7 +59,9 @@ in_making g seed Absent (At own lines) bytes valid small (inr h) =
     (At seed [], (record { valid = valid; fits = small; lines = All-nil IsLine }, h, at_no_lines refl tt))
 in_making g seed Absent Absent bytes valid small h = absurd h
 in_making g seed Absent (Refused kept) bytes valid small h = absurd h
+in_making g seed Absent (From st piece) bytes valid small h = absurd h
 in_making g seed (At own lines) after bytes valid small h = absurd h
+in_making g seed (From st piece) after bytes valid small h = absurd h
 in_making g seed (Refused kept) after bytes valid small h = absurd h
 
 found : (g : Story) (seed : Seed) (before after : NamedSession) (bytes : Bytes) (Attached : Type 0) → ValidStory g → seed < 2 ^ 64 → MayBe g before →
@@ -101,3 +104,17 @@ may_be_begun_again g seed first old next m valid small b i left lines =
     each : (name : Name) → is_name name ≡ true → Found g seed (before name) (after name) (file_bytes next (store_name name)) (again name)
     each name is = chosen_is (is_name name) (λ t. (one name t).0) (Found g seed (before name) (after name) (file_bytes next (store_name name)))
         (λ t. (one name t).1) is
+
+-- ---- any file ----
+
+pub no_file_is_left_out : NoFileIsLeftOut
+no_file_is_left_out g [] none = none Absent tt refl
+no_file_is_left_out g (b ∷ bytes) none =
+    none (Refused (b ∷ bytes)) tt (
+      refl,
+      (
+        λ e. cc,
+        λ some. none (From some.state some.piece) tt
+            (record { digests = some.digests; belongs = some.belongs; shows = some.shows }),
+      ),
+    )

@@ -1,5 +1,6 @@
 pub mod Sitting
 pub mod Staying
+pub mod FromStates
 pub mod Opening
 pub mod Named
 pub mod Reaching

@@ -1,6 +1,6 @@
 -- Sessions that are begun, and sessions that are taken up.
-use Rattle.std.proofs.Common.{◌≡◌, ◌≢◌, inl, inr, [], ◌∷◌, ◌++◌, refl, sym, ap, ◌∙◌, subst}
-use Rattle.std.proofs.Common.{true, take, length, arith}
+use Rattle.std.proofs.Common.{◌≡◌, ◌≢◌, inl, inr, ℕ, ◌+◌, [], ◌∷◌, ◌++◌, refl, sym, ap, ◌∙◌, subst}
+use Rattle.std.proofs.Common.{true, take, length, length-append, arith}
 use Rattle.std.proofs.Common.{Some, codes}
 use Rattle.std.proofs.lemmas.List.{append-nil, take_all}
 use Rattle.std.specs.Prelude.{reverse}
@@ -9,12 +9,16 @@ use Rattle.paw_base.specs.declared.limits.TheConstants.{PIECE_LIMIT}
 use Rattle.sha2.specs.Sha256.{sha256}
 use Rattle.paw_game.specs.Game.{GameLists}
 use Rattle.paw_game.specs.Image.{image}
+use Rattle.paw_game.specs.Valid.{Valid}
 use Rattle.paw_stage.specs.Stage.{Standing}
 use Rattle.paw_effects.specs.Story.{Story}
 use Rattle.paw_effects.specs.declared.act.Prompt.{Prompt}
 use Rattle.paw_effects.specs.declared.act.Prompt.TheVariants as prompt
 use Rattle.paw_reading.specs.declared.halt.Halt.TheVariants as halt
-use Rattle.paw_reading.specs.Turn.{reading, going_on_from, pieces_of}
+use Rattle.paw_reading.specs.Run.{Run}
+use Rattle.paw_reading.specs.Turn.{Halted, reading, going_on_from}
+use Rattle.paw_reading.specs.inner.Pieces.{Counted}
+use Rattle.paw_reading.proofs.Counts.{pieces_of_lines}
 use Rattle.paw_process.specs.inner.OpenTables.{only_counting}
 use Rattle.paw_turn.specs.inner.Player.{PlayerView, run_at, PlaysTo, IsSeated, StandsClosed}
 use Rattle.paw_turn.specs.inner.Parts.{seat_at, prompt_step}
@@ -32,11 +36,11 @@ use Rattle.paw_journal.specs.declared.refusal.JournalRefusal.{JournalRefusal}
 use Rattle.paw_journal.specs.declared.refusal.JournalRefusal.TheVariants as refusal
 use Rattle.paw_state.specs.State.{State, state_bytes}
 use Rattle.paw_state.specs.Fit.{Fit}
-use Rattle.paw_state.specs.State.{last_piece}
+use Rattle.paw_state.proofs.Lawful.{bytes_give_the_state}
 use Rattle.paw_state.specs.declared.parts.Restored.{Restored}
 use Rattle.paw_state.specs.inner.Fit.{IsRead, state_read}
 use Rattle.paw_play.specs.Session.{story_digests, IsOfStory, kept_bytes, IsKept}
-use Rattle.paw_play.specs.Stands.{Stands, IsPlayedWith}
+use Rattle.paw_play.specs.Stands.{Stands}
 use Rattle.paw_play.specs.Played.{ShowsState, going_on}
 use Rattle.paw_play.specs.Laws.{ShowsSome}
 use Rattle.paw_turn.specs.inner.Player.{IsStanding}
@@ -44,17 +48,23 @@ use Rattle.paw_play.specs.inner.OnTheWay.{seat_state}
 use Rattle.paw_play.proofs.Kept.{step_kept}
 use Rattle.paw_play.proofs.Resuming.{goes_on_from}
 use Rattle.paw_play.proofs.Standing.{standing_goes_on}
-use Rattle.paw_host.specs.Replies.{Absent, At, Answer, begun_answer, is_over}
-use Rattle.paw_host.specs.inner.Answers.{SitsAt, refusal_word_of, InFile, LeftOfBeginning}
+use Rattle.paw_host.specs.Replies.{NamedSession, Absent, At, From, Refused, Answer, begun_answer, is_over}
+use Rattle.paw_host.specs.Promise.{MayBe, Stores}
+use Rattle.paw_host.specs.inner.Answers.{TakesTexts, Sits, piece_of, refusal_word_of, InFile, LeftOfBeginning}
+use Rattle.paw_host.proofs.Reaching.{not_shown, unmade}
 use Rattle.paw_host.proofs.Sitting.{kept_gone, same_digests, same_piece, same_halt}
 
 -- ---- the piece before the first line ----
 
 sits_by : {F : Type 0} (g : Story) (seed : Seed) (found : Step) (next : PlayerView F) → next.last ≡ found →
-    PlaysTo g (reading g seed) found next [] [] → IsStanding found → SitsAt g seed [] next
+    PlaysTo g (reading g seed) found next [] [] → IsStanding found → Sits g (At seed []) next 0
 sits_by g seed (step.Waits p) next is plays shows = record {
+  open_yet = tt;
+  taken = refl;
   whole = reading g seed;
+  from = tt;
   follows = inl (λ fs. refl);
+  so_far = refl;
   pieces = next.piece ∷ [];
   traces = plays.0 ∷ [];
   waits = λ q e fs.
@@ -64,8 +74,12 @@ sits_by g seed (step.Waits p) next is plays shows = record {
   over = λ e. let same : step.Waits p ≡ step.Ended = sym is ∙ e in cc;
 }
 sits_by g seed step.Ended next is plays shows = record {
+  open_yet = tt;
+  taken = refl;
   whole = reading g seed;
+  from = tt;
   follows = inl (λ fs. refl);
+  so_far = refl;
   pieces = [];
   traces = [];
   waits = λ q e fs. let same : step.Ended ≡ step.Waits q = sym is ∙ e in cc;
@@ -76,7 +90,7 @@ sits_by g seed (step.TooDeep table) next is plays shows = absurd shows
 
 module _ {F : Type 0} (g : Story) (seed : Seed) (found : Step) (next : PlayerView F) (is : next.last ≡ found) (seated : IsSeated next)
     (plays : PlaysTo g (reading g seed) found next [] []) where
-  pub sits : IsStanding found → SitsAt g seed [] next
+  pub sits : IsStanding found → Sits g (At seed []) next 0
   sits shows = sits_by g seed found next is plays shows
 
   first_kept : (digests : Digests) → IsStanding found → IsKept digests 0 (reading g seed []) (Shown digests (seat_state 0 next) next.piece)
@@ -135,6 +149,15 @@ pub read_shows : (g : GameLists) (digests : Digests) (bytes buffer piece : Bytes
 read_shows g digests bytes buffer piece r shown read =
     record { valid = read.valid; fits = read.fits; shown = shows_kept digests bytes buffer piece (state_read r) shown read.are }
 
+same_bytes : (d : Digests) (s p : Bytes) (e : Digests) (t q : Bytes) → Shown d s p ≡ Shown e t q → s ≡ t
+same_bytes d s p e t q h = cc
+
+-- Bytes show one state.
+same_state : (g : GameLists) (s t : State) (d e : Digests) (bytes p q : Bytes) → Valid g → ShowsState g d bytes s p → ShowsState g e bytes t q → s ≡ t
+unfolding kept_bytes
+same_state g s t d e bytes p q valid h k =
+    bytes_give_the_state g s t valid h.valid h.fits k.valid k.fits (same_bytes _ _ _ _ _ _ (sym h.shown ∙ k.shown))
+
 over_step : (at : Prompt) → prompt_step at ≡ step.Ended → at ≡ prompt.Over
 over_step prompt.Main h = cc
 over_step prompt.Quit h = cc
@@ -149,9 +172,9 @@ waits_step prompt.Again p h = cc
 waits_step prompt.Key p h = cc
 waits_step prompt.Over p h = cc
 
-module _ {F : Type 0} (g : Story) (seed : Seed) (es : Lines) (digests : Digests) (bytes piece : Bytes) (r : Restored) (routines : Routines F)
-    (seat : PlayerView F)
-    (played : IsPlayedWith g seed es) (stands : Stands g seed es bytes) (shows : ShowsState g.game digests bytes (state_read r) piece)
+-- A player that was seated with a state sits where each session stands of which the reading goes on from there.
+module _ {F : Type 0} (g : Story) (digests : Digests) (bytes piece : Bytes) (r : Restored) (routines : Routines F) (seat : PlayerView F)
+    (valid : Valid g.game) (shows : ShowsState g.game digests bytes (state_read r) piece)
     (is : seat ≡ seat_at g.game routines r.world (only_counting r.machine) r.pending r.prompt) where
   goes : (fs : Lines) → going_on g (state_read r) piece fs ≡ going_on_from g r.prompt (reverse r.machine.frames) (run_at seat (piece ∷ []) [] fs)
   goes fs = goes_on_from g r.world r.machine r.pending r.prompt r.events r.piece piece fs
@@ -165,50 +188,83 @@ module _ {F : Type 0} (g : Story) (seed : Seed) (es : Lines) (digests : Digests)
   last_is : seat.last ≡ prompt_step r.prompt
   last_is = ap (λ (q : PlayerView F). q.last) is
 
-  on_over : r.prompt ≡ prompt.Over → is_over (reading g seed es) ≡ true
-  on_over e =
-      let since = (standing_goes_on g seed es [] bytes digests (state_read r) piece played stands shows).1 in
-      let h = same_halt (length es) (reading g seed (es ++ [])) halt.Over _
-      (sym since ∙ goes [] ∙ ap (λ q. going_on_from g q (reverse r.machine.frames) (run_at seat (piece ∷ []) [] [])) e) in
-      subst (λ l. is_over (reading g seed l) ≡ true) (append-nil es) (ap is_over h.1)
+  -- A game that is over stays so.
+  stays_over : r.prompt ≡ prompt.Over → (o : Run) × (going_on g (state_read r) piece [] ≡ Halted halt.Over o)
+  stays_over e = (
+    run_at seat (piece ∷ []) [] [],
+    goes [] ∙ ap (λ q. going_on_from g q (reverse r.machine.frames) (run_at seat (piece ∷ []) [] [])) e,
+  )
 
-  pub sits_again : SitsAt g seed es seat
-  sits_again = record {
-    whole = going_on g (state_read r) piece;
-    follows = inr (λ fs. (standing_goes_on g seed es fs bytes digests (state_read r) piece played stands shows).1);
-    pieces = piece ∷ [];
-    traces = [];
-    waits = λ p e fs.
-        let at : r.prompt ≡ p = waits_step r.prompt p (sym last_is ∙ e) in
-        goes_here fs ∙ ap (λ q. going_on_from g q (reverse seat.machine.frames) (run_at seat (piece ∷ []) [] fs)) at;
-    over = λ e. on_over (over_step r.prompt (sym last_is ∙ e));
-  }
+  waits_here : (p : Prompt) → seat.last ≡ step.Waits p → (fs : Lines) →
+      going_on g (state_read r) piece fs ≡ going_on_from g p (reverse seat.machine.frames) (run_at seat (piece ∷ []) [] fs)
+  waits_here p e fs =
+      let at : r.prompt ≡ p = waits_step r.prompt p (sym last_is ∙ e) in
+      goes_here fs ∙ ap (λ q. going_on_from g q (reverse seat.machine.frames) (run_at seat (piece ∷ []) [] fs)) at
 
-  pub counts : r.events ≡ length es
-  counts = (standing_goes_on g seed es [] bytes digests (state_read r) piece played stands shows).0
+  counted : (seed : Seed) (es fs : Lines) → Counted (length es + length fs) (reading g seed (es ++ fs))
+  counted seed es fs = subst (λ n. Counted n (reading g seed (es ++ fs))) (length-append es fs) (pieces_of_lines g seed (es ++ fs))
 
-  pub last_shown : piece ≡ last_piece (pieces_of (reading g seed es))
-  last_shown = same_piece _ _ _ _ _ _ (sym shows.shown ∙ stands.keeps.shown)
+  pub sits_again : (a : NamedSession) → MayBe g a → Stores g a bytes → TakesTexts a → Sits g a seat r.events × (piece ≡ piece_of g a)
+  sits_again (At seed es) played stands open_yet =
+      let on = λ (fs : Lines). standing_goes_on g seed es fs bytes digests (state_read r) piece played stands shows in (
+        record {
+          open_yet = tt;
+          taken = (on []).0;
+          whole = going_on g (state_read r) piece;
+          from = tt;
+          follows = inr (length es, λ fs. ((on fs).1, counted seed es fs));
+          so_far = ap (reading g seed) (sym (append-nil es));
+          pieces = piece ∷ [];
+          traces = [];
+          waits = waits_here;
+          over = λ e.
+              let o = stays_over (over_step r.prompt (sym last_is ∙ e)) in
+              let h = same_halt (length es) (reading g seed (es ++ [])) halt.Over o.0 (sym (on []).1 ∙ o.1) in
+              ap (λ l. is_over (reading g seed l)) (sym (append-nil es)) ∙ ap is_over h.1;
+        },
+        same_piece _ _ _ _ _ _ (sym shows.shown ∙ stands.keeps.shown),
+      )
+  sits_again (From st last) played stores open_yet =
+      let state : state_read r ≡ st = same_state g.game (state_read r) st digests stores.digests bytes piece last valid shows stores.shows in
+      let piece_is : piece ≡ last = same_piece _ _ _ _ _ _ (sym shows.shown ∙ stores.shows.shown) in
+      let on : (fs : Lines) → going_on g (state_read r) piece fs ≡ going_on g st last fs
+      = λ fs. ap (λ x. going_on g x piece fs) state ∙ ap (λ x. going_on g st x fs) piece_is in (
+        record {
+          open_yet = tt;
+          taken = ap (λ (x : State). x.events) state;
+          whole = going_on g (state_read r) piece;
+          from = (ap (λ (q : PlayerView F). q.world) is ∙ ap (λ (x : State). x.world) state, on);
+          follows = inl on;
+          so_far = refl;
+          pieces = piece ∷ [];
+          traces = [];
+          waits = waits_here;
+          over = λ e. let o = stays_over (over_step r.prompt (sym last_is ∙ e)) in ap is_over (sym (on []) ∙ o.1);
+        },
+        piece_is,
+      )
+  sits_again _ played stores open_yet = absurd open_yet
+
+-- Bytes that show a state are those of an open session.
+shown_open : (g : Story) (bytes : Bytes) (a : NamedSession) → ShowsSome g bytes → Stores g a bytes → TakesTexts a
+shown_open g bytes Absent some stores = absurd (not_shown (recover bytes) _ _ _ (unmade bytes stores) some.shows.shown)
+shown_open g bytes (At seed es) some stores = tt
+shown_open g bytes (From st piece) some stores = tt
+shown_open g bytes (Refused kept) some stores = absurd (stores.1.1 (subst (ShowsSome g) stores.0 some))
 
 -- A player is seated with what was read of a session of the story.
 pub taken_up : {F : Type 0} (g : Story) (digests : Digests) (bytes state buffer piece : Bytes) (r : Restored) (routines : Routines F) (seat : PlayerView F) →
+    Valid g.game →
     recover bytes ≡ session_shown digests state piece → buffer ≡ state → IsOfStory g digests → IsRead g.game buffer r →
     piece_length buffer ≡ r.piece → seat ≡ seat_at g.game routines r.world (only_counting r.machine) r.pending r.prompt →
-    ShowsSome g bytes × ((seed : Seed) (es : Lines) → IsPlayedWith g seed es → Stands g seed es bytes →
-    SitsAt g seed es seat × (r.events ≡ length es)
-    × (take PIECE_LIMIT piece ≡ last_piece (pieces_of (reading g seed es))))
-taken_up {F} g digests bytes state buffer piece r routines seat shown same belongs read told is =
+    (a : NamedSession) → MayBe g a → Stores g a bytes → Sits g a seat r.events × (take PIECE_LIMIT piece ≡ piece_of g a)
+taken_up {F} g digests bytes state buffer piece r routines seat valid shown same belongs read told is a may stores =
     let there : recover bytes ≡ session_shown digests buffer piece = subst (λ x. recover bytes ≡ session_shown digests x piece) (sym same) shown in
     let shows = read_shows g.game digests bytes buffer piece r there read in
-    let long = buffer_long bytes digests buffer piece r.piece there told read.fits.piece in (
-      record { digests = digests; belongs = belongs; state = state_read r; piece = piece; shows = shows },
-      λ seed es played stands. (
-        sits_again g seed es digests bytes piece r routines seat played stands shows is,
-        counts g seed es digests bytes piece r routines seat played stands shows is,
-        take_all PIECE_LIMIT piece (omega (arith, long, read.fits.piece))
-            ∙ last_shown g seed es digests bytes piece r routines seat played stands shows is,
-      ),
-    )
+    let some : ShowsSome g bytes = record { digests = digests; belongs = belongs; state = state_read r; piece = piece; shows = shows } in
+    let long = buffer_long bytes digests buffer piece r.piece there told read.fits.piece in
+    let k = sits_again g digests bytes piece r routines seat valid shows is a may stores (shown_open g bytes a some stores) in
+    (k.0, take_all PIECE_LIMIT piece (omega (arith, long, read.fits.piece)) ∙ k.1)
 
 -- ---- a session that is refused ----
 
@@ -217,10 +273,7 @@ is_fit : (g : GameLists) (own : Digests) (bytes : Bytes) (digests : Digests) (bu
     recover bytes ≡ Shown digests (take state_length buffer) piece → Fit g buffer
 unfolding kept_bytes
 is_fit g own bytes digests buffer piece q st shows is =
-    record { state = st; valid = shows.valid; fits = shows.fits; are = same_state _ _ _ _ _ _ (sym is ∙ shows.shown) }
-  where
-    same_state : (d : Digests) (s p : Bytes) (e : Digests) (t q : Bytes) → Shown d s p ≡ Shown e t q → s ≡ t
-    same_state d s p e t q h = cc
+    record { state = st; valid = shows.valid; fits = shows.fits; are = same_bytes _ _ _ _ _ _ (sym is ∙ shows.shown) }
 
 -- Bytes that a session can't be read of show none.
 pub unfit_shows_none : (g : Story) (digests : Digests) (bytes buffer piece : Bytes) → recover bytes ≡ session_shown digests buffer piece →

@@ -13,7 +13,7 @@ use Rattle.paw_journal.proofs.Disks.{stable_is, stable_leaves}
 use Rattle.paw_effects.specs.Story.{Story}
 use Rattle.paw_play.specs.Laws.{MayBeLeft}
 use Rattle.paw_play.proofs.Attaching.{other_file}
-use Rattle.paw_host.specs.Replies.{NamedSession, Absent, At, Refused}
+use Rattle.paw_host.specs.Replies.{NamedSession, Absent, At, From, Refused}
 use Rattle.paw_host.specs.Promise.{Stores}
 use Rattle.paw_host.specs.inner.Answers.{InFile, InAnswer, IsAside, LeftOf, StoresEither}
 
@@ -158,7 +158,7 @@ no_bytes [] h = refl
 no_bytes (b ∷ bytes) h = cc
 
 -- No bytes are no session.
-unmade : (bytes : Bytes) → bytes ≡ [] → IsUnmade (recover bytes)
+pub unmade : (bytes : Bytes) → bytes ≡ [] → IsUnmade (recover bytes)
 unfolding recover recover_by
 unmade bytes e = rw e tt
 
@@ -168,6 +168,7 @@ not_shown r d state piece h e = subst IsUnmade e h
 pub none_stored : (g : Story) (before : NamedSession) (bytes : Bytes) → bytes ≡ [] → Stores g before bytes → before ≡ Absent
 none_stored g Absent bytes e h = refl
 none_stored g (At own es) bytes e h = absurd (not_shown (recover bytes) _ _ _ (unmade bytes e) h.keeps.shown)
+none_stored g (From st piece) bytes e h = absurd (not_shown (recover bytes) _ _ _ (unmade bytes e) h.shows.shown)
 none_stored g (Refused kept) bytes e h = absurd (h.1.0 (sym h.0 ∙ e))
 
 -- An attach that failed.

@@ -1,4 +1,4 @@
--- A player that sits where the reading of some lines ended, and what a text brings there.
+-- A player that sits where a session stands, and what a text brings there.
 use Rattle.std.proofs.Common.{◌≡◌, inl, inr, ℕ, ◌+◌, ◌<◌, List, [], ◌∷◌, ◌++◌, refl, sym, ap, ◌∙◌, subst, false}
 use Rattle.std.proofs.Common.{length, length-append, arith, Some, None, codes}
 use Rattle.std.proofs.lemmas.List.{append-nil}
@@ -25,8 +25,8 @@ use Rattle.paw_play.specs.inner.OnTheWay.{seat_state}
 use Rattle.paw_play.proofs.Going.{whole_kept}
 use Rattle.paw_play.proofs.Kept.{step_kept}
 use Rattle.paw_play.proofs.Walking.{on_waits}
-use Rattle.paw_host.specs.Replies.{NamedSession, At, gone_on, answer_taking, is_over}
-use Rattle.paw_host.specs.inner.Answers.{SitsAt, refusal_word_of}
+use Rattle.paw_host.specs.Replies.{NamedSession, At, From, gone_on, unless_closed, answer, is_over}
+use Rattle.paw_host.specs.inner.Answers.{TakesTexts, Sits, ending_so_far, ending_with, lines_taken, session_with, refusal_word_of}
 
 -- ---- answers by how a reading ended ----
 
@@ -55,85 +55,79 @@ same_wait n (WaitsAt q fs s) p path r h = refl
 same_wait n (Halted halt s) p path r h = cc
 same_wait n Unended p path r h = cc
 
--- ---- where the reading of some lines ended ----
+-- ---- where a session stands ----
 
-module _ {F : Type 0} {g : Story} {seed : Seed} {es : Lines} {seat : PlayerView F} (s : SitsAt g seed es seat) where
+-- The answer of an open session to a text.
+pub open_answer : (g : Story) (seed : Seed) (a : NamedSession) (text : Text) → TakesTexts a → answer g seed a (Some text)
+    ≡ unless_closed a (ending_so_far g a) (lines_taken a) (gone_on a (session_with g a text) (ending_with g a (text ∷ [])))
+unfolding answer
+open_answer g seed (At own es) text is = refl
+open_answer g seed (From st piece) text is = refl
+open_answer g seed _ text is = absurd is
+
+module _ {F : Type 0} {g : Story} {a : NamedSession} {seat : PlayerView F} {n : ℕ} (s : Sits g a seat n) where
   -- What a session keeps of the lines that follow, it keeps of all.
-  kept_all : (digests : Digests) (n : ℕ) (fs : Lines) (r : Recovered) → IsKept digests n (s.whole fs) r → IsKept digests n (reading g seed (es ++ fs)) r
-  kept_all digests n fs r k = elim s.follows [
-    | inl e ↦ subst (λ x. IsKept digests n x r) (e fs) k
-    | inr e ↦ whole_kept digests (length es) n (length (es ++ fs)) (reading g seed (es ++ fs)) r (pieces_of_lines g seed (es ++ fs))
-        (omega (arith, length-append es fs)) (subst (λ x. IsKept digests n x r) (e fs) k)
+  kept_all : (digests : Digests) (m : ℕ) (fs : Lines) (r : Recovered) → IsKept digests m (s.whole fs) r → IsKept digests m (ending_with g a fs) r
+  kept_all digests m fs r k = elim s.follows [
+    | inl e ↦ subst (λ x. IsKept digests m x r) (e fs) k
+    | inr e ↦ whole_kept digests e.0 m (e.0 + length fs) (ending_with g a fs) r (e.1 fs).1 (omega arith) (subst (λ x. IsKept digests m x r) (e.1 fs).0 k)
   ]
 
-  halts_all : (fs : Lines) (halt : Halt) (r : Run) → s.whole fs ≡ Halted halt r → (q : Run) × (reading g seed (es ++ fs) ≡ Halted halt q)
+  halts_all : (fs : Lines) (halt : Halt) (r : Run) → s.whole fs ≡ Halted halt r → (q : Run) × (ending_with g a fs ≡ Halted halt q)
   halts_all fs halt r h = elim s.follows [
     | inl e ↦ (r, sym (e fs) ∙ h)
-    | inr e ↦ same_halt (length es) (reading g seed (es ++ fs)) halt r (sym (e fs) ∙ h)
+    | inr e ↦ same_halt e.0 (ending_with g a fs) halt r (sym (e.1 fs).0 ∙ h)
   ]
 
   -- A player that waits sits where the reading isn't over.
-  pub not_over : (p : Prompt) → seat.last ≡ step.Waits p → IsSeated seat → is_over (reading g seed es) ≡ false
+  pub not_over : (p : Prompt) → seat.last ≡ step.Waits p → IsSeated seat → is_over (ending_so_far g a) ≡ false
   not_over p last seated =
       let stands : StandsAt p seat.machine = subst (λ q. StandsClosed q seat.machine) last seated.machine in
       let waits = s.waits p last [] ∙ on_waits g p seat.machine (run_at seat s.pieces s.traces []) stands in
-      subst (λ l. is_over (reading g seed l) ≡ false) (append-nil es) (elim s.follows [
+      ap is_over s.so_far ∙ elim s.follows [
         | inl e ↦ ap is_over (sym (e []) ∙ waits)
-        | inr e ↦ same_wait (length es) (reading g seed (es ++ [])) p _ _ (sym (e []) ∙ waits)
-      ])
+        | inr e ↦ same_wait e.0 (ending_with g a []) p _ _ (sym (e.1 []).0 ∙ waits)
+      ]
 
   -- ---- a text ----
 
-  module _ (p : Prompt) (last : seat.last ≡ step.Waits p) (seated : IsSeated seat) (text : Text) (few : length es < EVENT_LIMIT) where
-    taken_is : answer_taking g seed es text ≡ gone_on (At seed es) (At seed (es ++ text ∷ [])) (reading g seed (es ++ text ∷ []))
-    taken_is = rw (not_over p last seated, lt-leb EVENT_LIMIT (length es) few) refl
+  module _ (seed : Seed) (p : Prompt) (last : seat.last ≡ step.Waits p) (seated : IsSeated seat) (text : Text) (few : lines_taken a < EVENT_LIMIT) where
+    taken_is : answer g seed a (Some text) ≡ gone_on a (session_with g a text) (ending_with g a (text ∷ []))
+    taken_is = open_answer g seed a text s.open_yet ∙ rw (not_over p last seated, lt-leb EVENT_LIMIT (lines_taken a) few) refl
 
     module _ (found : Step) (next : PlayerView F) (is : next.last ≡ found) (then_seated : IsSeated next)
         (plays : PlaysTo g
         (λ lines. going_on_from g p (reverse seat.machine.frames) (run_at seat s.pieces s.traces (text ∷ lines))) found next s.pieces s.traces) where
       -- The piece is kept.
-      pub text_kept : (digests : Digests) (events : ℕ) → IsStanding found → events ≡ length es + 1 →
-          IsKept digests events (reading g seed (es ++ text ∷ [])) (Shown digests (seat_state events next) next.piece)
-      text_kept digests events shows count =
+      pub text_kept : (digests : Digests) (events : ℕ) → IsStanding found →
+          IsKept digests events (ending_with g a (text ∷ [])) (Shown digests (seat_state events next) next.piece)
+      text_kept digests events shows =
           kept_all digests events (text ∷ []) _ (subst (λ e. IsKept digests events e (Shown digests (seat_state events next) next.piece))
           (sym (s.waits p last (text ∷ [])))
           (step_kept g digests events _ found next s.pieces s.traces shows is (subst (λ q. StandsClosed q next.machine) is then_seated.machine) plays))
 
-      pub text_answer : IsStanding found → answer_taking g seed es text ≡ record { body = next.piece; session = At seed (es ++ text ∷ []) }
+      pub text_answer : IsStanding found → answer g seed a (Some text) ≡ record { body = next.piece; session = session_with g a text }
       text_answer shows = taken_is
-          ∙ kept_gone (story_digests g) (seat_state (length es + 1) next) next.piece (length es + 1) _ _ _
-          (text_kept (story_digests g) (length es + 1) shows refl)
+          ∙ kept_gone (story_digests g) (seat_state (n + 1) next) next.piece (n + 1) _ _ _ (text_kept (story_digests g) (n + 1) shows)
 
-      pub text_stands : (digests : Digests) (bytes : Bytes) (events : ℕ) → IsOfStory g digests → IsStanding found → events ≡ length es + 1 →
-          recover bytes ≡ Shown digests (seat_state events next) next.piece → Stands g seed (es ++ text ∷ []) bytes
-      text_stands digests bytes events belongs shows count is_shown =
-          let long : length (es ++ text ∷ []) ≡ events = length-append es (text ∷ []) ∙ sym count in
-          record {
-            few = omega (arith, long, count, few);
-            digests = digests;
-            belongs = belongs;
-            keeps = rw (long, is_shown) (text_kept digests events shows count);
-          }
-
-      pub text_refused : (word : Text) → refusal_word_of found ≡ Some word → answer_taking g seed es text ≡ record { body = word; session = At seed es }
+      pub text_refused : (word : Text) → refusal_word_of found ≡ Some word → answer g seed a (Some text) ≡ record { body = word; session = a }
       text_refused word e =
           taken_is ∙ elim found as
           (λ q. PlaysTo g
           (λ lines. going_on_from g p (reverse seat.machine.frames) (run_at seat s.pieces s.traces (text ∷ lines))) q next s.pieces s.traces →
-          refusal_word_of q ≡ Some word → gone_on (At seed es) (At seed (es ++ text ∷ [])) (reading g seed (es ++ text ∷ []))
-          ≡ record { body = word; session = At seed es }) [
+          refusal_word_of q ≡ Some word → gone_on a (session_with g a text) (ending_with g a (text ∷ [])) ≡ record { body = word; session = a }) [
             | step.Waits q ↦ λ plays e. cc
             | step.Ended ↦ λ plays e. cc
             | step.Spent kind ↦ λ plays e.
                 let w : codes "spent" ≡ word = cc in
                 let r = plays.1 [] in
                 let h = halts_all (text ∷ []) (halt.Spent kind) r.0 (s.waits p last (text ∷ []) ∙ r.1) in
-                rw h.1 (ap (λ b. record { body = b; session = At seed es }) w)
+                rw h.1 (ap (λ b. record { body = b; session = a }) w)
             | step.TooDeep table ↦ λ plays e.
                 let w : codes "too deep" ≡ word = cc in
                 let r = plays.1 [] in
                 let h = halts_all (text ∷ []) (halt.TooDeep table) r.0 (s.waits p last (text ∷ []) ∙ r.1) in
-                rw h.1 (ap (λ b. record { body = b; session = At seed es }) w)
+                rw h.1 (ap (λ b. record { body = b; session = a }) w)
           ] plays e
 
 -- A step that brings no word brings a piece.

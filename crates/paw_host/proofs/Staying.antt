@@ -6,7 +6,8 @@ use Rattle.paw_game.specs.Game.{GameLists}
 use Rattle.paw_routines.specs.Routines.{HaveAnswers}
 use Rattle.paw_routines.specs.declared.routines.Routines.{Routines}
 use Rattle.paw_turn.specs.inner.Player.{PlayerView, IsSeated}
-use Rattle.paw_host.specs.inner.Seats.{AreDigestsOf, IsHosted, StaysSeated}
+use Rattle.paw_host.specs.inner.Seats.{IsHosted}
+use Rattle.paw_play.specs.inner.Open.{AreDigestsOf, StaysSeated}
 
 pub stays_same : {F : Type 0} {a : PlayerView F} → IsSeated a → StaysSeated a a
 stays_same h = record { seated = h; game = refl; routines = refl }

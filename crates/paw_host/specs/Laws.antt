@@ -14,7 +14,7 @@ use Rattle.paw_stage.specs.Stage.{Standing, file_bytes}
 use Rattle.paw_play.specs.Laws.{MayBeLeft}
 use Rattle.paw_host.specs.Names.{Request, request_of, is_name, store_name}
 use Rattle.paw_host.specs.Replies.{NamedSession, Absent, At, Refused, Sessions, answer, sessions_with, sessions_after}
-use Rattle.paw_host.specs.Promise.{BeginsWith, InHost}
+use Rattle.paw_host.specs.Promise.{BeginsWith, InHost, MayBe, Stores}
 
 -- ---- one name among others ----
 
@@ -75,6 +75,13 @@ pub record PiecesAreAnswered : Type 0 where
       session_after g seed Absent (None ∷ map Some texts) ≡ At seed texts →
       reading g seed texts ≡ WaitsAt p path r →
       answers_of g seed Absent (None ∷ map Some texts) ≡ pieces_of (reading g seed texts)
+
+-- ---- any file ----
+
+-- Whatever bytes a file has, they are those of some session that may be. So hosting may be begun over any files, and
+-- the bytes of one file take nothing from what is promised of the other names.
+abbrev pub NoFileIsLeftOut : Type 0
+NoFileIsLeftOut = (g : Story) (bytes : Bytes) → ¬ ((session : NamedSession) → MayBe g session → ¬ Stores g session bytes)
 
 -- ---- after a crash ----
 

@@ -7,24 +7,34 @@ use Rattle.paw_base.specs.Bytes.{Bytes, Lines, Name, Seed, Text}
 use Rattle.paw_effects.specs.Story.{Story}
 use Rattle.paw_effects.specs.Standing.{AreBytes}
 use Rattle.paw_stage.specs.Stage.{Standing, file_bytes}
-use Rattle.paw_journal.specs.Session.{IsUnmade, recover}
+use Rattle.paw_journal.specs.Session.{Digests, IsUnmade, recover}
+use Rattle.paw_state.specs.State.{State}
+use Rattle.paw_play.specs.Session.{IsOfStory}
+use Rattle.paw_play.specs.Played.{ShowsState}
 use Rattle.paw_play.specs.Stands.{Stands, IsPlayedWith}
 use Rattle.paw_play.specs.Laws.{ShowsSome, MayBeLeft}
 use Rattle.paw_host.specs.Names.{Request, request_of, is_name, store_name}
-use Rattle.paw_host.specs.Replies.{NamedSession, Absent, At, Refused, Sessions, replies, sessions_after}
+use Rattle.paw_host.specs.Replies.{NamedSession, Absent, At, From, Refused, Sessions, replies, sessions_after}
 
 -- A file with these bytes is refused: it isn't empty, and it shows no session of the game and its routines.
 abbrev pub IsRefused : Story → Bytes → Type 0
 IsRefused g bytes = (bytes ≢ []) × ¬ ShowsSome g bytes
 
--- What a name's file holds, by the session of the name: nothing; bytes of a store that stands for its lines; or bytes
--- that are refused.
+-- The bytes of a store hold a session of the story, which shows this state of the game and this piece.
+pub record ShowsThis (g : Story) (state : State) (piece : Text) (bytes : Bytes) : Type 0 where
+  pub digests : Digests
+  pub belongs : IsOfStory g digests
+  pub shows : ShowsState g.game digests bytes state piece
+
+-- What a name's file holds, by the session of the name: nothing; bytes of a store that stands for its lines; bytes that
+-- show the state from which it goes on, and its last piece; or bytes that are refused.
 abbrev pub Stores : Story → NamedSession → Bytes → Type 0
 Stores g Absent bytes = bytes ≡ []
 Stores g (At seed lines) bytes = Stands g seed lines bytes
+Stores g (From state piece) bytes = ShowsThis g state piece bytes
 Stores g (Refused kept) bytes = (bytes ≡ kept) × IsRefused g kept
 
--- A session is possible where the game may be played with the lines that it stands at.
+-- A session is possible where the game may be played with the lines that it stands at, if it stands at any.
 abbrev pub MayBe : Story → NamedSession → Type 0
 MayBe g (At seed lines) = IsPlayedWith g seed lines
 MayBe g _ = Unit {0}

@@ -1,20 +1,23 @@
 -- The replies to lines: what each player reads who plays through the host.
-use Rattle.std.specs.Prelude.{Bool, true, false, nat_le, [], ◌∷◌, ◌++◌, length, codes}
+use Rattle.std.specs.Prelude.{ℕ, ◌+◌, Bool, true, false, nat_le, [], ◌∷◌, ◌++◌, length, codes}
 use Rattle.std.specs.Prelude.{Option, Some, None, if◌then◌else◌}
 use Rattle.std.specs.Str.{bytes_eq}
 use Rattle.paw_base.specs.Bytes.{Bytes, Lines, Name, Seed, Text}
 use Rattle.paw_base.specs.declared.limits.TheConstants.{EVENT_LIMIT}
 use Rattle.paw_effects.specs.Story.{Story}
+use Rattle.paw_effects.specs.declared.act.Prompt.TheVariants as prompt
 use Rattle.paw_reading.specs.declared.halt.Halt.TheVariants as halt
-use Rattle.paw_reading.specs.Turn.{Ending, Halted, reading, pieces_of}
-use Rattle.paw_state.specs.State.{last_piece}
+use Rattle.paw_reading.specs.Turn.{Ending, WaitsAt, Halted, Unended, reading, pieces_of}
+use Rattle.paw_state.specs.State.{State, last_piece, state_at}
+use Rattle.paw_play.specs.Played.{going_on}
 use Rattle.paw_host.specs.Names.{Request, request_of}
 
--- The session of a name: none; one of a game that was begun with this seed and stands at these lines; or a file that is
--- refused, with these bytes.
+-- The session of a name: none; one of a game that was begun with this seed and stands at these lines; one that goes on
+-- from this state, whose last piece was this one; or a file that is refused, with these bytes.
 pub data NamedSession : Type 0 where
   Absent : NamedSession
   At : (seed : Seed) (lines : Lines) → NamedSession
+  From : (state : State) (piece : Text) → NamedSession
   Refused : (bytes : Bytes) → NamedSession
 
 -- The sessions of all names.
@@ -48,19 +51,40 @@ abbrev pub is_over : Ending → Bool
 is_over (Halted halt.Over r) = true
 is_over _ = false
 
--- The answer of a session that stands at these lines to a text. One that is over takes none, and neither does one that
--- has all the lines that a session may have.
+-- The answer of a session to a text, where its reading has ended this way so far, after this number of lines: one that is
+-- over takes none, and neither does one that has all the lines that a session may have; any other gives the last answer.
+abbrev pub unless_closed : NamedSession → Ending → ℕ → Answer → Answer
+unless_closed session e count later =
+    if is_over e then record { body = codes "over"; session = session }
+    else if nat_le EVENT_LIMIT count then record { body = codes "full"; session = session }
+    else later
+
+-- The answer of a session that stands at these lines to a text.
 abbrev pub answer_taking : Story → Seed → Lines → Text → Answer
 answer_taking g seed lines text =
-    if is_over (reading g seed lines) then record { body = codes "over"; session = At seed lines }
-    else if nat_le EVENT_LIMIT (length lines) then record { body = codes "full"; session = At seed lines }
-    else gone_on (At seed lines) (At seed (lines ++ text ∷ [])) (reading g seed (lines ++ text ∷ []))
+    unless_closed (At seed lines) (reading g seed lines) (length lines)
+    (gone_on (At seed lines) (At seed (lines ++ text ∷ [])) (reading g seed (lines ++ text ∷ [])))
 
 -- The answer of a session that stands at these lines to its name alone, which is its last piece, or to a text.
 abbrev pub session_answer : Story → Seed → Lines → Option Text → Answer
 session_answer g seed lines None =
     record { body = last_piece (pieces_of (reading g seed lines)); session = At seed lines }
 session_answer g seed lines (Some text) = answer_taking g seed lines text
+
+-- The session that goes on from where a reading ended, after this number of lines.
+abbrev pub from_end : ℕ → Ending → NamedSession
+from_end count (WaitsAt p path r) = From (state_at count p path r) (last_piece r.pieces)
+from_end count (Halted halt r) = From (state_at count prompt.Over [] r) (last_piece r.pieces)
+from_end count Unended = Absent
+
+-- The answer of a session that goes on from a state to its name alone, which is its last piece, or to a text: what going
+-- on from the state with the text brings. The session then goes on from where that ended.
+abbrev pub answer_from : Story → State → Text → Option Text → Answer
+answer_from g st piece None = record { body = piece; session = From st piece }
+answer_from g st piece (Some text) =
+    unless_closed (From st piece) (going_on g st piece []) st.events
+    (gone_on (From st piece) (from_end (st.events + 1) (going_on g st piece (text ∷ [])))
+    (going_on g st piece (text ∷ [])))
 
 -- An answer with this text put in front.
 abbrev pub with_text_before : Text → Answer → Answer
@@ -76,6 +100,7 @@ begun_with_text g _ body session = record { body = body; session = session }
 unfoldable pub answer : Story → Seed → NamedSession → Option Text → Answer
 answer g seed Absent text = begun_with_text g text (begun_answer g seed).body (begun_answer g seed).session
 answer g seed (At own lines) text = session_answer g own lines text
+answer g seed (From st piece) text = answer_from g st piece text
 answer g seed (Refused bytes) text = record { body = codes "refused"; session = Refused bytes }
 
 -- ---- all sessions ----

@@ -3,7 +3,7 @@
 ghost use Rattle.std.specs.Prelude.{◌≡◌, ◌+◌, ◌*◌, ◌<◌, ◌≤◌, [], ◌∷◌, length, take, None, Some};
 ghost use Rattle.std.specs.Prelude.{IfOk, OnOk, IfSome, IfNone, MatchOption, MatchBool};
 ghost use Rattle.std.specs.Option.{option_copied};
-ghost use Rattle.paw_base.specs.Bytes.{Lines, Seed};
+ghost use Rattle.paw_base.specs.Bytes.{Seed};
 ghost use Rattle.paw_base.specs.declared.limits.TheConstants.{EVENT_LIMIT, LINE_LIMIT, PIECE_LIMIT};
 ghost use Rattle.paw_stage.specs.Disk.{IsStable};
 ghost use Rattle.paw_stage.specs.AcrossCalls.{IfTelling};
@@ -19,16 +19,18 @@ ghost use Rattle.paw_journal.specs.Journal.{writing_calls};
 ghost use Rattle.paw_journal.specs.inner.Store.{ChangesStoreOnly};
 ghost use Rattle.paw_journal.specs.inner.Calls.{ReadsStore};
 ghost use Rattle.paw_journal.specs.inner.Journal.{IsAtRest, KeptIn, failed_stage_call};
-ghost use Rattle.paw_play.specs.Stands.{Stands};
 ghost use Rattle.paw_play.specs.inner.OnTheWay.{EachStory};
-ghost use Rattle.paw_host.specs.Replies.{NamedSession, Absent, At, answer_taking, answer};
+ghost use Rattle.paw_host.specs.Replies.{NamedSession, Absent, answer};
 ghost use Rattle.paw_host.specs.Promise.{MayBe, Stores};
-ghost use Rattle.paw_host.specs.inner.Answers.{refusal_word_of, SitsAt, Answers, BeginsTo, TakesUp};
+ghost use Rattle.paw_host.specs.inner.Answers.{refusal_word_of, Sits, Answers, BeginsStoreTo, TakesUp};
 ghost use Rattle.paw_host.specs.inner.Answers.{InFile, InAnswer, IsAside, StoresEither, LeftOf, LeftOfBeginning};
 ghost use Rattle.paw_host.specs.inner.Answers.{answer_calls, LeavesBegun};
-ghost use Rattle.paw_host.specs.inner.Seats.{AreDigestsOf, IsHosted, IsPrepared, MayTake, PlaysAnew};
-ghost use Rattle.paw_host.specs.inner.Seats.{StandsAfter, StaysSeated};
-ghost use Rattle.paw_host.specs.inner.Store.{DoneWithMoments, IsAttachedAtRest, IsAttachedStable, LeavesStage};
+ghost use Rattle.paw_host.specs.inner.Seats.{IsHosted, MayTakeText, PlaysAnew};
+ghost use Rattle.paw_play.specs.inner.Open.{AreDigestsOf, IsPrepared};
+ghost use Rattle.paw_host.specs.inner.Seats.{StandsAfter};
+ghost use Rattle.paw_play.specs.inner.Open.{StaysSeated};
+ghost use Rattle.paw_host.specs.inner.Store.{IsAttachedAtRest, IsAttachedStable, LeavesStage};
+ghost use Rattle.paw_play.specs.inner.Calls.{DoneWithMoments};
 ghost use Rattle.paw_host.specs.declared.reply.TheConstants.{REPLY_LIMIT};
 
 use crate::reply::Reply;
@@ -107,7 +109,7 @@ fn begin_session<S: Stage, T: Tables, F: Fn(u8, u8) -> u8>(
     ensures promises { IfTelling S.Stage stage.old stage.new (λ old new.
         EachStory F.Fn player.old.routines player.old.game (λ g.
         DoneWithMoments S.Stage stage.old stage.new
-        (IfOk result (BeginsTo g seed reply.old reply.new player.new new.disk.bytes))
+        (IfOk result (BeginsStoreTo g seed reply.old reply.new player.new new.disk.bytes))
         (InFile (LeftOfBeginning g seed) old))) }
 {
     let step = start_anew(player, seed);
@@ -214,7 +216,7 @@ fn take_text<S: Stage, T: Tables, F: Fn(u8, u8) -> u8>(
     opened: Opened,
     text: &[u8],
 ) -> Result<(), StageCall>
-    requires player { MayTake F.Fn opened.events player.old }
+    requires player { MayTakeText F.Fn opened.events player.old }
     requires short { length text.now ≤ LINE_LIMIT }
     requires kept { S.Tells stage.old → KeptIn opened.journal room.old (S.standing stage.old) }
     requires room { length reply.old + PIECE_LIMIT ≤ REPLY_LIMIT }
@@ -223,11 +225,11 @@ fn take_text<S: Stage, T: Tables, F: Fn(u8, u8) -> u8>(
     ensures leaves { LeavesStage S.Stage writing_calls (failed_stage_call result) ChangesStoreOnly
         (λ old new. OnOk result (IsAtRest new)) stage.old stage.new }
     ensures promises { IfTelling S.Stage stage.old stage.new (λ old new.
-        EachStory F.Fn player.old.routines player.old.game (λ g. (seed : Seed) (es : Lines) →
-        SitsAt g seed es player.old → opened.events ≡ length es → Stands g seed es old.disk.bytes →
+        EachStory F.Fn player.old.routines player.old.game (λ g. (seed : Seed) (session : NamedSession) →
+        Sits g session player.old opened.events → Stores g session old.disk.bytes →
         DoneWithMoments S.Stage stage.old stage.new
-        (OnOk result (Answers g (answer_taking g seed es text.now) reply.old reply.new new.disk.bytes))
-        (InFile (StoresEither g (At seed es) (answer_taking g seed es text.now).session) old))) }
+        (OnOk result (Answers g (answer g seed session (Some text.now)) reply.old reply.new new.disk.bytes))
+        (InFile (StoresEither g session (answer g seed session (Some text.now)).session) old))) }
 {
     if is_over(player) {
         reply.push(b"over");

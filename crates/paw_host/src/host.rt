@@ -13,7 +13,8 @@ ghost use Rattle.paw_play.specs.inner.OnTheWay.{EachStory};
 ghost use Rattle.paw_host.specs.Replies.{Sessions};
 ghost use Rattle.paw_host.specs.Promise.{BeginsWith, InHost};
 ghost use Rattle.paw_host.specs.Hosts.{Ends, Hosts, HostsFile, HostsAtEachMoment};
-ghost use Rattle.paw_host.specs.inner.Seats.{AreDigestsOf};
+ghost use Rattle.paw_host.specs.Laws.{CrashLeaves};
+ghost use Rattle.paw_play.specs.inner.Open.{AreDigestsOf};
 ghost use Rattle.paw_host.specs.declared.outcome.HostOutcome.TheVariants as outcome;
 
 use crate::answer::Hosted;
@@ -64,7 +65,7 @@ fn host_game<S: Stage, T: Tables, F: Fn(u8, u8) -> u8>(
 /// first part of it where a call failed: so what a player reads depends on the lines of that name alone. At each moment
 /// whatever a crash leaves of the file of a name is of its session before the line that is being answered or after it,
 /// and its reply is shown only once it is that after it (`InHost`). A file that is refused stays as it is. Over
-/// whatever a crash leaves, hosting may be begun again (`laws`).
+/// whatever a crash leaves, hosting may be begun again (`laws`); so it may where a call failed and no crash came.
 pub fn host<S: Stage, F: Fn(u8, u8) -> u8>(
     alloc: Global,
     stage: &mut S,
@@ -81,6 +82,9 @@ pub fn host<S: Stage, F: Fn(u8, u8) -> u8>(
     ensures moments { IfTelling S.Stage stage.old stage.new (λ old new. IfSome (asked_call words.now) (λ c.
         (X : RoutineAnswers) → AreAnswersOf F.Fn routines.now X →
         HostsAtEachMoment (EachMoment S.Stage stage.old stage.new) X c.image c.seed old)) }
+
+    // However it ends, with no crash: the files are as a crash then could have left them.
+    ensures left { IfTelling S.Stage stage.old stage.new (λ old new. CrashLeaves new new) }
 {
     let call = match call_of(words) {
         Some(call) => call,

@@ -5,7 +5,7 @@ use Rattle.paw_stage.specs.declared.Stage.{Ghosts}
 use Rattle.paw_stage.specs.declared.StageCall.{StageCall}
 use Rattle.paw_stage.specs.Disk.{IsStable}
 use Rattle.paw_stage.specs.Stage.{Standing}
-use Rattle.paw_stage.specs.AcrossCalls.{FailsOnlyBy, IfTelling, EachMoment}
+use Rattle.paw_stage.specs.AcrossCalls.{FailsOnlyBy, IfTelling}
 use Rattle.paw_journal.specs.declared.store.Attached.{Attached}
 use Rattle.paw_journal.specs.inner.Journal.{IsAtRest}
 
@@ -26,9 +26,3 @@ pub record LeavesStage {S : Type 0} (g : Ghosts S) (calls : List StageCall) (fai
   pub serves : FailsOnlyBy g calls failed old new
   pub beside : IfTelling g old new Beside
   pub left : IfTelling g old new Left
-
--- What calls promise: `Done` of what they gave, and `Inside` of each moment of them, at which a crash may come.
-pub record DoneWithMoments {S : Type 0} (g : Ghosts S) (old new : S) (Done : Type 0)
-    (Inside : Standing → Type 0) : Type 0 where
-  pub meaning : Done
-  pub any_moment : EachMoment g old new Inside

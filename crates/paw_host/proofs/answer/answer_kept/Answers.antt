@@ -1,4 +1,4 @@
-use Rattle.std.proofs.Common.{◌∙◌, sym, ap, subst, arith}
+use Rattle.std.proofs.Common.{◌∙◌, ◌++◌, sym, ap, subst, arith, Some}
 use Rattle.std.specs.Prelude.{OnOk}
 use Rattle.std.specs.Option.{option_copied}
 use Rattle.paw_game.specs.Game.{GameLists}
@@ -10,12 +10,11 @@ use Rattle.paw_journal.specs.inner.Journal.{IsAtRest, failed_stage_call}
 use Rattle.paw_journal.specs.inner.Store.{ChangesStoreOnly}
 use Rattle.paw_journal.proofs.Serving.{serves_then, serves_among}
 use Rattle.paw_effects.specs.Story.{Story, story_of}
-use Rattle.paw_play.specs.Stands.{Stands}
-use Rattle.paw_host.specs.Replies.{NamedSession, At, answer_taking, answer}
+use Rattle.paw_host.specs.Replies.{NamedSession, answer}
 use Rattle.paw_host.specs.Promise.{Stores}
-use Rattle.paw_host.specs.inner.Answers.{SitsAt, Answers, InFile, StoresEither}
+use Rattle.paw_host.specs.inner.Answers.{Sits, Answers, InFile, StoresEither}
 use Rattle.paw_host.proofs.Calls.{writes_among}
-use Rattle.paw_host.proofs.Keeping.{kept_refused, kept_told, kept_each, still_in_file}
+use Rattle.paw_host.proofs.Keeping.{kept_refused, kept_told, still_in_file}
 use Rattle.paw_host.proofs.Leaving.{leaves_read}
 use Rattle.paw_host.proofs.Staying.{stays_on}
 use Rattle.paw_host.proofs.answer.answer_kept.Goals as goal
@@ -100,43 +99,28 @@ returns-in-Some-clause-promises g c = λ tells X answers before may stores.
     let new : Standing = g.S.Stage.standing c.take_text.new.stage in
     let game = c.resume_player.ensures.stays.game in
     let own = subst (λ r. AreAnswersOf g.F.Fn r X) (sym c.resume_player.ensures.stays.routines) answers in
-    let t = rw c.in-Ok-Some.field-0-is at (c.in-Ok-Some.ensures.meaning tells X answers) in
-    let rests = (c.requires.store.rests tells).stable in
+    let u = rw c.in-Ok-Some.field-0-is at (c.in-Ok-Some.ensures.meaning tells X answers) before may stores in
+    let sits = subst (λ (h : GameLists). Sits (story_of h X) before c.resume_player.new.player c.in-Ok-Some.opened.events) (sym game) u.0 in
+    let here = subst (λ (h : GameLists). Stores (story_of h X) before mid.disk.bytes) (sym game)
+    (subst (λ (q : Standing). Stores story before q.disk.bytes) (sym (c.resume_player.ensures.reads.still tells)) stores) in
+    let taken = c.take_text.ensures.promises (c.resume_player.ensures.reads.serves.tells.0 tells) X own seed before sits here in
+    let after : NamedSession = (answer story seed before (Some text)).session in
     record {
       meaning =
           subst (λ x. OnOk c.take_text.result (Answers story (answer story seed before x) c.args.reply.now c.take_text.new.reply new.disk.bytes))
           (sym (ap option_copied c.in-Some.is))
-          (kept_each story seed old.disk.bytes (omega (arith, c.requires.some, c.requires.store.attached tells))
-          (λ b a. OnOk c.take_text.result (Answers story a c.args.reply.now c.take_text.new.reply new.disk.bytes)) before text may stores t.0
-          (λ first es played stands.
-          let u = t.1 first es played stands in
-          subst (λ (h : GameLists). OnOk c.take_text.result
-          (Answers (story_of h X) (answer_taking (story_of h X) first es text) c.args.reply.now c.take_text.new.reply new.disk.bytes)) game
-          (c.take_text.ensures.promises (c.resume_player.ensures.reads.serves.tells.0 tells) X own first es
-          (subst (λ (h : GameLists). SitsAt (story_of h X) first es c.resume_player.new.player) (sym game) u.0) u.1
-          (subst (λ (h : GameLists). Stands (story_of h X) first es mid.disk.bytes) (sym game)
-          (subst (λ (q : Standing). Stands story first es q.disk.bytes) (sym (c.resume_player.ensures.reads.still tells)) stands))).meaning));
+          (subst (λ (h : GameLists). OnOk c.take_text.result
+          (Answers (story_of h X) (answer (story_of h X) seed before (Some text)) c.args.reply.now c.take_text.new.reply new.disk.bytes)) game taken.meaning);
       any_moment =
           subst (λ x. Passes (g.S.Stage.clock c.args.stage.now) (g.S.Stage.clock c.take_text.new.stage) (g.S.Stage.since c.args.stage.now)
           (g.S.Stage.since c.take_text.new.stage) (InFile (StoresEither story before (answer story seed before x).session) old))
           (sym (ap option_copied c.in-Some.is))
-          (kept_each story seed old.disk.bytes (omega (arith, c.requires.some, c.requires.store.attached tells))
-          (λ b a. Stores story b old.disk.bytes →
-          Passes (g.S.Stage.clock c.args.stage.now) (g.S.Stage.clock c.take_text.new.stage) (g.S.Stage.since c.args.stage.now)
-          (g.S.Stage.since c.take_text.new.stage) (InFile (StoresEither story b a.session) old)) before text may stores t.0
-          (λ first es played stands here.
-          let u = t.1 first es played stands in
-          let after : NamedSession = (answer_taking story first es text).session in
-          Passes_on _ _ _ _ _ _ (InFile (StoresEither story (At first es) after) old) _
-          (Passes_map _ _ _ _ _ (InFile (StoresEither story (At first es) after) old) (c.resume_player.ensures.reads.crash tells)
-          (λ m i. still_in_file story (At first es) after old m rests here i))
-          (c.take_text.ensures.promises (c.resume_player.ensures.reads.serves.tells.0 tells) X own first es
-          (subst (λ (h : GameLists). SitsAt (story_of h X) first es c.resume_player.new.player) (sym game) u.0) u.1
-          (subst (λ (h : GameLists). Stands (story_of h X) first es mid.disk.bytes) (sym game)
-          (subst (λ (q : Standing). Stands story first es q.disk.bytes) (sym (c.resume_player.ensures.reads.still tells)) stands))).any_moment
-          (λ m i. subst (λ q. InFile (StoresEither story (At first es) after) q m) (c.resume_player.ensures.reads.still tells)
-          (subst (λ (h : GameLists). InFile (StoresEither (story_of h X) (At first es) (answer_taking (story_of h X) first es text).session) mid m) game i)))
-          stores);
+          (Passes_on _ _ _ _ _ _ (InFile (StoresEither story before after) old) _
+          (Passes_map _ _ _ _ _ (InFile (StoresEither story before after) old) (c.resume_player.ensures.reads.crash tells)
+          (λ m i. still_in_file story before after old m (c.requires.store.rests tells).stable stores i))
+          taken.any_moment
+          (λ m i. subst (λ q. InFile (StoresEither story before after) q m) (c.resume_player.ensures.reads.still tells)
+          (subst (λ (h : GameLists). InFile (StoresEither (story_of h X) before (answer (story_of h X) seed before (Some text)).session) mid m) game i)));
     }
 
 -- ---- none is ----
@@ -150,16 +134,15 @@ returns-in-None-clause-promises g c = λ tells X answers before may stores.
     let story : Story = story_of c.args.player.now.game X in
     let seed = c.args.hosted.now.seed in
     let old : Standing = g.S.Stage.standing c.args.stage.now in
-    let t = rw c.in-Ok-Some.field-0-is at (c.in-Ok-Some.ensures.meaning tells X answers) in
+    let u = rw c.in-Ok-Some.field-0-is at (c.in-Ok-Some.ensures.meaning tells X answers) before may stores in
     let after : NamedSession = (answer story c.args.hosted.now.seed before (option_copied c.args.text)).session in
     record {
       meaning =
           subst (λ (q : Standing). Answers story (answer story seed before (option_copied c.args.text)) c.args.reply.now c.push-in-None.new.self q.disk.bytes)
           (sym (c.resume_player.ensures.reads.still tells))
           (subst (λ x. Answers story (answer story seed before x) c.args.reply.now c.push-in-None.new.self old.disk.bytes) (sym (ap option_copied c.in-None.is))
-          (kept_told story seed old.disk.bytes (omega (arith, c.requires.some, c.requires.store.attached tells)) before
-          c.args.reply.now c.push-in-None.new.self c.kept_piece.result.now may stores t.0
-          (λ own es played stands. c.kept_piece.ensures.value ∙ (t.1 own es played stands).2) c.push-in-None.ensures.value));
+          (kept_told story seed before old.disk.bytes c.args.reply.now c.push-in-None.new.self u.0.open_yet stores
+          (c.push-in-None.ensures.value ∙ ap (λ x. c.args.reply.now ++ x) (c.kept_piece.ensures.value ∙ u.1))));
       any_moment =
           Passes_map _ _ _ _ _ (InFile (StoresEither story before after) old) (c.resume_player.ensures.reads.crash tells)
           (λ m i. still_in_file story before after old m (c.requires.store.rests tells).stable stores i);

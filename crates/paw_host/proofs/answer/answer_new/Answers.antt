@@ -11,8 +11,8 @@ use Rattle.paw_journal.proofs.Moved.{beside_on}
 use Rattle.paw_journal.proofs.Serving.{serves_then}
 use Rattle.paw_effects.specs.Story.{Story, story_of}
 use Rattle.paw_play.specs.Stands.{Stands}
-use Rattle.paw_host.specs.Replies.{Absent, At, answer_taking, answer}
-use Rattle.paw_host.specs.inner.Answers.{SitsAt, Answers, InFile, LeftOf, StoresEither}
+use Rattle.paw_host.specs.Replies.{Absent, At, answer}
+use Rattle.paw_host.specs.inner.Answers.{Sits, Answers, InFile, LeftOf, StoresEither}
 use Rattle.paw_host.proofs.Answering.{not_begun, just_begun, begun_then, in_new_begun, in_new_taking}
 use Rattle.paw_host.proofs.Reaching.{no_bytes}
 use Rattle.paw_host.proofs.Staying.{stays_on}
@@ -103,8 +103,11 @@ returns-in-Some-clause-promises g c = λ tells X answers.
     let new : Standing = g.S.Stage.standing c.take_text.new.stage in
     let own = subst (λ r. AreAnswersOf g.F.Fn r X) (sym c.begin_session.ensures.anew.stays.routines) answers in
     let b = rw c.in-Ok-Some.field-0-is at (c.in-Ok-Some.ensures.promises tells X answers).meaning in
-    let sits = subst (λ (h : GameLists). SitsAt (story_of h X) seed [] c.begin_session.new.player) (sym c.begin_session.ensures.anew.stays.game) b.0 in
+    let sits = subst (λ (h : GameLists). Sits (story_of h X) (At seed []) c.begin_session.new.player c.in-Ok-Some.opened.events)
+    (sym c.begin_session.ensures.anew.stays.game)
+    (subst (Sits story (At seed []) c.begin_session.new.player) (sym (rw c.in-Ok-Some.field-0-is at c.in-Ok-Some.ensures.opened).0) b.0) in
     let stands = subst (λ (h : GameLists). Stands (story_of h X) seed [] mid.disk.bytes) (sym c.begin_session.ensures.anew.stays.game) b.1 in
+    let taken = c.take_text.ensures.promises (c.begin_session.ensures.leaves.serves.tells.0 tells) X own seed (At seed []) sits stands in
     let is = ap option_copied c.in-Some.is in
     let old : Standing = g.S.Stage.standing c.args.stage.now in
     record {
@@ -113,21 +116,19 @@ returns-in-Some-clause-promises g c = λ tells X answers.
           (λ a. subst (λ t. Answers story (answer story seed Absent t) c.args.reply.now c.take_text.new.reply new.disk.bytes) (sym is)
           (begun_then story seed text c.args.reply.now c.begin_session.new.reply c.take_text.new.reply new.disk.bytes b.2 b.3
           (subst (λ (h : GameLists). Answers (story_of h X)
-          (answer_taking (story_of h X) seed [] text) c.begin_session.new.reply c.take_text.new.reply new.disk.bytes) c.begin_session.ensures.anew.stays.game
+          (answer (story_of h X) seed (At seed []) (Some text)) c.begin_session.new.reply c.take_text.new.reply new.disk.bytes) c.begin_session.ensures.anew.stays.game
           a)))
-          (c.take_text.ensures.promises (c.begin_session.ensures.leaves.serves.tells.0 tells) X own seed [] sits
-          (rw c.in-Ok-Some.field-0-is at c.in-Ok-Some.ensures.opened).0 stands).meaning;
+          taken.meaning;
       any_moment =
           subst (λ t. Passes (g.S.Stage.clock c.args.stage.now) (g.S.Stage.clock c.take_text.new.stage) (g.S.Stage.since c.args.stage.now)
           (g.S.Stage.since c.take_text.new.stage) (InFile (LeftOf story seed Absent (answer story seed Absent t).session) old)) (sym is)
           (Passes_on _ _ _ _ _ _ (InFile (LeftOf story seed Absent (answer story seed Absent (Some text)).session) old) _
           (Passes_map _ _ _ _ _ (InFile (LeftOf story seed Absent (answer story seed Absent (Some text)).session) old)
           (c.begin_session.ensures.promises tells X answers).any_moment (λ m i. in_new_begun story seed (Some text) old m i))
-          (c.take_text.ensures.promises (c.begin_session.ensures.leaves.serves.tells.0 tells) X own seed [] sits
-          (rw c.in-Ok-Some.field-0-is at c.in-Ok-Some.ensures.opened).0 stands).any_moment
+          taken.any_moment
           (λ m i. in_new_taking story seed text old mid m b.2 (c.begin_session.ensures.leaves.beside tells)
           (subst (λ (h : GameLists). InFile
-          (StoresEither (story_of h X) (At seed []) (answer_taking (story_of h X) seed [] text).session) mid m) c.begin_session.ensures.anew.stays.game i)));
+          (StoresEither (story_of h X) (At seed []) (answer (story_of h X) seed (At seed []) (Some text)).session) mid m) c.begin_session.ensures.anew.stays.game i)));
     }
 
 -- ---- none is ----

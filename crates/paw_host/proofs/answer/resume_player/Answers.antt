@@ -5,6 +5,7 @@ use Rattle.paw_base.specs.Bytes.{Bytes}
 use Rattle.paw_base.specs.declared.limits.TheConstants.{READ_LIMIT}
 use Rattle.paw_game.specs.Game.{GameLists}
 use Rattle.paw_game.specs.Image.{image}
+use Rattle.paw_game.specs.Valid.{Valid}
 use Rattle.paw_routines.specs.Measure.{measure}
 use Rattle.paw_stage.specs.Stage.{Standing}
 use Rattle.paw_effects.specs.Story.{Story, story_of}
@@ -26,7 +27,8 @@ use Rattle.paw_phrase.specs.Pending.{PendingLine}
 use Rattle.paw_routines.specs.declared.routines.Routines.{Routines}
 use Rattle.paw_play.specs.Session.{IsOfStory}
 use Rattle.paw_play.proofs.Showing.{read_fits}
-use Rattle.paw_host.specs.inner.Seats.{StandsAfter, StaysSeated}
+use Rattle.paw_host.specs.inner.Seats.{StandsAfter}
+use Rattle.paw_play.specs.inner.Open.{StaysSeated}
 use Rattle.paw_host.proofs.Opening.{taken_up, unfit_shows_none}
 use Rattle.paw_host.proofs.answer.resume_player.Goals as goal
 
@@ -57,6 +59,10 @@ stays_at : {F : Type 0} (w : World) (m : OpenTables) (p : PendingLine) (at : Pro
     new ≡ seat_at old.game old.routines w m p at → StaysSeated old new
 stays_at {F} w m p at old new seated is =
     record { seated = seated; game = ap (λ (q : PlayerView F). q.game) is; routines = ap (λ (q : PlayerView F). q.routines) is }
+
+valid_at : {F : Type 0} (g : GameLists) (routines : Routines F) (w : World) (m : OpenTables) (p : PendingLine) (at : Prompt) (seat : PlayerView F) →
+    IsSeated seat → seat ≡ seat_at g routines w m p at → Valid g
+valid_at {F} g routines w m p at seat seated is = subst Valid (ap (λ (q : PlayerView F). q.game) is) seated.valid
 
 of_story : (g : Story) (game rules bytes : Bytes) → game ≡ sha256 (image g.game) → rules ≡ measure g.answers → BelongsTo game rules (kept_digests bytes) →
     IsOfStory g (kept_digests bytes)
@@ -100,5 +106,6 @@ returns-clause-meaning g c = λ tells X answers.
     (of_story story c.args.game.now c.args.rules.now (g.S.Stage.standing c.find.new.stage).disk.bytes c.requires.digests.digest
     (c.requires.digests.measured X answers) (c.in-Ok.ensures.belongs tells)) in
     let read = subst (λ (h : GameLists). IsRead h c.state.result.now r) (sym c.requires.same) c.in-Ok-read_state.ensures.read in
-    taken_up story (kept_digests old.disk.bytes) old.disk.bytes state c.state.result.now piece r c.args.player.now.routines c.seat.new.player shown
+    taken_up story (kept_digests old.disk.bytes) old.disk.bytes state c.state.result.now piece r c.args.player.now.routines c.seat.new.player
+    (valid_at _ _ _ _ _ _ c.seat.new.player c.seat.ensures.seated c.seat.ensures.value) shown
     c.state.ensures.value belongs read c.in-Ok-read_state.ensures.piece c.seat.ensures.value

@@ -9,9 +9,11 @@ use Rattle.paw_journal.proofs.Serving.{in_front, behind, serves_among, serves_st
 use Rattle.paw_play.specs.Calls.{session_calls}
 use Rattle.paw_stage.specs.Loads.{load_calls}
 use Rattle.paw_host.specs.Outcomes.{host_failure}
+use Rattle.paw_host.specs.Names.{store_name}
 use Rattle.paw_host.specs.Promise.{BeginsWith, InHost}
 use Rattle.paw_host.proofs.Hosting.{at_first}
 use Rattle.paw_play.proofs.ImageFiles.{holds_loaded}
+use Rattle.paw_play.proofs.Failing.{left_as_read}
 use Rattle.paw_host.proofs.Loading.{same_story, unloaded, undecoded, hosted}
 use Rattle.paw_host.proofs.Reaching.{FilesHold}
 use Rattle.paw_host.proofs.host.host.Goals as goal
@@ -75,6 +77,22 @@ returns-clause-moments g c = λ tells. rw c.in-Some.ensures.value
     (c.host_game.ensures.any_moment (c.load.ensures.serves.tells.0 tells) X answers first
     (subst (λ q. BeginsWith (story_of game X) first q) (sym f.3) (subst (λ s. BeginsWith s first old) (sym same) b)))
     (λ m i. subst (λ s. InHost s seed first old m) same (subst (λ q. InHost (story_of game X) seed first q m) f.3 i)))
+
+pub returns-in-None-clause-left : goal.returns-in-None-clause-left
+returns-in-None-clause-left g c = λ tells name is.
+    left_as_read g.S.Stage g.met.S.Stage.only_now g.met.S.Stage.counts_now g.met.S.Stage.may_stay g.met.S.Stage.files_hold c.args.stage.now (store_name name) tells
+
+pub returns-in-Err-clause-left : goal.returns-in-Err-clause-left
+returns-in-Err-clause-left g c = λ tells name is.
+    left_as_read g.S.Stage g.met.S.Stage.only_now g.met.S.Stage.counts_now g.met.S.Stage.may_stay g.met.S.Stage.files_hold c.load.new.stage (store_name name) (c.load.ensures.serves.tells.0 tells)
+
+pub returns-in-Err-view_in-clause-left : goal.returns-in-Err-view_in-clause-left
+returns-in-Err-view_in-clause-left g c = λ tells name is.
+    left_as_read g.S.Stage g.met.S.Stage.only_now g.met.S.Stage.counts_now g.met.S.Stage.may_stay g.met.S.Stage.files_hold c.load.new.stage (store_name name) (c.load.ensures.serves.tells.0 tells)
+
+pub returns-clause-left : goal.returns-clause-left
+returns-clause-left g c = λ tells name is.
+    left_as_read g.S.Stage g.met.S.Stage.only_now g.met.S.Stage.counts_now g.met.S.Stage.may_stay g.met.S.Stage.files_hold c.host_game.new.stage (store_name name) (c.host_game.ensures.serves.tells.0 (c.load.ensures.serves.tells.0 tells))
 
 pub returns-in-Err-clause-serves : goal.returns-in-Err-clause-serves
 returns-in-Err-clause-serves g c = serves_among g.S.Stage _ _ (host_failure c.in-Err.outcome) _ _ (in_front load_calls session_calls) c.in-Err.ensures.serves

@@ -10,7 +10,7 @@ use Rattle.paw_host.specs.Replies.{Sessions}
 use Rattle.paw_host.specs.Hosts.{HasTaken}
 use Rattle.paw_host.specs.Promise.{BeginsWith, InHost}
 use Rattle.paw_host.specs.inner.Lines.{IsServing}
-use Rattle.paw_host.specs.inner.Seats.{StaysSeated}
+use Rattle.paw_play.specs.inner.Open.{StaysSeated}
 use Rattle.paw_host.specs.declared.lines.TheConstants.{HOST_LIMIT}
 use Rattle.paw_host.proofs.lines.Seats.serve_all.Given as goal
 
