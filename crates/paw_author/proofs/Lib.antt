@@ -1,0 +1,4 @@
+pub mod WholeLines
+pub mod Digits
+pub mod Rows
+pub mod PlainLaws

@@ -1,0 +1,11 @@
+pub mod Files
+pub mod Mistakes
+pub mod Fragments
+pub mod FileLines
+pub mod Words
+pub mod Choices
+pub mod Sections
+pub mod Joining
+pub mod Order
+pub mod Authored
+pub mod Laws
