@@ -9,8 +9,10 @@ import os
 import re
 import shutil
 import stat
+import time
 
 MOST_SAVES = 10000
+PATIENCE = 1  # seconds for a seat that is just ending
 SAVE = re.compile(r"save-([A-Za-z0-9_-]{1,40})")
 
 
@@ -133,16 +135,21 @@ class Folder:
         return self.path("base-%d" % row)
 
     def sit_down(self):
-        """Keeps other seats from this session as long as this one runs, however it ends."""
+        """Keeps other seats from this session as long as this one runs, however it ends. One that is just ending is waited for."""
         with contextlib.suppress(OSError):
             if not os.path.isdir(self.folder):
                 os.makedirs(self.folder, mode=0o700, exist_ok=True)
                 sync_folder(os.path.dirname(self.folder))
             self.seat = open(self.path("seat"), "ab")
-            try:
-                fcntl.flock(self.seat, fcntl.LOCK_EX | fcntl.LOCK_NB)
-            except BlockingIOError as fault:
-                raise Refused("%s is played in another window right now" % self.session) from fault
+            end = time.monotonic() + PATIENCE
+            while True:
+                try:
+                    fcntl.flock(self.seat, fcntl.LOCK_EX | fcntl.LOCK_NB)
+                    return
+                except BlockingIOError as fault:
+                    if time.monotonic() > end:
+                        raise Refused("%s is played in another window right now" % self.session) from fault
+                time.sleep(0.02)
 
     def files(self):
         """The paths of all files that belong to the session, and of the session."""
