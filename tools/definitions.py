@@ -8,6 +8,7 @@ A list is a tuple, a record a dict, a form of a type a tuple of its name and its
 Function. Each definition becomes one Python function, made when something first needs it. It answers its value, or a Tail, a
 call that is still to be made to get it: so the calls of Python don't grow deep, however long a game is.
 """
+import itertools
 import os
 import re
 
@@ -87,6 +88,26 @@ def fold(step, value, values):
     return value
 
 
+def compared(compare, one, other):
+    """How two lists compare: by the first elements that differ, or by their lengths."""
+    orders = (call(compare, *pair) for pair in zip(one, other))
+    return next((order for order in orders if order), (len(one) > len(other)) - (len(one) < len(other)))
+
+
+def split(test, values):
+    """The parts of a list between the elements that hold."""
+    parts = [()]
+    for value in values:
+        parts = parts + [()] if call(test, value) else parts[:-1] + [parts[-1] + (value,)]
+    return tuple(parts)
+
+
+def lines(text):
+    """The lines of a text: a CR right before the LF that ends a line is no part of it, and after the last LF there is none."""
+    *rows, last = bytes(text).split(b"\n")
+    return tuple(tuple(row[:-1] if row.endswith(b"\r") else row) for row in rows) + ((tuple(last),) if last else ())
+
+
 def capital(byte):
     return byte - 32 if 97 <= byte < 123 else byte
 
@@ -108,6 +129,7 @@ NATIVE = {
     "map": (2, lambda step, values: tuple(call(step, value) for value in values)),
     "filter": (2, lambda test, values: tuple(value for value in values if call(test, value))),
     "find": (2, find),
+    "lookup": (2, lambda test, rows: next((some(row[1]) for row in rows if call(test, row[0])), NONE)),
     "position": (2, position),
     "fold": (3, fold),
     "concat": (1, lambda lists: sum(lists, ())),
@@ -115,6 +137,13 @@ NATIVE = {
     "sum_by": (2, lambda step, values: sum(call(step, value) for value in values)),
     "count_by": (2, lambda test, values: sum(1 for value in values if call(test, value))),
     "list_any": (2, lambda test, values: any(call(test, value) for value in values)),
+    "zip": (2, lambda one, other: tuple(zip(one, other))),
+    "before_first": (2, lambda test, values: tuple(itertools.takewhile(lambda value: not call(test, value), values))),
+    "slice_split": (2, split),
+    "lines": (1, lines),
+    "is_ascii_digit": (1, lambda byte: 48 <= byte < 58),
+    "digits_value": (2, lambda base, digits: int(bytes(digits), base)),
+    "list_all": (2, lambda test, values: all(call(test, value) for value in values)),
     "take": (2, lambda count, values: values[:count]),
     "drop": (2, lambda count, values: values[count:]),
     "replicate": (2, lambda count, value: (value,) * count),
@@ -125,6 +154,7 @@ NATIVE = {
     "slice_set": (3, lambda values, at, new: values[:at] + (new,) + values[at + 1:] if at < len(values) else values),
     "option_map": (2, lambda step, option: NONE if option == NONE else some(call(step, option[1]))),
     "option_map_or": (3, lambda step, option, other: other if option == NONE else Tail(apply, (step, option[1]))),
+    "option_and_then": (2, lambda step, option: NONE if option == NONE else Tail(apply, (step, option[1]))),
     "option_or": (2, lambda option, other: other if option == NONE else option),
     "option_to_list": (1, lambda option: option[1:]),
     "unwrap_or": (2, lambda option, other: other if option == NONE else option[1]),
@@ -140,27 +170,48 @@ NATIVE = {
     "to_ascii_uppercase": (1, capital),
     "is_ascii_alphanumeric": (1, lambda byte: 48 <= byte < 58 or 65 <= capital(byte) < 91),
     "to_le_bytes": (2, lambda width, number: tuple(number.to_bytes(width // 8, "little"))),
+    "from_le_bytes": (2, lambda width, data: int.from_bytes(bytes(data), "little")),
+    "nat_cmp": (2, lambda one, other: (one > other) - (one < other)),
+    "slice_cmp": (3, compared),
+    "is_lt": (1, lambda order: order < 0),
+    "bound": (2, lambda result, step: Tail(apply, (step, result[1])) if result[0] == "Ok" else result),
+    "ok_or": (2, lambda option, fault: ("Err", fault) if option == NONE else ("Ok", option[1])),
+    "str_eq_ignore_ascii_case": (2, lambda one, other: tuple(map(capital, one)) == tuple(map(capital, other))),
     "suc": (1, lambda number: number + 1),
     "random_word": (2, random_word),
 }
-VALUES = {"true": True, "false": False, "zero": 0, "w16": 16, "w64": 64}
-FORMS = {"Some": 1, "None": 0}
+VALUES = {"true": True, "false": False, "zero": 0, "w16": 16, "w64": 64, "tt": ()}
+FORMS = {"Some": 1, "None": 0, "Ok": 1, "Err": 1}
 WRITTEN_OUT = {("Rattle.paw_world.specs.Draws", "random_word")}
 
 
 # --- From text to trees --------------------------------------------------------------------------------------------
 
-TOKEN = re.compile(r"""\s+|("(?:[^"\\]|\\.)*"|\d[\d_]*|(?<=[\w')])\.[\w']+|[^\W\d][\w']*|\+\+|==|&&|\|\||[^\s\w])""")
-STRENGTH = {"||": (1, "l"), "&&": (2, "l"), "==": (3, "n"), "++": (4, "l"), "+": (4, "l"), "-": (4, "l"), "∷": (5, "r"),
+TOKEN = re.compile(r"""\s+|("(?:[^"\\]|\\.)*"|0x[\dA-F]+|\d[\d_]*|(?<=[\w')])\.[\w']+|[^\W\d][\w']*|\+\+|==|>>=|&&|\|\||[^\s\w])""")
+STRENGTH = {">>=": (0, "l"), "||": (1, "l"), "&&": (2, "l"), "==": (3, "n"), "++": (4, "l"), "+": (4, "l"), "-": (4, "l"), "∷": (5, "r"),
             "*": (6, "l"), "/": (6, "l"), "%": (6, "l"), "^": (7, "r")}
 ENDS = set(STRENGTH) | {None, ")", "]", "}", ",", ";", ".", "=", "then", "else", "in"}
+
+
+def with_steps_parted(text):
+    """An equation with a semicolon before each step of a `do` but the first: these are the lines that begin where the first one does."""
+    rows, margin, is_first = [], None, False
+    for row in text.split("\n"):
+        begins = len(row) - len(row.lstrip())
+        if is_first:
+            margin, is_first = begins, False
+        elif begins == margin and row[begins:][:1].isalpha():
+            row = row[:begins] + "; " + row[begins:]
+        is_first = is_first or row.endswith(" do")
+        rows.append(row)
+    return "\n".join(rows)
 
 
 class Reader:
     """Reads an equation, `name pattern .. = side`, as trees: tuples that begin with their kind."""
 
     def __init__(self, text):
-        self.tokens, self.at = [token for token in TOKEN.findall(text) if token], 0
+        self.tokens, self.at = [token for token in TOKEN.findall(with_steps_parted(text)) if token], 0
 
     def ahead(self):
         return self.tokens[self.at] if self.at < len(self.tokens) else None
@@ -199,16 +250,26 @@ class Reader:
             return "if", test, yes, (self.next("else"), self.whole())[1]
         if self.ahead() == "λ":
             self.next()
-            return "function", self.until("."), self.whole()
+            return "function", re.sub(r"\( ([^:]*) :[^)]*\)", r"\1", " ".join(self.until("."))).split(), self.whole()
         if self.ahead() == "let":
             self.next()
             name, value = self.until("=")[0], self.whole()
             return "let", name, value, (self.next("in"), self.whole())[1]
+        if self.ahead() == "do":
+            self.next()
+            return self.steps()
         left = self.applied()
         while self.ahead() in STRENGTH and STRENGTH[self.ahead()][0] >= strength:
             own, side = STRENGTH[self.ahead()]
             left = "joined", self.next(), left, self.whole(own if side == "r" else own + 1)
         return left
+
+    def steps(self):
+        """The rest of a `do`: `name ← side` hands what it is on to the steps after it, unless it is a fault."""
+        if self.tokens[self.at + 1:self.at + 2] != ["←"]:
+            return self.whole()
+        name, value, _ = self.next(), (self.next("←"), self.whole())[1], self.next(";")
+        return "joined", ">>=", value, ("function", [name], self.steps())
 
     def applied(self):
         head, given = self.part(), []
@@ -233,7 +294,7 @@ class Reader:
         elif token[0] == '"':
             tree = "text", tuple(eval(token).encode())
         elif token[0].isdigit():
-            tree = "number", int(token)
+            tree = "number", int(token, 0)
         elif token[0].isalpha() or token[0] == "_":
             tree = "name", token
         else:
@@ -538,6 +599,8 @@ class Maker:
         heads = [left]
         while sign == "∷" and right[:2] == ("joined", "∷"):
             heads, right = heads + [right[2]], right[3]
+        if sign == ">>=":
+            return self.called("native_bound", [self.value(left, names), self.value(right, names)], last)
         if sign == "∷":
             return "((%s,) + %s)" % (", ".join(self.value(head, names) for head in heads), self.value(right, names))
         shape = {"||": "({} or {})", "&&": "({} and {})", "++": "({} + {})", "-": "max(0, {} - {})", "/": "({} // {})",

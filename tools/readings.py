@@ -66,8 +66,12 @@ class Reading:
         return self.ending[0] == "WaitsAt" or self.ending[:2] == ("Halted", ("Over",))
 
     def state(self):
-        """The bytes of the state that a session keeps after the lines; none where a limit stopped them."""
-        return self.every.get("paw_play.specs.Session", "state_after")(self.count, self.ending)
+        """The bytes of the state that a session keeps after the lines that were taken, those before the game was over; none where a
+        limit stopped them."""
+        if not self.goes_on():
+            return ()
+        taken = self.count - len(self.ending[-1]["events"])
+        return self.every.get("paw_play.specs.Session", "state_after")(taken, self.ending)
 
 
 def in_depth(task):
@@ -82,11 +86,13 @@ def in_depth(task):
 
     sys.setrecursionlimit(200000)
     threading.stack_size(512 * 1024 * 1024)
-    thread = threading.Thread(target=done)
+    thread = threading.Thread(target=done, daemon=True)
     try:
         thread.start()
         answer, fault = answers.get()
     except KeyboardInterrupt:
+        if thread.ident is None:  # it has only just begun, and ends with the program
+            raise
         ctypes.pythonapi.PyThreadState_SetAsyncExc(ctypes.c_ulong(thread.ident), ctypes.py_object(SystemExit))
         while thread.is_alive():
             time.sleep(MOMENT)
