@@ -31,6 +31,17 @@ class Ended(Exception):
         self.status, self.said = status, said
 
 
+class NotKept(Exception):
+    """A line that can't be kept wasn't taken: why, in words."""
+
+
+def row_of(game):
+    """The row that begins a game, or begins at a session of it."""
+    if game.base:
+        return "base", b"%s %s" % (game.digest.encode(), game.base.encode())
+    return "game", b"%s %d" % (game.digest.encode(), game.seed)
+
+
 class Played:
     """The game of an image that is kept in a session. What a player should know of what was found is in notes."""
 
@@ -40,6 +51,7 @@ class Played:
         self.lines = rows.Lines(self.folder.lines)
         self.maker = making.Maker(program, path, digest, self.folder)
         self.playing, self.notes = None, []
+        self.base = None  # the file and the bytes of a session that the lines begin with, until it is on the disk
 
     # --- beginning and going on
 
@@ -89,29 +101,37 @@ class Played:
         data = self.data()
         if data and not sessions.may_be_one(data):
             raise kept.Refused("%s is no session, and stays as it is" % self.session, 4)
-        self.maker.prepare(rows.Game(self.digest, seed=seed), typed)
+        game = rows.Game(self.digest, seed=seed)
+        self.maker.prepare(game, typed)
         self.stop()
-        told = [("game", b"%s %d" % (self.digest.encode(), seed))]
+        told = [row_of(game)]
         for count in range(len(typed) + 1):
             told += [("line", rows.written(typed[count - 1]))] if count else []
             told += [("save", name.encode()) for name in (named or {}).get(count, [])]
-        if data:
-            aside = self.folder.copied_aside(rows.MOST)
-            self.move(told, aside)
-        else:
-            aside = None
-            self.lines.add(*told)
-            self.put_in_place(is_new=True)
+        aside = self.folder.copied_aside(rows.MOST) if data else None
+        self.move(told, aside, is_new=not data)
         self.keep_image()
         return aside and aside.session
 
-    def move(self, told, aside=None):
+    def write(self, *told):
+        """Has rows on the disk, and before them the session that the lines begin with. Where one of that fails all stays as it
+        was, and gives why it failed."""
+        try:
+            if self.base:
+                kept.write_synced(*self.base)
+                self.base = None
+        except OSError as fault:
+            return fault.strerror
+        return None if self.lines.added(*told) else self.lines.fault
+
+    def move(self, told, aside=None, is_new=False):
         """Adds rows, and makes the file that was prepared the session. Where one of that fails all stays as it was."""
         stood = len(self.lines.places)
         try:
-            if not self.lines.added(*told):
-                raise kept.Refused("it can't be written: %s" % self.lines.fault)
-            self.put_in_place(aside)
+            fault = self.write(*told)
+            if fault:
+                raise kept.Refused("it can't be written: %s" % fault)
+            self.put_in_place(aside, is_new)
         except (kept.Refused, OSError):
             self.maker.drop()
             if aside:
@@ -191,27 +211,36 @@ class Played:
                 if row < last:
                     self.lines.add(("back", b"%d" % row))
                 return
-        state = sessions.state_of(data)
-        if not state.lines and self.maker.is_at(rows.Place(rows.Game(self.digest, seed=state.seed)), data):
-            self.lines.add(("game", b"%s %d" % (self.digest.encode(), state.seed)))
+        begun = self.begun_with(data)
+        if begun:
+            self.lines.add(row_of(begun))
             return
         self.begin_here(data)
-        if last or state.lines:
+        if last or sessions.state_of(data).lines:
             self.notes.append("What was typed up to here isn't kept as lines: /undo reaches back to here.")
+
+    def begun_with(self, data):
+        """The game that a session stands at the beginning of, where no line was typed yet: its seed is all of it."""
+        state = sessions.state_of(data)
+        game = rows.Game(self.digest, seed=state.seed)
+        return game if not state.lines and self.maker.is_at(rows.Place(game), data) else None
 
     def begin_here(self, data):
         """Lets the lines begin at a session, of which a copy is kept. The program resumes that each time before it is used."""
         row = len(self.lines.places) + 1
-        with contextlib.suppress(OSError):
-            kept.write_synced(self.folder.base(row), data)
-        self.lines.add(("base", b"%s %s" % (self.digest.encode(), hashlib.sha256(data).hexdigest().encode())))
+        self.base = self.folder.base(row), data
+        self.lines.take_along(row_of(rows.Game(self.digest, base=hashlib.sha256(data).hexdigest(), row=row)))
+        self.write()
 
     # --- playing
 
     def turn(self, line):
-        """Has the program take a line, which is kept before; gives the text that answers it."""
+        """Has the program take a line, which is kept before; gives the text that answers it. A line that can't be kept isn't
+        taken."""
         line = line[:rows.LONGEST]
-        self.lines.add(("line", rows.written(line)))
+        fault = self.write(("line", rows.written(line)))
+        if fault:
+            raise NotKept("the line can't be kept: %s" % fault)
         text = self.playing.answer(line)
         if text is None:
             ended, self.playing = self.playing, None
@@ -240,8 +269,9 @@ class Played:
 
     def save(self, name):
         """Gives the place of now a name."""
-        if not self.lines.added(("save", name.encode())):
-            raise kept.Refused("it can't be written: %s" % self.lines.fault)
+        fault = self.write(("save", name.encode()))
+        if fault:
+            raise kept.Refused("it can't be written: %s" % fault)
 
     def load(self, name):
         """Goes to the place of a name."""
@@ -264,8 +294,9 @@ class Played:
         game = rows.Game(self.digest, base=hashlib.sha256(data).hexdigest(), row=row)
         kept.write_synced(self.folder.base(row), data)
         self.maker.prepare(game, [])
+        begun = self.begun_with(data)
         self.stop()
-        self.move([("base", b"%s %s" % (self.digest.encode(), game.base.encode()))])
+        self.move([row_of(begun or game)])
 
     def texts(self):
         """The text that the game begins with, and each line with the text that answers it."""
