@@ -11,6 +11,8 @@ Each is a file beside the about file. What stands behind it is what a screen rea
 import base64
 import hashlib
 import html
+import importlib.machinery
+import importlib.util
 import json
 import os
 import re
@@ -22,7 +24,8 @@ import paws
 import signals
 
 FOLDER = os.path.join(paws.TOP, "page")
-SCRIPTS = ["engine.js", "store.js", "game.js", "play.js"]  # one behind the other they are the script of a page
+# One behind the other they are the script of a page: of a game that the browser plays, and of one that a host keeps.
+SCRIPTS, SERVED = ["engine.js", "store.js", "game.js", "play.js", "local.js"], ["game.js", "yours.js", "play.js", "served.js"]
 MODULES = [os.path.join(paws.TOP, "bin", "paw.wasm"), os.path.join(paws.TOP, "..", "..", "lib", "paw", "paw.wasm")]
 MEDIA = re.compile(r"(cover|picture \d{1,3}|sound \d{1,3} \d{1,3})\s*:\s*(.*)", re.IGNORECASE)
 PICTURES = {".png": "image/png", ".jpg": "image/jpeg", ".jpeg": "image/jpeg", ".gif": "image/gif", ".webp": "image/webp",
@@ -96,10 +99,10 @@ def part(name):
         return file.read()
 
 
-def script():
+def script(names):
     """The script of a page, with the marks and the letters as the other front ends have them."""
     table = "const MARKS = /%s/g;\n%s" % (marks.MARK.pattern, letters.javascript())
-    return '"use strict";\n' + table + "".join(part(name) for name in SCRIPTS)
+    return '"use strict";\n' + table + "".join(part(name) for name in names)
 
 
 def module():
@@ -147,7 +150,7 @@ def filled(template, values):
 
 def told(fields):
     """The elements of the head by which browsers and archives know a game."""
-    named = [("author", fields["author"]), ("description", fields.get("description") or fields.get("headline"))]
+    named = [("author", fields.get("author")), ("description", fields.get("description") or fields.get("headline"))]
     rows = ['<meta name="%s" content="%s">' % (name, html.escape(value)) for name, value in named if value]
     if "ifid" in fields:
         rows += [PROPERTY % fields["ifid"], "<!-- UUID://%s// -->" % fields["ifid"]]
@@ -157,26 +160,71 @@ def told(fields):
 def front(fields, cover):
     """What stands before the story: the cover, and whose game it is."""
     picture = '<img src="%s" alt="%s">' % (cover["data"], html.escape(cover["tells"] or "The cover")) if cover else ""
-    words = ", ".join(part for part in (fields.get("headline"), "by " + fields["author"]) if part)
-    return '<figure id="front">%s<figcaption>%s</figcaption></figure>' % (picture, html.escape(words))
+    return '<figure id="front">%s<figcaption>%s</figcaption></figure>' % (picture, html.escape(by(fields)))
 
 
 def page(fields, media, image, scored, places=None):
     """The text of a page. Its image and module stand in it; or they lie beside it in a site, and places has their names and the
     rules of the policy for that; or a server computes the texts, and places has its address."""
-    places = places or {}
-    code, style = script(), part("style.css")
-    about = {"title": fields["title"], "digest": hashlib.sha256(image).hexdigest(), "ifid": fields.get("ifid", ""),
-             "hasScore": scored, "media": {mark_of(name): value for name, value in media.items() if name != "cover"},
-             "server": places.get("server", ""), "service": places.get("service", "")}
-    beside = ' data-from="%s"'
-    return filled(part("index.html"), {
-        "LANGUAGE": fields.get("language", "en"), "TITLE": html.escape(fields["title"]), "TOLD": told(fields), "STYLE": style,
-        "POLICY": html.escape(policy(code, style, places.get("policy"))), "FRONT": front(fields, media.get("cover")),
-        "ABOUT": json.dumps(about, sort_keys=True).replace("<", "\\u003c"), "SCRIPT": code,
+    places, code, beside = places or {}, script(SCRIPTS), ' data-from="%s"'
+    about = {"server": places.get("server", ""), "service": places.get("service", "")}
+    return whole(fields, media, about_of(fields, media, image, scored, about), code, policy(code, part("style.css"), places.get("policy")), {
         "IMAGE_FROM": beside % places["image"] if "image" in places else "", "IMAGE": "" if "image" in places else packed(image),
         "MODULE_FROM": beside % places["module"] if "module" in places else "",
-        "MODULE": "" if "module" in places or "server" in places else packed(module())})
+        "MODULE": "" if "module" in places or "server" in places else packed(module()),
+        "KEPT": "Each line is kept in this browser before its answer is shown: close the page when you like.",
+        "PLAIN": "This page is a game, and needs JavaScript."})
+
+
+def served(fields, media, image, scored, longest):
+    """The text of a page of a game that a host keeps, with a place (@ADDRESS@) for where it is played without JavaScript; and the
+    rules of the policy. The longest line there has this many letters."""
+    code, style = script(SERVED), part("style.css")
+    rules = policy(code, style, {"script-src": hash_of(code), "connect-src": "'self'", "worker-src": "'none'"})
+    about = about_of(fields, media, image, scored, {"longest": longest, "service": ""})
+    return whole(fields, media, about, code, rules, {
+        "BEGIN": filled(part("begin.html"), {"YOURS": part("yours.html")}), "BAR": " hidden",
+        "KEPT": "Each line is kept by this host before its answer is shown: close the page when you like. The address of the page is your "
+                "game: whoever has it can go on with it.",
+        "PLAIN": 'This page wants JavaScript. <a href="@ADDRESS@">Play without it</a>'}), rules
+
+
+def about_of(fields, media, image, scored, more):
+    """What the script of a page is to know of its game."""
+    return {"title": fields["title"], "digest": hashlib.sha256(image).hexdigest(), "ifid": fields.get("ifid", ""), "hasScore": scored,
+            "media": {mark_of(name): value for name, value in media.items() if name != "cover"}, **more}
+
+
+def whole(fields, media, about, code, rules, values):
+    """A page of its parts; what no value is named for is empty."""
+    names = ["BEGIN", "BAR", "IMAGE_FROM", "IMAGE", "MODULE_FROM", "MODULE"]
+    return filled(part("index.html"), {
+        **dict.fromkeys(names, ""), "LANGUAGE": fields.get("language", "en"), "TITLE": html.escape(fields["title"]), "TOLD": told(fields),
+        "STYLE": part("style.css"), "POLICY": html.escape(rules), "FRONT": front(fields, media.get("cover")),
+        "ABOUT": json.dumps(about, sort_keys=True).replace("<", "\\u003c"), "SCRIPT": code, **values})
+
+
+def row(fields, media, address):
+    """What a first page says of a game, and where its page is."""
+    cover = media.get("cover")
+    picture = '<img src="%s" alt="">' % cover["data"] if cover else ""
+    rows = [by(fields), fields.get("description")]
+    return '<li>%s<a href="%s">%s</a>%s</li>' % (picture, address, html.escape(fields["title"]),
+                                                 "".join("<p>%s</p>" % html.escape(row) for row in rows if row))
+
+
+def by(fields):
+    """What a game is, and whose."""
+    return ", ".join(part for part in (fields.get("headline"), fields.get("author") and "by " + fields["author"]) if part)
+
+
+def publishing():
+    """The script tools/publish: how it reads an about file, a source and an image, and writes a file."""
+    path = os.path.join(paws.TOP, "tools", "publish")
+    loader = importlib.machinery.SourceFileLoader("publishing", path)
+    made = importlib.util.module_from_spec(importlib.util.spec_from_loader("publishing", loader))
+    loader.exec_module(made)
+    return made
 
 
 def of_game(paw, fields, about, image):
