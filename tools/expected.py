@@ -213,7 +213,8 @@ class Game:
         named = {2} | {step.values[-1] for _, _, step in source.steps()
                        if step.name == "PROMPT" or step.name == "LET" and step.values[0] == 42}
         if None in named:  # a flag tells the prompt
-            named = range(len(texts))
+            named = set(range(len(texts)))
+        named.discard(0)  # it stands for 2
         self.prompts = [texts[number] + "\n" for number in named if number < len(texts) and texts[number]]
         self.last = texts[33] if len(texts) > 33 else ""
         self.questions = tuple(texts[number] for number in QUESTIONS if number < len(texts) and texts[number])

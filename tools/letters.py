@@ -5,6 +5,7 @@ characters without a width are left out, every kind of blank and control is a bl
 question mark, which parts phrases as it does where it is typed. The program parts words at an apostrophe: so one between two
 letters is left out, or WHAT'S would be WHAT and S, which goes south.
 """
+import functools
 import json
 import re
 import unicodedata
@@ -54,6 +55,7 @@ def typed_line(data):
     return data if data.lstrip().startswith(b"/") else plain(decoded(data))
 
 
+@functools.lru_cache(1024)
 def letter_as_plain(letter):
     if letter in STANDS_FOR:
         return STANDS_FOR[letter]

@@ -2,6 +2,7 @@
 
 A row stands on the disk before what it tells is done. So a game in play is at the last row, or at the one before it.
 """
+import contextlib
 import os
 import re
 import zlib
@@ -138,15 +139,19 @@ class Lines:
 
     # --- writing
 
-    def add(self, *rows):
-        """Adds rows, each a kind and its text, and has them on the disk; where that fails they wait, and the next ones take them
-        along. Gives whether all are there."""
+    def take_along(self, *rows):
+        """Adds rows, each a kind and its text, that the next write takes along."""
         for kind, rest in rows:
             row = b"%d %s %s" % (len(self.places) + 1, kind.encode(), rest)
             self.take(kind, rest)
             self.check = zlib.crc32(row, self.check)
             number, _, told = row.partition(b" ")
             self.waiting += b"%s %08x %s\n" % (number, self.check, told)
+
+    def add(self, *rows):
+        """Adds rows and has them on the disk; where that fails they wait, and the next ones take them along. Gives whether all
+        are there."""
+        self.take_along(*rows)
         try:
             self.write()
         except OSError as fault:
@@ -154,15 +159,21 @@ class Lines:
         return not self.waiting
 
     def write(self):
-        """Writes what waits, by one write and one sync. What an earlier write left in part, or was cut off in, is taken away."""
+        """Writes what waits, by one write and one sync. What a write left in part, or was cut off in, is taken away."""
         is_new = self.file is None and not os.path.exists(self.path)
         if self.file is None:
             self.file = os.open(self.path, os.O_RDWR | os.O_CREAT | os.O_CLOEXEC, 0o600)
         if os.fstat(self.file).st_size > self.length:
             os.ftruncate(self.file, self.length)
-        if os.pwrite(self.file, self.waiting, self.length) < len(self.waiting):
-            raise OSError(0, "there is no room for all of it")
-        os.fsync(self.file)
+        try:
+            data = self.waiting
+            while data:  # where only a part had room, the next write says why
+                data = data[os.pwrite(self.file, data, self.length + len(self.waiting) - len(data)):]
+            os.fsync(self.file)
+        except OSError:
+            with contextlib.suppress(OSError):
+                os.ftruncate(self.file, self.length)
+            raise
         if is_new:
             kept.sync_folder(os.path.dirname(self.path))
         self.length += len(self.waiting)

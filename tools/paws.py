@@ -8,6 +8,7 @@ import subprocess
 import sys
 import traceback
 
+import changes
 import output
 import signals
 
@@ -40,11 +41,12 @@ def commands():
     return [(name, words.split(), does) for name, words, does in rows]
 
 
-def run(words, lines=()):
-    """Runs the program with the words and the lines typed; gives its status, what it shows, and what it says."""
+def run(words, lines=(), seconds=None):
+    """Runs the program with the words and the lines typed; gives its status, what it shows, and what it says. Where it may take so
+    many seconds at most, and takes more, it is stopped."""
     typed = "".join(line + "\n" for line in lines)
     try:
-        done = subprocess.run(words, input=typed.encode("latin-1"), stdout=subprocess.PIPE, stderr=subprocess.PIPE)
+        done = subprocess.run(words, input=typed.encode("latin-1"), stdout=subprocess.PIPE, stderr=subprocess.PIPE, timeout=seconds)
     except OSError as fault:
         raise OSError(fault.errno, "it can't run on this machine (%s)" % fault.strerror, words[0]) from fault
     return done.returncode, done.stdout.decode("latin-1"), done.stderr.decode("latin-1")
@@ -66,13 +68,13 @@ def failure(words, said):
     return said.strip() + ("\n%s." % why if why else "")
 
 
-def run_script(path, *given, **streams):
+def run_script(path, *given, typed=None, **streams):
     """Runs another script, which takes the signals itself, and ends before this one; gives its status, and what it shows where that
-    is asked for."""
+    is asked for. What it reads may be given."""
     with signals.held():
         child = subprocess.Popen([sys.executable, path, *given], **streams)
     try:
-        shown = child.communicate()[0]
+        shown = child.communicate(typed)[0]
     except KeyboardInterrupt as stopped:
         child.send_signal(stopped.args[0])
         child.wait()
@@ -112,19 +114,26 @@ def outcome(main, is_filtered):
     except subprocess.SubprocessError as fault:
         return refusal("%s: %s" % (name, fault))
     except Exception as fault:
-        if sys.flags.dev_mode:
-            raise
-        place = traceback.extract_tb(fault.__traceback__)[-1]
-        refusal("%s has a fault of its own, in line %d of %s: %s: %s (PYTHONDEVMODE=1 shows more)" %
-                (name, place.lineno, os.path.basename(place.filename), type(fault).__name__, fault))
-        return FAULTY
+        return own_fault(name, fault)
+
+
+def own_fault(name, fault):
+    """Says where a script has a fault of its own, in a line; gives the status of that."""
+    if sys.flags.dev_mode:
+        raise fault
+    place = traceback.extract_tb(fault.__traceback__)[-1]
+    refusal("%s has a fault of its own, in line %d of %s: %s: %s (PYTHONDEVMODE=1 shows more)" %
+            (name, place.lineno, os.path.basename(place.filename), type(fault).__name__, fault))
+    return FAULTY
 
 
 def words(told):
     """A reader of a script's words, from what the script tells of itself: what it does, its usage, and the rest for --help."""
     does, usage, rest = told.split("\n\n", 2)
-    return argparse.ArgumentParser(usage=usage[len("usage: "):], description=does + "\n\n" + rest,
-                                   formatter_class=argparse.RawDescriptionHelpFormatter)
+    found = argparse.ArgumentParser(usage=usage[len("usage: "):], description=does + "\n\n" + rest,
+                                    formatter_class=argparse.RawDescriptionHelpFormatter)
+    found.add_argument("--version", action=changes.Teller, nargs=0, default=argparse.SUPPRESS, help="tell the version")
+    return found
 
 
 def refusal(why):

@@ -7,6 +7,9 @@ import paws
 SLOTS, SLOT, BASE, TEXT, RECORDS = 128, 86080, 64, 4160, 69696
 STATE, SHORT = 3419, 1371  # bytes of a state, and of one in a slot of version 1
 LENGTH, MARK = SLOTS + 2 * SLOT, 80
+LINE, KEY, OVER = 0, 3, 4  # prompts: for a line, for a key, and none, since the game is over; the two between them ask a question
+DARK, SCORE, TURNS, PLACE = 0, 30, 31, 38  # flags
+WORN, CARRIED = 253, 254  # the places of what the player has
 
 
 def number_at(data, at, size):
@@ -46,6 +49,24 @@ class State:
         self.flags, self.places = self.base[:256], self.base[256:511]
         self.seed, self.lines, self.prompt = number_at(self.base, 1023, 8), number_at(self.base, 1039, 8), self.base[1047]
         self.text = slot[TEXT:TEXT + number_at(self.base, 1369, 2)].decode("latin-1")
+
+    @property
+    def place(self):
+        """The number of the place where the player is."""
+        return self.flags[PLACE]
+
+    @property
+    def is_dark(self):
+        """Whether nothing is seen there: it is dark, and thing 0, which gives light, isn't at hand."""
+        return self.flags[DARK] != 0 and self.places[0] not in (self.place, WORN, CARRIED)
+
+    @property
+    def score(self):
+        return self.flags[SCORE]
+
+    @property
+    def turns(self):
+        return self.flags[TURNS] + 256 * self.flags[TURNS + 1]
 
     def is_same(self, other):
         """Whether another state shows the same, and goes on the same way."""

@@ -5,11 +5,15 @@ first raises a KeyboardInterrupt with the number of the signal, wherever the scr
 """
 import contextlib
 import os
+import select
 import signal
 import sys
+import time
 
 ENDING = (signal.SIGINT, signal.SIGTERM, signal.SIGHUP)
-AGAIN = 0.01  # seconds until a signal is raised anew that came where nothing can be raised
+AGAIN = 0.01  # seconds until a signal is raised anew that came where nothing can be raised, and a folder is looked at anew
+ATTEMPTS = 100
+PIECE = 65536  # bytes
 came = []     # the signal that ends the script; None where it has ended by itself
 
 
@@ -48,6 +52,27 @@ def held():
         signal.pthread_sigmask(signal.SIG_SETMASK, before)
 
 
+def pieces(file):
+    """What comes from a file, by its number, up to its end. A signal that comes right before a read would wait until something is
+    there to read: so it is a thing to read itself."""
+    woken, wakes = os.pipe()
+    os.set_blocking(wakes, False)
+    before = signal.set_wakeup_fd(wakes, warn_on_full_buffer=False)
+    try:
+        while True:
+            if file in select.select([file, woken], [], [])[0]:
+                data = os.read(file, PIECE)
+                if not data:
+                    return
+                yield data
+            else:
+                os.read(woken, PIECE)  # a signal that does nothing here
+    finally:
+        signal.set_wakeup_fd(before)
+        os.close(woken)
+        os.close(wakes)
+
+
 @contextlib.contextmanager
 def room(folder=None):
     """A folder of this run alone, in the one named or where such folders lie. It goes with the run, whatever signal comes."""
@@ -62,7 +87,18 @@ def room(folder=None):
         yield made.name
     finally:
         with held():
-            made.cleanup()
+            take_away(made)
+
+
+def take_away(made):
+    """Takes a temporary folder away. A program that was begun in it may write one more file before the same signal ends it."""
+    for attempt in range(ATTEMPTS):
+        try:
+            return made.cleanup()
+        except OSError:
+            if attempt + 1 == ATTEMPTS:
+                raise
+            time.sleep(AGAIN)
 
 
 def status_of(main):
