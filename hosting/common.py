@@ -1,19 +1,15 @@
-"""What the scripts here share: the programs, names and lines, the lock of a name, rates, and what the file of a session tells."""
+"""What the scripts here share: the programs, names and lines, and what the file of a session tells."""
 import collections
 import contextlib
-import fcntl
-import hashlib
 import os
 import re
 import secrets
 import socket
 import string
-import struct
 import subprocess
 import sys
 import time
 import unicodedata
-import zlib
 
 TOP = os.path.dirname(os.path.dirname(os.path.abspath(__file__)))
 sys.path.insert(0, os.path.join(TOP, "tools"))
@@ -80,6 +76,10 @@ class Host:
         except TimeoutError:
             self.process.kill()
             reply = b""
+        return self.body(name, reply)
+
+    def body(self, name, reply):
+        """The body of a packet that is the reply to a name; without one pawhost has ended."""
         if not reply:
             raise Ended(self.process.wait())
         begins = b"[" + name.encode("ascii") + b"]\n"
@@ -124,11 +124,6 @@ def plain_line(typed):
     """The bytes of a typed line, in the letters that games know; None where it is too long or holds a control character."""
     plain = letters.plain(typed)
     return None if len(plain) > LONGEST_LINE or any(unicodedata.category(char) == "Cc" for char in typed) else plain
-
-
-def partition_of(name, partitions):
-    """Which of so many partitions a name belongs to."""
-    return zlib.crc32(name.encode("ascii")) % partitions
 
 
 # --- What a file tells ---------------------------------------------------------------------------------------------
@@ -209,111 +204,7 @@ def sync_folder(folder):
         os.close(file)
 
 
-# --- Locks and rates -----------------------------------------------------------------------------------------------
-
-class Busy(Exception):
-    """Somebody else has the lock of a name."""
-
-
-@contextlib.contextmanager
-def locked(folder, name, patience):
-    """Holds the lock of a name: a byte of one file, whose place is the digest of the name. Waits so many seconds for it.
-
-    It belongs to the file as it was opened here: a pawhost that is given the number of that file holds the lock with us.
-    """
-    place = int.from_bytes(hashlib.sha256(name.encode("ascii")).digest()[:8], "little") >> 2
-    wanted = struct.pack("hhqqi4x", fcntl.F_WRLCK, os.SEEK_SET, place, 1, 0)
-    end = time.monotonic() + patience
-    file = os.open(os.path.join(folder, ".locks"), os.O_RDWR | os.O_CREAT | os.O_CLOEXEC, 0o600)
-    try:
-        while True:
-            try:
-                fcntl.fcntl(file, fcntl.F_OFD_SETLK, wanted)
-                break
-            except OSError:
-                if time.monotonic() > end:
-                    raise Busy() from None
-                time.sleep(0.01)
-        yield file
-    finally:
-        os.close(file)
-
-
-@contextlib.contextmanager
-def alone(path):
-    """Keeps programs from playing a session for a while. A file system that has no locks keeps nobody away."""
-    with open(path, "rb") as file:
-        try:
-            fcntl.flock(file, fcntl.LOCK_EX | fcntl.LOCK_NB)
-        except BlockingIOError:
-            raise Busy() from None
-        except OSError:
-            pass
-        yield
-
-
-def lock_folder(folder):
-    """Holds a folder for one pawhost; gives the open file, or None where another holds it."""
-    file = os.open(os.path.join(folder, ".folder"), os.O_RDWR | os.O_CREAT | os.O_CLOEXEC, 0o600)
-    try:
-        fcntl.flock(file, fcntl.LOCK_EX | fcntl.LOCK_NB)
-    except OSError:
-        os.close(file)
-        return None
-    return file
-
-
-def seconds_to_wait(folder, kind, who, each, burst):
-    """Counts something that somebody does; gives 0, or the seconds to wait where it is more than once in so many seconds (each).
-
-    A burst of so many may come at once. The file of the rates has 65,536 places, so strangers can't make it grow; two who share a
-    place share their rate. A place holds the time up to which all is used up.
-    """
-    place = 8 * int.from_bytes(hashlib.sha256(("%s %s" % (kind, who)).encode()).digest()[:2], "little")
-    file = os.open(os.path.join(folder, ".rates"), os.O_RDWR | os.O_CREAT | os.O_CLOEXEC, 0o600)
-    try:
-        fcntl.flock(file, fcntl.LOCK_EX)
-        now = time.time()
-        read = os.pread(file, 8, place)
-        until = max(now, struct.unpack("d", read)[0] if len(read) == 8 else 0)
-        if until - now > each * burst:
-            return until - now - each * burst
-        os.pwrite(file, struct.pack("d", until + each), place)
-        return 0
-    finally:
-        os.close(file)
-
-
-def whose(address):
-    """Those who share an address: of IPv6, a network of 64 bits."""
-    if ":" not in address:
-        return address
-    import ipaddress  # wanted by few, and not by each request
-    try:
-        found = ipaddress.IPv6Address(address.partition("%")[0])
-    except ValueError:
-        return address
-    return str(found.ipv4_mapped or ipaddress.IPv6Network((int(found) >> 64 << 64, 64)))
-
-
-# --- A turn --------------------------------------------------------------------------------------------------------
-
-Turn = collections.namedtuple("Turn", "body lines taken over note", defaults=[""])
-
-
-def take(host, folder, name, text=None, seen=None):
-    """Has pawhost take a line once, under the lock of the name.
-
-    The line is taken where it comes from one who has seen as many lines as the session stands for. Otherwise it was sent twice, or
-    somebody else has played on: the last text is shown, and nothing changes. Without a line a session is begun, or shown.
-    """
-    before = kept(folder, name)
-    if before.lines is None or text is None or before.lines != seen:
-        body, after = host.ask(name), kept(folder, name)
-        return Turn(body, after.lines, False, after.prompt == OVER)
-    body, after = host.ask(name, text), kept(folder, name)
-    return Turn(body, after.lines, after.lines == seen + 1, after.prompt == OVER)
-
+# --- Words --------------------------------------------------------------------------------------------------------
 
 def meaning(body):
     """What the words of pawhost that stand in place of a text mean."""

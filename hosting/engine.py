@@ -1,0 +1,270 @@
+"""What computes the texts of a host: sessions in a folder in memory, which pawhosts play, each by a name of its own.
+
+A session here is never believed to be more than what its lines make of it: whoever doubts it throws it away and has it made again.
+Its file has a name that no other had before. So what pawhost still knows of one that was thrown away harms nothing.
+"""
+import asyncio
+import collections
+import concurrent.futures
+import contextlib
+import fcntl
+import os
+import shutil
+import struct
+import subprocess
+import tempfile
+import time
+
+import common
+import images
+import sessions
+
+MEMORY = "/dev/shm"             # what is written there is never on a disk
+OURS = "paw-serve-"             # how folders of servers are named
+KEY = 3                         # the prompt of a session that waits for a key
+ATTEMPTS = 2                    # how often a session is made, and a line played, where a pawhost ends
+MAKERS = 4                      # sessions that are made at once
+HOSTS = 4                       # pawhosts of an image
+PATIENCE = 5                    # seconds for another server to begin
+LEAST = 64                      # sessions that are kept, however little memory there is
+
+# What the file of a session shows beside its text: the number of the place, or None in the dark. By its inode the file is known
+# from one that was made in its stead.
+Look = collections.namedtuple("Look", "inode lines prompt place score turns")
+
+
+class NoRoom(Exception):
+    """There is no memory for a session."""
+
+
+class Broken(Exception):
+    """A session that can't be made or played, though its image can: the words say how it failed."""
+
+
+def look_of(path):
+    """What the file of a session shows."""
+    file = os.open(path, os.O_RDONLY | os.O_CLOEXEC)
+    try:
+        found = os.fstat(file)
+        if found.st_size != sessions.LENGTH:
+            raise Broken("its file has another length")
+        slot = sessions.SLOTS + sessions.SLOT * (os.pread(file, 2, 0)[1] % 2)
+        count, = struct.unpack("<H", os.pread(file, 2, slot))
+        base = os.pread(file, 1048, slot + sessions.BASE)
+        changed = dict(struct.iter_unpack("<HBx", os.pread(file, 4 * min(count, 4096), slot + sessions.RECORDS)))
+    finally:
+        os.close(file)
+
+    def state(at):
+        return changed.get(at, base[at])
+
+    has_light = not state(0) or state(256) in (state(38), 253, 254)
+    return Look(found.st_ino, int.from_bytes(map(state, range(1039, 1047)), "little"), state(1047), state(38) if has_light else None,
+                state(30), state(31) + 256 * state(32))
+
+
+# --- The folder ----------------------------------------------------------------------------------------------------
+
+class Room:
+    """A folder in memory of one server, which goes with it. What servers left that were killed is taken away first."""
+
+    def __init__(self, parent=MEMORY):
+        parent = parent if os.access(parent, os.W_OK) else tempfile.gettempdir()
+        with alone_in(parent) as is_alone:  # so nobody sweeps a folder away that is being made
+            if is_alone:
+                sweep(parent)
+            self.path = tempfile.mkdtemp(prefix="%s%d-" % (OURS, os.getuid()), dir=parent)
+            self.held = hold(os.path.join(self.path, ".held"))
+
+    def end(self):
+        shutil.rmtree(self.path, ignore_errors=True)
+
+
+@contextlib.contextmanager
+def alone_in(parent):
+    """Whether servers that begin here at the same time wait until this is done; they don't where somebody keeps them from it."""
+    file, end = os.open(parent, os.O_RDONLY | os.O_CLOEXEC), time.monotonic() + PATIENCE
+    try:
+        while True:
+            try:
+                fcntl.flock(file, fcntl.LOCK_EX | fcntl.LOCK_NB)
+                is_alone = True
+                break
+            except OSError:
+                is_alone = False
+                if time.monotonic() > end:
+                    break
+                time.sleep(0.01)
+        yield is_alone
+    finally:
+        os.close(file)
+
+
+def hold(path):
+    """Holds a file as long as this process lives; None where another one holds it."""
+    file = os.open(path, os.O_RDWR | os.O_CREAT | os.O_CLOEXEC | os.O_NOFOLLOW, 0o600)
+    try:
+        fcntl.flock(file, fcntl.LOCK_EX | fcntl.LOCK_NB)
+        return file
+    except OSError:
+        os.close(file)
+        return None
+
+
+def sweep(parent):
+    """Takes away the folders of this user's servers that run no more."""
+    for entry in os.scandir(parent):
+        with contextlib.suppress(OSError):
+            if entry.name.startswith("%s%d-" % (OURS, os.getuid())) and entry.is_dir(follow_symlinks=False):
+                held = hold(os.path.join(entry.path, ".held"))
+                if held is not None:
+                    shutil.rmtree(entry.path, ignore_errors=True)
+                    os.close(held)
+
+
+# --- One game's texts ----------------------------------------------------------------------------------------------
+
+class Pawhost(common.Host):
+    """A pawhost that is asked one thing at a time, without anything else waiting for it."""
+
+    def __init__(self, folder, image):
+        super().__init__(folder, image, 0)
+        self.output.setblocking(False)
+
+    async def answer(self, name, text=None):
+        """The body of its reply to a line, or to the name alone."""
+        self.send(name, text)
+        try:
+            comes = asyncio.get_running_loop().sock_recv(self.output, common.LONGEST_REPLY)
+            reply = await asyncio.wait_for(comes, common.SLOWEST)
+        except (ConnectionResetError, asyncio.TimeoutError):
+            self.process.kill()
+            reply = b""
+        return self.body(name, reply)
+
+    def stop(self):
+        """Ends it at once, whatever it does."""
+        self.process.kill()
+        with contextlib.suppress(OSError):
+            self.end()
+
+
+class Engine:
+    """The texts of one image: sessions that are made from lines, and pawhosts that play them, each one line at a time. One that
+    ends is begun anew. A session belongs to one of them, which may hold its lock."""
+
+    def __init__(self, data, room, tells=lambda event: None):
+        self.places, self.tells = images.places(data), tells
+        self.folder = os.path.join(room, images.digest(data))
+        os.makedirs(self.folder, mode=0o700)
+        self.image = os.path.join(self.folder, "image")
+        with open(self.image, "wb") as file:
+            file.write(data)
+        self.paw, self.hosts, self.turns = common.program("paw"), [None] * HOSTS, [asyncio.Lock() for _ in range(HOSTS)]
+        self.makers = concurrent.futures.ThreadPoolExecutor(MAKERS)
+
+    def path(self, file):
+        return common.path_of(self.folder, file)
+
+    async def ask(self, file, text=None):
+        """The body of pawhost's reply to a line for a session, or to the session alone. Where it ends it is Ended, and this
+        session alone has to be made again."""
+        which = int(file[1:]) % HOSTS
+        async with self.turns[which]:
+            if self.hosts[which] is None or self.hosts[which].process.poll() is not None:
+                self.hosts[which] = Pawhost(self.folder, self.image)
+            try:
+                return await self.hosts[which].answer(file, text)
+            except BaseException:
+                self.hosts[which].stop()
+                self.hosts[which] = None
+                self.tells("ended")
+                raise
+
+    async def make(self, file, seed, lines, base=None):
+        """Makes a session of the lines, from its seed on, or from a session that it begins with."""
+        loop = asyncio.get_running_loop()
+        return await loop.run_in_executor(self.makers, self.made, file, seed, lines, base)
+
+    def made(self, file, seed, lines, base):
+        path, words = self.path(file), ["play", self.image, self.path(file), str(seed)]
+        try:
+            if base is not None:
+                with open(path, "wb") as out:
+                    out.write(base)
+                words = ["resume", self.image, path]
+            done = subprocess.run([self.paw, *words], input=b"".join(line + b"\n" for line in lines), stdout=subprocess.DEVNULL,
+                                  stderr=subprocess.PIPE, timeout=common.SLOWEST)
+        except OSError as fault:
+            raise NoRoom(fault.strerror) from fault
+        except subprocess.TimeoutExpired as fault:
+            raise Broken("its lines take too long") from fault
+        if done.returncode in (7, 8):
+            raise NoRoom(done.stderr.decode("latin-1").strip())
+        if done.returncode not in (0, 5, 6):  # a line that can't be answered ends it, which the count of lines shows
+            raise Broken(done.stderr.decode("latin-1").strip())
+        return look_of(path)
+
+    def look(self, file):
+        return look_of(self.path(file))
+
+    def place(self, look):
+        """The title of the place where a session is."""
+        if look.place is None:
+            return "In the dark"
+        text = self.places[look.place] if look.place < len(self.places) else ""
+        title = text.strip().split("\n")[0].strip()
+        return title if len(title) <= 60 else ""
+
+    def forget(self, file):
+        with contextlib.suppress(OSError):
+            os.unlink(self.path(file))
+
+    def end(self):
+        self.makers.shutdown(wait=False)
+        for host in self.hosts:
+            if host:
+                host.stop()
+
+
+# --- Sessions in memory --------------------------------------------------------------------------------------------
+
+class Session:
+    """A session in memory: where its game stands, what its file shows, and the last text. One in use doesn't go for others."""
+
+    def __init__(self, found, file, player, stand, look):
+        self.engine, self.file, self.player, self.stand, self.look = found, file, player, stand, look
+        self.text, self.in_use = "", 0
+
+
+class Sessions:
+    """As many sessions as there is room for; those that were used least lately go."""
+
+    def __init__(self, most):
+        self.most, self.found, self.number = max(LEAST, most), collections.OrderedDict(), 0
+
+    def file(self):
+        """A name for a file that no other had."""
+        self.number += 1
+        return "s%d" % self.number
+
+    def get(self, who):
+        session = self.found.get(who)
+        if session:
+            self.found.move_to_end(who)
+        return session
+
+    def put(self, who, session):
+        self.drop(who)
+        self.found[who] = session
+        self.let_go(len(self.found) - self.most)
+
+    def drop(self, who):
+        session = self.found.pop(who, None)
+        if session:
+            session.engine.forget(session.file)
+
+    def let_go(self, count):
+        """Lets some go that nobody plays right now, this many where there are as many."""
+        for who in [who for who, session in self.found.items() if not session.in_use][:max(0, count)]:
+            self.drop(who)
