@@ -18,6 +18,17 @@ _paw() {
     # So far packaging/make.
     COMPREPLY=()
     case $COMP_CWORD:${COMP_WORDS[1]} in
+    [2-9]:serve)
+        case $last:$word in
+        *:-*)
+            COMPREPLY=($(compgen -W '--folder --module --help' -- "$word"))
+            return
+            ;;
+        --module:*) ends='*.wasm' ;;
+        --folder:*) ends='*' ;;
+        *) ends='*.img' ;;
+        esac
+        ;;
     *:-*)
         case $last:$word in
         *:-*)
@@ -30,7 +41,7 @@ _paw() {
         esac
         ;;
     1:*)
-        COMPREPLY=($(compgen -W "$names" -- "$word"))
+        COMPREPLY=($(compgen -W "$names serve" -- "$word"))
         ends='*.img'
         ;;
     *)
