@@ -1,5 +1,5 @@
 -- Condacts, and how steps of reading follow one another.
-use Rattle.std.proofs.Common.{◌≡◌, ℕ, ◌+◌, ◌≤◌, ◌<◌, true, false, List, [], ◌∷◌, ◌++◌, Option, Some, None}
+use Rattle.std.proofs.Common.{◌≡◌, ◌⊎◌, inl, inr, ℕ, ◌+◌, ◌≤◌, ◌<◌, true, false, List, [], ◌∷◌, ◌++◌, Option, Some, None}
 use Rattle.std.proofs.Common.{refl, sym, ap, ◌∙◌, subst, length, arith, add-one, length-append}
 use Rattle.std.specs.Prelude.{if◌then◌else◌, reverse}
 use Rattle.std.proofs.lemmas.List.{append_assoc, append-nil}
@@ -151,6 +151,10 @@ act_follows g old mid f c s s' a r kind does unspent eq em =
     (one_acts g (below old.frames) f c (run_held (having s old) r) kind
     ∙ act_at g (below old.frames) f d s s' old cancelled a (step_noted f c true r) m.0 m.1 m.2 m.3 eq refl)
 
+spent_or_not : (e : Effect) → (e ≡ effect.Spent) ⊎ (e ≡ effect.Spent → ⊥)
+spent_or_not effect.Spent = inl refl
+spent_or_not _ = inr (λ h. cc)
+
 -- An action whose text doesn't fit.
 pub act_spends : (g : Story) (old : OpenTables) (f : Frame) (c : Condact) (s s' : Surroundings) (a : Act) (r : Run)
     → is_condition c ≡ false → Does (effect_of g s.world c) s.piece s'.piece s'.world a → effect.Spent ≡ a.effect
@@ -213,35 +217,30 @@ module _ (g : Story) (old mid : OpenTables) (f : Frame) (c : Condact) (s : Surro
         (rw em at (asks (step_noted f c true r))),
   )
 
+  -- An action is carried out, and reading goes on as its effect says. Where its text doesn't fit the machine stops.
   pub act_on : (s' s'' : Surroundings) (cancelled new : OpenTables) (a : Act) (t : Option Turned) → is_condition c ≡ false
-      → Does (effect_of g s.world c) s.piece s'.piece s'.world a → (a.effect ≡ effect.Spent → ⊥)
+      → Does (effect_of g s.world c) s.piece s'.piece s'.world a
       → s'.pending ≡ record s.pending { bytes = if a.drop_line then [] else s.pending.bytes }
       → ReadsStep (step_at f c true) old mid → mid ≡ record old { left = left; steps = steps }
       → cancelled ≡ record mid { turning = if a.cancel_loop then None else mid.turning } → ReadsNone cancelled new
       → ((r : Run) → Continues g (acted_at g (below cancelled.frames) f a.effect (run_held (having s' cancelled) r))
       t new.frames (run_held (having s'' new) r))
+      → (a.effect ≡ effect.Spent → t ≡ Some (turned.Halted (halt.Spent spent.Text)))
       → ReadsOne g (below old.frames) f c (having s old) t (having s'' new)
-  act_on s' s'' cancelled new a t kind does unspent ep one em ec none follows = (
+  act_on s' s'' cancelled new a t kind does ep one em ec none follows stops = (
     true,
     step_then (step_at f c true) old cancelled new (step_then (step_at f c true) old mid cancelled one (moved_none _ _ _ _ _ ec)) none,
-    λ r.
-        goes_from g _ _ t new.frames (step_noted f c true (run_held (having s'' new) r))
-        (act_follows g old (record old { turning = if a.cancel_loop then None else old.turning }) f c s s' a r kind does unspent ep refl)
-        (rw (ec, em) at (follows (step_noted f c true r))),
-  )
-
-  pub act_ends : (s' : Surroundings) (new : OpenTables) (a : Act) (t : Option Turned) → is_condition c ≡ false
-      → Does (effect_of g s.world c) s.piece s'.piece s'.world a → effect.Spent ≡ a.effect
-      → ReadsStep (step_at f c true) old mid → ReadsNone mid new → t ≡ Some (turned.Halted (halt.Spent spent.Text))
-      → ReadsOne g (below old.frames) f c (having s old) t (having s' new)
-  act_ends s' new a t kind does is one none e = (
-    true,
-    step_then (step_at f c true) old mid new one none,
-    λ r.
-        stops_halted g (one_at g (below old.frames) f c (run_held (having s old) r)) t (halt.Spent spent.Text) new.frames
-        (step_noted f c true (run_held (having s' new) r)) (step_noted f c true (run_held (having s old) r)) refl e
-        (act_spends g old f c s s' a r kind does is)
-        (record { pieces = refl; traces = refl; events = refl }),
+    λ r. elim (spent_or_not a.effect) [
+      | inl is ↦
+          stops_halted g (one_at g (below old.frames) f c (run_held (having s old) r)) t (halt.Spent spent.Text) new.frames
+          (step_noted f c true (run_held (having s'' new) r)) (step_noted f c true (run_held (having s old) r)) refl (stops is)
+          (act_spends g old f c s s' a r kind does (sym is))
+          (record { pieces = refl; traces = refl; events = refl })
+      | inr unspent ↦
+          goes_from g _ _ t new.frames (step_noted f c true (run_held (having s'' new) r))
+          (act_follows g old (record old { turning = if a.cancel_loop then None else old.turning }) f c s s' a r kind does unspent ep refl)
+          (rw (ec, em) at (follows (step_noted f c true r)))
+    ],
   )
 
 -- ---- steps ----

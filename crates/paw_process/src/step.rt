@@ -3,6 +3,7 @@
 ghost use Rattle.std.specs.Prelude.{◌≡◌, ◌+◌, ◌-◌, ◌<◌, ◌≤◌, [], ◌∷◌, length};
 ghost use Rattle.std.specs.Prelude.{Bool, true, false, Some, None, IfNone, IfSome, IsNone, if◌then◌else◌};
 ghost use Rattle.paw_base.specs.Bytes.{RoutineAnswers};
+ghost use Rattle.paw_base.specs.declared.fault.SpentKind.TheVariants as spent;
 ghost use Rattle.paw_base.specs.declared.limits.TheConstants.{ENTRY_LIMIT};
 ghost use Rattle.paw_base.specs.declared.messages.TheConstants.{QUIT_MESSAGE};
 ghost use Rattle.paw_game.specs.Valid.{Valid};
@@ -15,6 +16,7 @@ ghost use Rattle.paw_effects.specs.Texts.{put_text};
 ghost use Rattle.paw_effects.specs.declared.act.Effect.TheVariants as effects;
 ghost use Rattle.paw_effects.specs.declared.act.Prompt.TheVariants as prompt;
 ghost use Rattle.paw_reading.specs.declared.frames.Frame.{Frame};
+ghost use Rattle.paw_reading.specs.declared.halt.Halt.TheVariants as halt;
 ghost use Rattle.paw_reading.specs.Run.{Run};
 ghost use Rattle.paw_reading.specs.Reading.{Left, deeper, printing, waits, loop_of};
 ghost use Rattle.paw_reading.specs.inner.Parts.{parses};
@@ -30,6 +32,7 @@ ghost use Rattle.paw_process.specs.inner.Steps.{IsReady, MayReadOne, MayReadNext
 ghost use Rattle.paw_process.specs.inner.AfterCondact.{with_frame, frame_of, moved_on, stop_after_condact, held_at};
 ghost use Rattle.paw_process.specs.inner.AfterCondact.{ReachesTable};
 ghost use Rattle.paw_process.specs.inner.Work.{machine_work, frames_work, loop_work, Progress};
+ghost use Rattle.paw_process.specs.declared.Turned.TheVariants as turned;
 ghost use Rattle.paw_process.specs.declared.after_condact.AfterCondact.TheVariants as after_condact;
 ghost use Rattle.paw_world.specs.inner.Places.{left_above};
 
@@ -293,6 +296,7 @@ impl<T: Tables, F: Fn(u8, u8) -> u8> StoryReader<'_, T, F> {
             result machine.new.frames (run_held (having surroundings.new machine.new) r) }
         ensures after { HasMoved (T.game self.now.tables.now) machine.old surroundings.old.world result
             machine.new surroundings.new.world }
+        ensures spent { effect ≡ effects.Spent → result ≡ Some (turned.Halted (halt.Spent spent.Text)) }
     {
         match effect {
             Effect::Go => unreachable!(), // The caller itself goes on after Go.
@@ -336,6 +340,8 @@ impl<T: Tables, F: Fn(u8, u8) -> u8> StoryReader<'_, T, F> {
             (run_held (having surroundings.new (moved_on f result machine.new)) r) }
         ensures after { HasMoved (T.game self.now.tables.now) machine.old surroundings.old.world
             (stop_after_condact result) machine.new surroundings.new.world }
+        ensures spent { effect ≡ effects.Spent →
+            stop_after_condact result ≡ Some (turned.Halted (halt.Spent spent.Text)) }
     {
         match effect {
             Effect::Go => AfterCondact::Next(true),
@@ -429,17 +435,10 @@ impl<T: Tables, F: Fn(u8, u8) -> u8> StoryReader<'_, T, F> {
             &mut surroundings.piece,
             c,
         );
-        match done.effect {
-            // A piece that is spent is never shown, so its line and its loop may stay as they are.
-            Effect::Spent => AfterCondact::Moved(machine.stop(Turned::Halted(Halt::Spent(
-                SpentKind::Text,
-            )))),
-            effect => {
-                drop_line(&mut surroundings.pending, done);
-                machine.cancel_loop(done);
-                self.follow(machine, surroundings, f, effect)
-            }
-        }
+        // A piece that is spent is never shown, so what becomes of its line and its loop doesn't matter.
+        drop_line(&mut surroundings.pending, done);
+        machine.cancel_loop(done);
+        self.follow(machine, surroundings, f, done.effect)
     }
 
     // Reads the condact of a frame, where the piece may read one more.

@@ -1,27 +1,18 @@
-use Rattle.std.proofs.Common.{sym}
 use Rattle.paw_effects.specs.Story.{story_of}
 use Rattle.paw_process.specs.declared.surroundings.Surroundings.{Surroundings}
 use Rattle.paw_process.specs.inner.AfterCondact.{moved_on, stop_after_condact}
 use Rattle.paw_process.proofs.AfterCondacts.{moved_on_none}
-use Rattle.paw_process.proofs.Readings.{moved_none, act_on, act_ends}
+use Rattle.paw_process.proofs.Readings.{act_on}
 use Rattle.paw_process.proofs.step.StoryReader.act.Goals as goal
 
-pub returns-in-Spent-clause-meaning : goal.returns-in-Spent-clause-meaning
-returns-in-Spent-clause-meaning g c X answers =
-    let noted = c.note.new.self in
-    let done : Surroundings = record c.args.surroundings.now { world = c.act-done.new.world; piece = c.act-done.new.piece } in
-    act_ends (story_of (g.T.Tables.game c.args.self.now.tables.now) X) c.args.machine.now noted c.args.f c.args.c c.args.surroundings.now noted.left noted.steps
-    done c.stop.new.self c.act-done.result c.stop.result c.requires.kind (c.act-done.ensures.does X answers) (sym c.in-Spent.is)
-    c.note.ensures.reads (moved_none _ _ _ _ _ c.stop.ensures.closed) c.stop.ensures.value
-
-pub returns-in_default-clause-meaning : goal.returns-in_default-clause-meaning
-returns-in_default-clause-meaning g c X answers =
+pub returns-clause-meaning : goal.returns-clause-meaning
+returns-clause-meaning g c X answers =
     let noted = c.note.new.self in
     let follow = c.follow in
     let done : Surroundings = record { world = c.act-done.new.world; pending = c.drop_line.new.pending; piece = c.act-done.new.piece } in
     act_on (story_of (g.T.Tables.game c.args.self.now.tables.now) X) c.args.machine.now noted c.args.f c.args.c c.args.surroundings.now noted.left noted.steps
     done follow.new.surroundings c.cancel_loop.new.self (moved_on c.args.f follow.result follow.new.machine) c.act-done.result
     (stop_after_condact follow.result)
-    c.requires.kind (c.act-done.ensures.does X answers) c.in_default.not-Spent c.drop_line.ensures.value c.note.ensures.reads c.note.ensures.same
+    c.requires.kind (c.act-done.ensures.does X answers) c.drop_line.ensures.value c.note.ensures.reads c.note.ensures.same
     c.cancel_loop.ensures.value (moved_on_none c.args.f follow.result c.cancel_loop.new.self follow.new.machine follow.ensures.after.left)
-    (λ r. follow.ensures.meaning X r)
+    (λ r. follow.ensures.meaning X r) follow.ensures.spent
