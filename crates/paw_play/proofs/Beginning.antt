@@ -1,5 +1,5 @@
 -- A new session, from its begin on.
-use Rattle.std.proofs.Common.{◌≡◌, ◌≤◌, Some, None, refl, sym, ap, ◌∙◌, length, []}
+use Rattle.std.proofs.Common.{◌≡◌, inl, inr, ◌≤◌, Some, None, refl, sym, ap, ◌∙◌, length, []}
 use Rattle.std.specs.Prelude.{Err}
 use Rattle.paw_base.specs.Bytes.{Text}
 use Rattle.paw_base.specs.declared.limits.TheConstants.{EVENT_LIMIT}
@@ -51,5 +51,8 @@ in_making s first m store i = record {
   shown = i.shown;
   attached = i.attached ∙ store.attached;
   files = λ f other. i.files f (λ e. let a : Some s.name ≡ Some f = sym store.attached ∙ e in other (cc));
-  leaves = i.disk;
+  leaves = λ image may. elim (i.disk image may) [
+    | inl u ↦ inl u.1
+    | inr k ↦ inr k
+  ];
 }

@@ -5,6 +5,7 @@ mod States
 pub mod Kept
 mod Written
 pub mod Opened
+mod Following
 mod Lines
 pub mod Playing
 mod Beginning

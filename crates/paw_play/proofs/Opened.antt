@@ -30,7 +30,7 @@ use Rattle.paw_play.specs.inner.ShowSteps.{Plain}
 use Rattle.paw_play.specs.inner.OnTheWay.{end_if_no_piece, CommitsPlayer, InCommit, MakesPlayer, InMake}
 use Rattle.paw_play.specs.inner.Open.{seat_state, seat_base, ReadsOn, HasPlayed, WaitsAfter, HaltsAfter, HoldsPlayer, KeepsAfter}
 use Rattle.paw_play.specs.inner.Open.{IsOpen, StopsAt, TakesLineTo, InTaking, StopsAtOnce, PlaysFirst, BeginsTo}
-use Rattle.paw_play.specs.inner.Open.{InBeginning}
+use Rattle.paw_play.specs.inner.Open.{InBeginning, StopsAtState}
 use Rattle.paw_play.proofs.Kept.{step_kept}
 use Rattle.paw_play.proofs.ShownSteps.{shows_piece}
 use Rattle.paw_play.proofs.Walking.{on_waits, text_shown}
@@ -99,6 +99,12 @@ step_halts g whole after now next pieces traces text lines all is (step.TooDeep 
 
 -- ---- where a player has played some lines ----
 
+-- The line could be taken, and the player has played it too.
+abbrev Brings : {F : Type 0} → Story → EndingOf → ℕ → Lines → Line → PlayerView F → Type 0
+Brings g whole events taken line next = (events < EVENT_LIMIT) × WaitsAfter whole taken
+    × HasPlayed g whole (taken ++ line ∷ []) next (text_of (whole taken)) next.piece × HoldsPlayer whole (taken ++ line ∷ []) next
+    × (StopsAtState g.game events (whole taken) → StopsAtState g.game (events + 1) (whole (taken ++ line ∷ [])))
+
 module _ {F : Type 0} {g : Story} {whole : EndingOf} {taken : Lines} {seat : PlayerView F} {earlier piece : Text}
     (h : HasPlayed g whole taken seat earlier piece) where
   goes_here : (p : Prompt) → seat.last ≡ step.Waits p → (lines : Lines) →
@@ -129,7 +135,9 @@ module _ {F : Type 0} {g : Story} {whole : EndingOf} {taken : Lines} {seat : Pla
   module _ (p : Prompt) (last : seat.last ≡ step.Waits p) (seated : IsSeated seat) (events : ℕ) (few : events < EVENT_LIMIT) (line : Line)
       (found : Step) (next : PlayerView F) (is : next.last ≡ found) (then_seated : IsSeated next)
       (plays : PlaysTo g (λ lines. going_on_from g p (reverse seat.machine.frames) (run_at seat h.pieces h.traces (line ∷ lines))) found next
-      h.pieces h.traces) where
+      h.pieces h.traces)
+      (stays : IsStanding found → HasPlayed g whole (taken ++ line ∷ []) next (text_of (whole taken)) next.piece →
+      StopsAtState g.game events (whole taken) → StopsAtState g.game (events + 1) (whole (taken ++ line ∷ []))) where
     goes_then : (lines : Lines) → whole ((taken ++ line ∷ []) ++ lines)
         ≡ going_on_from g p (reverse seat.machine.frames) (run_at seat h.pieces h.traces (line ∷ lines))
     goes_then lines = ap whole (append_assoc taken (line ∷ []) lines) ∙ goes_here p last (line ∷ lines)
@@ -140,24 +148,23 @@ module _ {F : Type 0} {g : Story} {whole : EndingOf} {taken : Lines} {seat : Pla
     text_is : text_of (whole taken) ≡ concat h.pieces
     text_is = ap text_of (waits_here p last seated)
 
-    pub next_brings : IsStanding found → (events < EVENT_LIMIT) × WaitsAfter whole taken
-        × HasPlayed g whole (taken ++ line ∷ []) next (text_of (whole taken)) next.piece × HoldsPlayer whole (taken ++ line ∷ []) next
-    next_brings shows = (
-      few,
-      waits,
-      step_played g whole _ (taken ++ line ∷ []) next h.pieces h.traces then_seated goes_then found is shows plays (text_of (whole taken)) text_is,
-      step_keeps g whole _ (taken ++ line ∷ []) next h.pieces h.traces then_seated goes_then found is shows plays,
-    )
+    next_brings : IsStanding found → Brings g whole events taken line next
+    next_brings shows =
+        let more = step_played g whole _ (taken ++ line ∷ []) next h.pieces h.traces then_seated goes_then found is shows plays (text_of (whole taken)) text_is in (
+          few,
+          waits,
+          more,
+          step_keeps g whole _ (taken ++ line ∷ []) next h.pieces h.traces then_seated goes_then found is shows plays,
+          stays shows more,
+        )
 
-    pub next_stops : (o : PlayEnd) → end_if_no_piece found ≡ Some o → StopsAt whole events taken line o
+    next_stops : (o : PlayEnd) → end_if_no_piece found ≡ Some o → StopsAt whole events taken line o
     next_stops o e =
         step_halts g whole _ (taken ++ line ∷ []) next h.pieces h.traces (text_of (whole taken)) []
         (ap whole (sym (append-nil (taken ++ line ∷ []))) ∙ goes_then []) text_is found o plays e (StopsAt whole events taken line)
         (λ kind k. (few, waits, k)) (λ table k. (few, waits, k))
 
-    pub next_played : (o : Option PlayEnd) → o ≡ end_if_no_piece found → MatchOption o
-        ((events < EVENT_LIMIT) × WaitsAfter whole taken
-        × HasPlayed g whole (taken ++ line ∷ []) next (text_of (whole taken)) next.piece × HoldsPlayer whole (taken ++ line ∷ []) next)
+    pub next_played : (o : Option PlayEnd) → o ≡ end_if_no_piece found → MatchOption o (Brings g whole events taken line next)
         (StopsAt whole events taken line)
     next_played None e = next_brings (shows_piece found e)
     next_played (Some o) e = next_stops o (sym e)
@@ -220,10 +227,16 @@ kept_as s n events now next r keeps count e =
 
 module _ {F : Type 0} {g : Story} {s : PlayedSession} {n events : ℕ} {taken : Lines} {seat next : PlayerView F} {earlier piece : Text}
     (line : Line) (old : Standing) (opened : IsOpen g s n taken seat earlier piece old.disk.bytes) (count : events ≡ s.before + n)
-    (brings : (events < EVENT_LIMIT) × WaitsAfter s.whole taken
-    × HasPlayed g s.whole (taken ++ line ∷ []) next (text_of (s.whole taken)) next.piece × HoldsPlayer s.whole (taken ++ line ∷ []) next) where
+    (brings : Brings g s.whole events taken line next) where
   more : events + 1 ≡ s.before + suc n
   more = omega (arith, count)
+
+  few : s.before + n < EVENT_LIMIT
+  few = omega (arith, count, brings.0)
+
+  stops_again : StopsAtState g.game (s.before + suc n) (s.whole (taken ++ line ∷ []))
+  stops_again = subst (λ k. StopsAtState g.game k (s.whole (taken ++ line ∷ []))) more
+      (brings.4 (subst (λ k. StopsAtState g.game k (s.whole taken)) (sym count) opened.stops))
 
   now_shown : (r : Recovered) → r ≡ Shown (kept_digests old.disk.bytes) (seat_state (events + 1) next) next.piece →
       KeepsAfter s (suc n) (taken ++ line ∷ []) r
@@ -231,7 +244,7 @@ module _ {F : Type 0} {g : Story} {s : PlayedSession} {n events : ℕ} {taken : 
       (e ∙ ap (λ d. Shown d (seat_state (events + 1) next) next.piece) opened.digests)
 
   -- Inside the commit.
-  pub in_taking : (m : Standing) → InCommit (events + 1) next old m → InTaking s n taken line old m
+  pub in_taking : (m : Standing) → InCommit (events + 1) next old m → InTaking g s n taken line old m
   in_taking m i = record {
     asked = i.asked;
     shown = i.shown;
@@ -239,7 +252,7 @@ module _ {F : Type 0} {g : Story} {s : PlayedSession} {n events : ℕ} {taken : 
     files = i.files;
     disk = λ image may. elim (i.disk image may) [
       | inl e ↦ inl (subst (KeepsAfter s n taken) (sym e) opened.keeps)
-      | inr e ↦ inr (now_shown (recover image) e, (next.piece, brings.2.text))
+      | inr e ↦ inr (now_shown (recover image) e, (next.piece, brings.2.text), few, brings.1, stops_again)
     ];
   }
 
@@ -248,12 +261,13 @@ module _ {F : Type 0} {g : Story} {s : PlayedSession} {n events : ℕ} {taken : 
       TakesLineTo g s n taken line old new next last (Ok a)
   takes_to A a new last is done =
       let kept = keeps_by in (
-        subst (λ k. k < EVENT_LIMIT) count brings.0,
+        few,
         brings.1,
         record {
           played = subst (HasPlayed g s.whole (taken ++ line ∷ []) next (text_of (s.whole taken))) (sym is) brings.2;
           keeps = now_shown (recover new.disk.bytes) done.shown;
           digests = done.digests ∙ opened.digests;
+          stops = stops_again;
         },
         done.exact ∙ committed_same (seat_base (events + 1) next) (base_after (s.before + suc n) (s.whole (taken ++ line ∷ []))) next.piece
             (last_piece (pieces_of (s.whole (taken ++ line ∷ [])))) old.disk.bytes old.disk.bytes
@@ -277,19 +291,21 @@ module _ {F : Type 0} {g : Story} {next : PlayerView F} (s : PlayedSession) (non
     attached = i.attached;
     files = i.files;
     disk = λ image may. elim (i.disk image may) [
-      | inl u ↦ inl u
+      | inl u ↦ inl ((brings.1 s.digests 0).played, u)
       | inr e ↦ inr (first_shown (recover image) e)
     ];
   }
 
   -- Once it is made.
-  pub begins_to : (A : Type 0) (a : A) (old new : Standing) (last : Text) → last ≡ next.piece → MakesPlayer s.digests next old new → BeginsTo g s new next last (Ok a)
-  begins_to A a old new last is done =
+  pub begins_to : (A : Type 0) (a : A) (old new : Standing) (last : Text) → StopsAtState g.game 0 (s.whole []) → last ≡ next.piece →
+      MakesPlayer s.digests next old new → BeginsTo g s new next last (Ok a)
+  begins_to A a old new last stops is done =
       let kept = brings.1 s.digests 0 in (
         record {
           played = subst (HasPlayed g s.whole [] next []) (sym is) brings.0;
           keeps = first_shown (recover new.disk.bytes) done.shown;
           digests = done.digests;
+          stops = subst (λ k. StopsAtState g.game k (s.whole [])) (omega (arith, none)) stops;
         },
         done.exact ∙ made_same s.digests (seat_base 0 next) (base_after 0 (s.whole [])) next.piece (last_piece (pieces_of (s.whole [])))
             (base_is s.digests 0 (s.whole []) (seat_state 0 next) next.piece kept)

@@ -302,7 +302,7 @@ module _ {F : Type 0} {g : Story} {s : PlayedSession} {first now : Standing} {se
         ([], append-nil (text_for s.whole first.lines n)),
       )))
 
-      pub in_take : (m : Standing) → InTaking s n (first_lines n first.lines) given asking m → InPlay s first m
+      pub in_take : (m : Standing) → InTaking g s n (first_lines n first.lines) given asking m → InPlay s first m
       in_take m i = in_line m i.asked i.shown i.attached
           (λ f other. i.files f (λ e. let a : Some s.name ≡ Some f = sym attached_is ∙ e in other (cc)))
           (λ image may. elim (i.disk image may) [

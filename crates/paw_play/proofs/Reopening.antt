@@ -36,7 +36,7 @@ use Rattle.paw_play.specs.inner.Calls.{IsNotForCall, call_of_end}
 use Rattle.paw_play.specs.inner.OnTheWay.{end_of}
 use Rattle.paw_play.specs.inner.Open.{ReadsOn, IsOpen, ResumesTo, MayTake, StaysSeated}
 use Rattle.paw_play.proofs.Resuming.{goes_on_from}
-use Rattle.paw_play.proofs.Showing.{shows_kept, state_kept, state_text}
+use Rattle.paw_play.proofs.Showing.{shows_kept, state_kept, state_stops, state_text}
 use Rattle.paw_play.proofs.Written.{piece_is}
 
 -- What was read of a store's state is shown there.
@@ -84,6 +84,7 @@ module _ {F : Type 0} (g : Story) (r : Restored) (routines : Routines F) (seat :
         };
         keeps = keeps;
         digests = refl;
+        stops = state_stops g digests bytes (state_read r) piece valid shows;
       }
 
   pub seat_may : (calls : _) → IsSeated seat → HaveAnswers calls routines → IsValidState g.game (state_read r) → MayTake calls r.events seat

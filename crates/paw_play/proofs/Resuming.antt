@@ -1,5 +1,5 @@
 -- A session that is taken up again, up to its prompt.
-use Rattle.std.proofs.Common.{◌≡◌, ℕ, ◌+◌, List, [], ◌∷◌, refl, sym, ap, ◌∙◌, length}
+use Rattle.std.proofs.Common.{◌≡◌, ℕ, ◌+◌, List, [], ◌∷◌, refl, sym, ap, ◌∙◌, subst, length}
 use Rattle.std.proofs.Common.{arith}
 use Rattle.std.specs.Prelude.{reverse}
 use Rattle.std.proofs.lemmas.List.{append-nil}
@@ -18,7 +18,9 @@ use Rattle.paw_turn.specs.inner.Player.{run_with, StandsClosed}
 use Rattle.paw_turn.specs.inner.Parts.{prompt_step}
 use Rattle.paw_journal.specs.Session.{Digests, Shown}
 use Rattle.paw_state.specs.inner.State.{state_of}
-use Rattle.paw_state.specs.State.{state_at}
+use Rattle.paw_state.specs.State.{State, IsValidState, FitsFields, state_at}
+use Rattle.paw_game.specs.Game.{GameLists}
+use Rattle.paw_play.specs.inner.Open.{StopsAtState}
 use Rattle.paw_play.specs.Session.{kept_bytes, IsKept}
 use Rattle.paw_play.specs.Played.{going_on}
 use Rattle.paw_play.proofs.Walking.{on_waits}
@@ -42,9 +44,26 @@ module _ (digests : Digests) (g : Story) (w : World) (m : OpenTables) (p : Pendi
       ap (λ k. record { world = w; frames = frames_at (reverse m.frames) m.turning; pending = p; prompt = at; events = k; piece = n }) e
       ∙ ap (λ k. record { world = w; frames = frames_at (reverse m.frames) m.turning; pending = p; prompt = at; events = events + 0; piece = k }) (sym long)
 
+  at_end : m.frames ≡ [] → state_of w m p prompt.Over events n ≡ state_at (events + 0) prompt.Over [] (run_from w m p piece [])
+  at_end none = same_state prompt.Over ∙ ap (λ (fs : List Frame). state_at (events + 0) prompt.Over (reverse fs) (run_from w m p piece [])) none
+
   waits_kept : (at : Prompt) (e : Ending) → e ≡ WaitsAt at (reverse m.frames) (run_from w m p piece []) →
       IsKept digests (events + 0) e (Shown digests (kept_bytes (state_of w m p at events n)) piece)
   waits_kept at e is = rw is (record { played = tt; shown = ap (λ q. Shown digests (kept_bytes q) piece) (same_state at) })
+
+  waits_stop : (at : Prompt) (e : Ending) → e ≡ WaitsAt at (reverse m.frames) (run_from w m p piece []) → (k : GameLists) →
+      IsValidState k (state_of w m p at events n) × FitsFields (state_of w m p at events n) → StopsAtState k (events + 0) e
+  waits_stop at e is k h = rw is (subst (λ (q : State). IsValidState k q × FitsFields q) (same_state at) h)
+
+  -- A reading that goes on from a state of a game stops at one.
+  pub stops_at : (at : Prompt) → StandsClosed (prompt_step at) m → (k : GameLists) →
+      IsValidState k (state_of w m p at events n) × FitsFields (state_of w m p at events n) →
+      StopsAtState k (events + 0) (going_on_from g at (reverse m.frames) (run_from w m p piece []))
+  stops_at prompt.Main h = waits_stop prompt.Main _ (on_waits g prompt.Main m (run_from w m p piece []) h)
+  stops_at prompt.Quit h = waits_stop prompt.Quit _ (on_waits g prompt.Quit m (run_from w m p piece []) h)
+  stops_at prompt.Again h = waits_stop prompt.Again _ (on_waits g prompt.Again m (run_from w m p piece []) h)
+  stops_at prompt.Key h = waits_stop prompt.Key _ (on_waits g prompt.Key m (run_from w m p piece []) h)
+  stops_at prompt.Over h = λ k follows. subst (λ (q : State). IsValidState k q × FitsFields q) (at_end h.frames) follows
 
   pub kept_at : (at : Prompt) → StandsClosed (prompt_step at) m →
       IsKept digests (events + 0) (going_on_from g at (reverse m.frames) (run_from w m p piece []))
@@ -55,9 +74,7 @@ module _ (digests : Digests) (g : Story) (w : World) (m : OpenTables) (p : Pendi
   kept_at prompt.Key h = waits_kept prompt.Key _ (on_waits g prompt.Key m (run_from w m p piece []) h)
   kept_at prompt.Over h = record {
     played = refl;
-    shown = ap (λ q. Shown digests (kept_bytes q) piece)
-        (same_state prompt.Over ∙ ap (λ fs. state_at (events + 0) prompt.Over (reverse fs) (run_from w m p piece []))
-        h.frames);
+    shown = ap (λ q. Shown digests (kept_bytes q) piece) (at_end h.frames);
   }
 
   pub text_at : (at : Prompt) → StandsClosed (prompt_step at) m → text_of (going_on_from g at (reverse m.frames) (run_from w m p piece [])) ≡ piece

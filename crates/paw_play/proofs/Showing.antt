@@ -33,7 +33,8 @@ use Rattle.paw_state.proofs.Ruled.{each_of}
 use Rattle.paw_state.proofs.Lawful.{bytes_give_the_state, long_state}
 use Rattle.paw_play.specs.Session.{kept_bytes, IsKept}
 use Rattle.paw_play.specs.Played.{ShowsState, going_on, from_state}
-use Rattle.paw_play.proofs.Resuming.{goes_on_from, kept_at, text_at}
+use Rattle.paw_play.proofs.Resuming.{goes_on_from, kept_at, stops_at, text_at}
+use Rattle.paw_play.specs.inner.Open.{StopsAtState}
 
 -- A buffer begins with the bytes of a state.
 pub shows_kept : (digests : Digests) (bytes buffer piece : Bytes) (st : State) →
@@ -135,6 +136,15 @@ module _ (g : Story) (digests : Digests) (bytes : Bytes) (st : State) (piece : T
       (subst (λ e. IsKept digests (st.events + 0) e (Shown digests (kept_bytes (state_of st.world machine st.pending st.prompt st.events st.piece)) piece))
       (sym (goes_on_from g st.world machine st.pending st.prompt st.events st.piece piece []))
       (kept_at digests g st.world machine st.pending st.events st.piece piece long st.prompt stands)))
+
+  -- The reading that goes on from it stops at a state of the game.
+  pub state_stops : StopsAtState g.game (st.events + 0) (going_on g st piece [])
+  state_stops =
+      subst (λ s. StopsAtState g.game (st.events + 0) (going_on g s piece [])) (sym state_is)
+      (subst (StopsAtState g.game (st.events + 0))
+      (sym (goes_on_from g st.world machine st.pending st.prompt st.events st.piece piece []))
+      (stops_at digests g st.world machine st.pending st.events st.piece piece long st.prompt stands g.game
+      (subst (λ (q : State). IsValidState g.game q × FitsFields q) state_is (shows.valid, shows.fits))))
 
   pub state_text : text_of (going_on g st piece []) ≡ piece
   state_text =

@@ -1,6 +1,7 @@
 // Playing with a session: each piece is shown, and the next line is asked for and taken. What is kept of a player.
 
-ghost use Rattle.std.specs.Prelude.{◌≡◌, ◌+◌, take, length, IfOk, IfErr, IfSome, OnOk};
+ghost use Rattle.std.specs.Prelude.{◌≡◌, ◌+◌, ◌≤◌, take, length, IfOk, IfErr, IfSome, OnOk};
+ghost use Rattle.paw_base.specs.declared.limits.TheConstants.{PIECE_LIMIT};
 ghost use Rattle.paw_stage.specs.Stage.{InShow};
 ghost use Rattle.paw_stage.specs.AcrossCalls.{IfTelling, FailsOnlyBy};
 ghost use Rattle.paw_stage.specs.inner.AcrossCalls.{AtEachMoment};
@@ -67,6 +68,7 @@ pub fn commit<S: Stage, T: Tables, F: Fn(u8, u8) -> u8>(
     ensures call { WritesStore S.Stage result (CommitsPlayer events player.now) (InCommit events player.now)
         stage.old stage.new }
     ensures piece { OnOk result (room.new.piece ≡ player.now.piece) }
+    ensures short { OnOk result (length room.new.piece ≤ PIECE_LIMIT) }
     ensures kept { S.Tells stage.old → IfOk result (λ kept. KeptIn kept room.new (S.standing stage.new)) }
 {
     let mut state = [0u8; STATE_ROOM];
@@ -92,6 +94,7 @@ pub(crate) fn make<S: Stage, T: Tables, F: Fn(u8, u8) -> u8>(
     ensures call { WritesStore S.Stage result (MakesPlayer (digests_of game.now rules.now) player.now)
         (InMake (digests_of game.now rules.now) player.now) stage.old stage.new }
     ensures piece { OnOk result (room.new.piece ≡ player.now.piece) }
+    ensures short { OnOk result (length room.new.piece ≤ PIECE_LIMIT) }
     ensures kept { S.Tells stage.old → IfOk result (λ kept. KeptIn kept room.new (S.standing stage.new)) }
 {
     let mut state = [0u8; STATE_ROOM];

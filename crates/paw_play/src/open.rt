@@ -1,9 +1,9 @@
 // A session that is open: it is begun or resumed in the attached store, and takes lines. Where the lines come from, and
 // how pieces are shown, is left to its caller.
 
-ghost use Rattle.std.specs.Prelude.{◌≡◌, ℕ, ◌+◌, ◌≤◌, length, None, IfOk, IfErr, IfNone, IfSome, MatchBool};
+ghost use Rattle.std.specs.Prelude.{◌≡◌, ℕ, ◌+◌, ◌≤◌, length, None, IfOk, IfErr, IfNone, IfSome, OnOk, MatchBool};
 ghost use Rattle.paw_base.specs.Bytes.{Lines, Name, Text};
-ghost use Rattle.paw_base.specs.declared.limits.TheConstants.{LINE_LIMIT};
+ghost use Rattle.paw_base.specs.declared.limits.TheConstants.{LINE_LIMIT, PIECE_LIMIT};
 ghost use Rattle.paw_stage.specs.AcrossCalls.{FailsOnlyBy, IfTelling};
 ghost use Rattle.paw_routines.specs.Routines.{HaveAnswers};
 ghost use Rattle.paw_reading.specs.Turn.{reading};
@@ -94,6 +94,7 @@ pub fn begin<S: Stage, T: Tables, F: Fn(u8, u8) -> u8>(
     ensures stays { StaysSeated player.old player.new }
     ensures may { IfOk result (λ s. MayTake F.Fn s.events player.new) }
     ensures holds { IfOk result (HoldsSession (S.Tells stage.old) 0 room.new (S.standing stage.new)) }
+    ensures short { OnOk result (length room.new.piece ≤ PIECE_LIMIT) }
     ensures serves { FailsOnlyBy S.Stage writing_calls (end_failed_or result) stage.old stage.new }
     ensures beside { IfTelling S.Stage stage.old stage.new ChangesStoreOnly }
     ensures still { IfErr result (λ o. call_of_end o ≡ None → stage.new ≡ stage.old) }
@@ -164,6 +165,7 @@ pub fn resume<S: Stage, T: Tables, F: Fn(u8, u8) -> u8>(
     ensures stays { StaysSeated player.old player.new }
     ensures may { IfOk result (λ s. MayTake F.Fn s.events player.new) }
     ensures kept { S.Tells stage.old → IfOk result (λ s. KeptIn s.journal room.new (S.standing stage.new)) }
+    ensures short { S.Tells stage.old → OnOk result (length room.new.piece ≤ PIECE_LIMIT) }
     ensures reads { ReadsStore S.Stage (end_failed_or result) stage.old stage.new }
     ensures refused { IfErr result IsNotForCall }
     ensures meaning { IfTelling S.Stage stage.old stage.new (λ old new.
@@ -228,6 +230,7 @@ pub fn take<S: Stage, T: Tables, F: Fn(u8, u8) -> u8>(
     ensures stays { StaysSeated player.old player.new }
     ensures may { IfOk result (λ s. MayTake F.Fn s.events player.new) }
     ensures holds { IfOk result (HoldsSession (S.Tells stage.old) (session.events + 1) room.new (S.standing stage.new)) }
+    ensures short { OnOk result (length room.new.piece ≤ PIECE_LIMIT) }
     ensures serves { FailsOnlyBy S.Stage writing_calls (end_failed_or result) stage.old stage.new }
     ensures beside { IfTelling S.Stage stage.old stage.new ChangesStoreOnly }
     ensures still { IfErr result (λ o. call_of_end o ≡ None → stage.new ≡ stage.old) }
@@ -237,7 +240,7 @@ pub fn take<S: Stage, T: Tables, F: Fn(u8, u8) -> u8>(
         IsOpen g s n taken player.old earlier room.old.piece old.disk.bytes → session.events ≡ s.before + n →
         DoneWithMoments S.Stage stage.old stage.new
         (TakesLineTo g s n taken line.now old new player.new room.new.piece result)
-        (InTaking s n taken line.now old))) }
+        (InTaking g s n taken line.now old))) }
 {
     if let Some(end) = play_next(player, session.events, line) {
         return Err(end);

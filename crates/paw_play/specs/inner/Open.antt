@@ -17,12 +17,13 @@ use Rattle.paw_routines.specs.Routines.{AreAnswersOf, HaveAnswers}
 use Rattle.paw_routines.specs.declared.routines.Routines.{Routines}
 use Rattle.paw_effects.specs.Story.{Story}
 use Rattle.paw_effects.specs.declared.act.Prompt.{Prompt}
+use Rattle.paw_effects.specs.declared.act.Prompt.TheVariants as prompt
 use Rattle.paw_reading.specs.Run.{Run, StepRow}
 use Rattle.paw_reading.specs.declared.frames.Frame.{Frame}
 use Rattle.paw_reading.specs.declared.halt.Halt.{Halt}
 use Rattle.paw_reading.specs.declared.halt.Halt.TheVariants as halt
 use Rattle.paw_reading.specs.Reading.{closes_piece}
-use Rattle.paw_reading.specs.Turn.{WaitsAt, Halted, going_on_from, text_of, pieces_of}
+use Rattle.paw_reading.specs.Turn.{Ending, WaitsAt, Halted, going_on_from, text_of, pieces_of}
 use Rattle.paw_turn.specs.inner.Player.{PlayerView, IsSeated, IsStanding, run_at, prompt_at}
 use Rattle.paw_turn.specs.declared.Step.{Step}
 use Rattle.paw_turn.specs.declared.Step.TheVariants as step
@@ -33,12 +34,12 @@ use Rattle.paw_journal.specs.inner.Store.{InStore, CrashLeavesSuch}
 use Rattle.paw_journal.specs.inner.Journal.{KeptIn}
 use Rattle.paw_journal.specs.inner.Room.{Room}
 use Rattle.paw_state.specs.inner.State.{state_of}
-use Rattle.paw_state.specs.State.{State, last_piece}
+use Rattle.paw_state.specs.State.{State, IsValidState, FitsFields, last_piece, state_at}
 use Rattle.paw_state.specs.Fit.{Fit, Unfit}
 use Rattle.paw_play.specs.declared.PlayEnd.{PlayEnd}
 use Rattle.paw_play.specs.declared.PlayEnd.TheVariants as end
 use Rattle.paw_play.specs.declared.open.OpenSession.{OpenSession}
-use Rattle.paw_play.specs.Session.{story_digests, IsOfStory, IsKept, kept_bytes}
+use Rattle.paw_play.specs.Session.{story_digests, IsOfStory, IsKept, IsPlayed, kept_bytes}
 use Rattle.paw_play.specs.Walk.{EndingOf, end_halt}
 use Rattle.paw_play.specs.Played.{PlayedSession, ShowsState, from_state}
 use Rattle.paw_play.specs.Play.{Refuses}
@@ -89,18 +90,26 @@ abbrev pub HoldsPlayer : {F : Type 0} → EndingOf → Lines → PlayerView F �
 HoldsPlayer whole taken seat = (digests : Digests) (events : ℕ) →
     IsKept digests events (whole taken) (Shown digests (seat_state events seat) seat.piece)
 
+-- Where a reading has stopped after this number of lines, its state follows all rules of the game.
+abbrev pub StopsAtState : GameLists → ℕ → Ending → Type 0
+StopsAtState g n (WaitsAt p path r) = IsValidState g (state_at n p path r) × FitsFields (state_at n p path r)
+StopsAtState g n (Halted halt.Over r) = IsValidState g (state_at n prompt.Over [] r) × FitsFields (state_at n prompt.Over [] r)
+StopsAtState g n _ = Unit {0}
+
 -- ---- the session ----
 
 -- The session shows the first n lines, which are these.
 abbrev pub KeepsAfter : PlayedSession → ℕ → Lines → Recovered → Type 0
 KeepsAfter s n taken r = IsKept s.digests (s.before + n) (s.whole taken) r
 
--- The session is open: n lines were taken, which are these; the player has played them, and the store keeps them.
+-- The session is open: n lines were taken, which are these; the player has played them, and the store keeps them. They
+-- stop at a state of the game.
 pub record IsOpen {F : Type 0} (g : Story) (s : PlayedSession) (n : ℕ) (taken : Lines) (seat : PlayerView F)
     (earlier piece : Text) (bytes : Bytes) : Type 0 where
   pub played : HasPlayed g s.whole taken seat earlier piece
   pub keeps : KeepsAfter s n taken (recover bytes)
   pub digests : kept_digests bytes ≡ s.digests
+  pub stops : StopsAtState g.game (s.before + n) (s.whole taken)
 
 -- The bytes of a store once the session's reading of n lines, which are these, was committed.
 abbrev pub bytes_with_commit : PlayedSession → ℕ → Lines → Bytes → Bytes
@@ -124,7 +133,8 @@ PlaysNext g events line seat next o = (whole : EndingOf) (taken : Lines) (earlie
     HasPlayed g whole taken seat earlier piece → MatchOption o
     ((events < EVENT_LIMIT) × WaitsAfter whole taken
     × HasPlayed g whole (taken ++ line ∷ []) next (text_of (whole taken)) next.piece
-    × HoldsPlayer whole (taken ++ line ∷ []) next)
+    × HoldsPlayer whole (taken ++ line ∷ []) next
+    × (StopsAtState g.game events (whole taken) → StopsAtState g.game (events + 1) (whole (taken ++ line ∷ []))))
     (StopsAt whole events taken line)
 
 -- What a line of an open session leads to: it was taken, and its piece is committed; or it wasn't. Where a call failed
@@ -137,14 +147,18 @@ TakesLineTo g s n taken line old new seat piece (Ok a) = (s.before + n < EVENT_L
 TakesLineTo g s n taken line old new seat piece (Err (end.Outside c)) = IsOneOf writing_calls c
 TakesLineTo g s n taken line old new seat piece (Err o) = StopsAt s.whole (s.before + n) taken line o
 
--- The session shows the line too, and its piece comes after the text before it.
-abbrev pub HoldsNext : PlayedSession → ℕ → Lines → Line → Recovered → Type 0
-HoldsNext s n taken line r = KeepsAfter s (suc n) (taken ++ line ∷ []) r
+-- The session shows the line too, and its piece comes after the text before it: the session could take a line, and with
+-- this one stops at a state of the game again.
+abbrev pub HoldsNext : Story → PlayedSession → ℕ → Lines → Line → Recovered → Type 0
+HoldsNext g s n taken line r = KeepsAfter s (suc n) (taken ++ line ∷ []) r
     × ((more : Text) × (text_of (s.whole (taken ++ line ∷ [])) ≡ text_of (s.whole taken) ++ more))
+    × (s.before + n < EVENT_LIMIT) × WaitsAfter s.whole taken
+    × StopsAtState g.game (s.before + suc n) (s.whole (taken ++ line ∷ []))
 
 -- A moment at which a line is taken: whatever a crash leaves of the store keeps the lines before it, or it too.
-abbrev pub InTaking : PlayedSession → ℕ → Lines → Line → Standing → Standing → Type 0
-InTaking s n taken line old m = InStore old (CrashLeavesSuch (λ r. KeepsAfter s n taken r ⊎ HoldsNext s n taken line r)) m
+abbrev pub InTaking : Story → PlayedSession → ℕ → Lines → Line → Standing → Standing → Type 0
+InTaking g s n taken line old m =
+    InStore old (CrashLeavesSuch (λ r. KeepsAfter s n taken r ⊎ HoldsNext g s n taken line r)) m
 
 -- Play ends before the piece before the first line is closed.
 abbrev pub StopsAtOnce : EndingOf → PlayEnd → Type 0
@@ -163,9 +177,11 @@ BeginsTo g s new seat piece (Ok a) = IsOpen g s 0 [] seat [] piece new.disk.byte
 BeginsTo g s new seat piece (Err (end.Outside c)) = IsOneOf writing_calls c
 BeginsTo g s new seat piece (Err o) = StopsAtOnce s.whole o
 
--- A moment at which a session is begun: whatever a crash leaves of the store is no session, or keeps no lines yet.
+-- A moment at which a session is begun, whose piece before the first line is closed: whatever a crash leaves of the
+-- store is no session, or keeps no lines yet.
 abbrev pub InBeginning : PlayedSession → Standing → Standing → Type 0
-InBeginning s old m = InStore old (CrashLeavesSuch (λ r. IsUnmade r ⊎ KeepsAfter s 0 [] r)) m
+InBeginning s old m =
+    InStore old (CrashLeavesSuch (λ r. (IsPlayed (s.whole []) × IsUnmade r) ⊎ KeepsAfter s 0 [] r)) m
 
 -- What resuming the session of these bytes of the attached store leads to: it is open where they show a state of the
 -- game; or it is refused, or shows no state. Where a call failed nothing is stated.

@@ -1,4 +1,6 @@
-use Rattle.std.proofs.Common.{ap, ◌∙◌, subst}
+use Rattle.std.proofs.Common.{◌≡◌, ◌≤◌, ap, ◌∙◌, length, sym, subst}
+use Rattle.std.proofs.lemmas.Result.{on_ok_weaker}
+use Rattle.paw_base.specs.declared.limits.TheConstants.{PIECE_LIMIT}
 use Rattle.paw_stage.specs.Stage.{Standing}
 use Rattle.paw_journal.specs.Session.{Recovered, recover, kept_digests, session_committed}
 use Rattle.paw_journal.specs.inner.Store.{InStore, CrashLeavesSuch, IsOldOrNew}
@@ -20,3 +22,7 @@ returns-clause-call g c =
       digests = done.digests;
     })
     (λ tells m. subst (λ (x : Recovered). InStore old (CrashLeavesSuch (IsOldOrNew (recover old.disk.bytes) x)) m) same)
+
+pub returns-clause-short : goal.returns-clause-short
+returns-clause-short g c =
+    on_ok_weaker c.commit.result (λ (e : c.commit.new.room.piece ≡ c.piece.result.now). subst (λ p. length p ≤ PIECE_LIMIT) (sym e) c.piece.ensures.short) c.commit.ensures.piece

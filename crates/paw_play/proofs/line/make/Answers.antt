@@ -1,4 +1,6 @@
-use Rattle.std.proofs.Common.{◌∙◌, subst}
+use Rattle.std.proofs.Common.{◌≡◌, ◌≤◌, ◌∙◌, length, sym, subst}
+use Rattle.std.proofs.lemmas.Result.{on_ok_weaker}
+use Rattle.paw_base.specs.declared.limits.TheConstants.{PIECE_LIMIT}
 use Rattle.paw_stage.specs.Stage.{Standing}
 use Rattle.paw_journal.specs.Session.{Digests, Recovered}
 use Rattle.paw_journal.specs.inner.Session.{digests_of}
@@ -26,3 +28,7 @@ returns-clause-call g c =
       digests = done.digests;
     })
     (λ tells m. subst (λ (x : Recovered). InStore old (CrashLeavesSuch (IsUnmadeOr x)) m) same)
+
+pub returns-clause-short : goal.returns-clause-short
+returns-clause-short g c =
+    on_ok_weaker c.create.result (λ (e : c.create.new.room.piece ≡ c.piece.result.now). subst (λ p. length p ≤ PIECE_LIMIT) (sym e) c.piece.ensures.short) c.create.ensures.piece

@@ -1,5 +1,5 @@
 use Rattle.paw_play.specs.declared.open.OpenSession.{OpenSession}
-use Rattle.std.proofs.Common.{◌≡◌, refl, subst}
+use Rattle.std.proofs.Common.{◌≡◌, refl, subst, arith}
 use Rattle.paw_stage.specs.Stage.{Standing}
 use Rattle.paw_stage.proofs.Time.{Passes_map, Passes_none}
 use Rattle.paw_journal.specs.Session.{Digests}
@@ -12,6 +12,8 @@ use Rattle.paw_play.specs.Played.{PlayedSession, session_begun}
 use Rattle.paw_play.specs.inner.OnTheWay.{InMake, MakesPlayer}
 use Rattle.paw_play.specs.inner.Open.{InBeginning}
 use Rattle.paw_play.proofs.Opened.{not_for_end, stops_beginning, in_beginning, begins_to, same_digests}
+use Rattle.paw_turn.proofs.Standing.{valid_story}
+use Rattle.paw_play.proofs.Following.{first_follows}
 use Rattle.paw_play.proofs.open.begin.Goals as goal
 
 pub returns-in-Some-clause-serves : goal.returns-in-Some-clause-serves
@@ -56,7 +58,9 @@ returns-in-Ok-clause-promises g c = λ tells X answers name.
     same_digests c.requires.player.digests.digest (c.requires.player.digests.measured X answers) in
     let brings = c.in_default.ensures.meaning X answers in
     record {
-      meaning = begins_to {g = story} s refl brings OpenSession (record { journal = c.in-Ok.journal; events = 0 }) old new c.make.new.room.piece c.in-Ok.ensures.piece
+      meaning = begins_to {g = story} s refl brings OpenSession (record { journal = c.in-Ok.journal; events = 0 }) old new c.make.new.room.piece
+          (first_follows story c.args.seed
+          (valid_story g.F.Fn c.args.player.now.routines c.args.player.now.game X c.requires.player.seated.valid answers) (omega (arith, c.ranges.seed.fits))) c.in-Ok.ensures.piece
           (subst (λ (d : Digests). MakesPlayer d c.play_first.new.player old new) own (c.in-Ok.ensures.call.post tells));
       any_moment = Passes_map _ _ _ _ _ (InBeginning s old) (c.make.ensures.call.crash tells)
           (λ m i. in_beginning {g = story} s refl brings old m (subst (λ (d : Digests). InMake d c.play_first.new.player old m) own i));

@@ -1,5 +1,9 @@
 use Rattle.paw_turn.specs.inner.Player.{IsStanding}
-use Rattle.std.proofs.Common.{sym, subst, arith}
+use Rattle.std.proofs.Common.{[], ◌<◌, refl, sym, subst, arith}
+use Rattle.paw_base.specs.declared.limits.TheConstants.{EVENT_LIMIT}
+use Rattle.paw_reading.specs.Bounds.{IsLine}
+use Rattle.paw_turn.proofs.Standing.{bytes_each, valid_story}
+use Rattle.paw_play.proofs.Following.{follows_on}
 use Rattle.paw_routines.specs.Routines.{HaveAnswers}
 use Rattle.paw_turn.specs.inner.Parts.{prompt_at}
 use Rattle.paw_play.proofs.Opened.{over_stops, full_stops, next_played}
@@ -27,7 +31,15 @@ returns-clause-may g c =
 
 pub returns-clause-meaning : goal.returns-clause-meaning
 returns-clause-meaning g c = λ X answers whole taken earlier piece h.
-    next_played h (prompt_at c.args.player.now.last) c.if-is_over.ensures.cases c.requires.may.seated c.args.events (omega (arith, c.if-events-ge-EVENT_LIMIT.false))
-    c.args.line.now c.take-step.result c.take-step.new.self c.take-step.ensures.last c.take-step.ensures.seated
-    (c.take-step.ensures.meaning X answers (prompt_at c.args.player.now.last) c.if-is_over.ensures.cases h.pieces h.traces)
+    let seat = c.args.player.now in
+    let p = prompt_at seat.last in
+    let last = c.if-is_over.ensures.cases in
+    let may = c.requires.may in
+    let few : c.args.events < EVENT_LIMIT = omega (arith, c.if-events-ge-EVENT_LIMIT.false) in
+    let line : IsLine c.args.line.now = record { short = c.requires.short; bytes = bytes_each c.args.line.now (λ i. (c.type_inv.line i).fits) } in
+    let plays = c.take-step.ensures.meaning X answers p last in
+    next_played h p last may.seated c.args.events few c.args.line.now c.take-step.result c.take-step.new.self c.take-step.ensures.last c.take-step.ensures.seated
+    (plays h.pieces h.traces)
+    (follows_on h (valid_story g.F.Fn seat.routines seat.game X may.seated.valid answers) refl c.args.events few may.drew p last may.seated c.args.line.now line
+    c.take-step.result c.take-step.new.self c.take-step.ensures.game c.take-step.ensures.last c.take-step.ensures.seated (plays [] []))
     c.end_without_piece.result c.end_without_piece.ensures.value

@@ -1,11 +1,12 @@
-use Rattle.std.proofs.Common.{◌≡◌, refl, sym, subst}
+use Rattle.std.proofs.Common.{◌≡◌, ◌∙◌, refl, sym, ap, subst, arith}
 use Rattle.std.specs.Prelude.{Result, Ok, Err, IsOk, Option}
 use Rattle.paw_game.specs.Game.{GameLists}
 use Rattle.paw_stage.specs.Stage.{Standing}
 use Rattle.paw_stage.specs.declared.StageCall.{StageCall}
 use Rattle.paw_effects.specs.Story.{Story, story_of}
 use Rattle.paw_turn.specs.inner.Parts.{Fits}
-use Rattle.paw_journal.specs.Session.{recover, kept_digests}
+use Rattle.paw_journal.specs.Session.{recover, kept_digests, piece_length}
+use Rattle.paw_journal.proofs.ShownPieces.{buffer_long}
 use Rattle.paw_journal.specs.inner.Session.{session_shown}
 use Rattle.paw_journal.specs.inner.Calls.{ReadsStore}
 use Rattle.paw_state.specs.declared.StateFault.{StateFault}
@@ -77,6 +78,17 @@ returns-clause-may g c =
     let read = subst (λ (h : GameLists). IsRead h c.state.result.now r) (sym c.requires.same) c.in-Ok-read_state.ensures.read in
     seat_may (story_of c.args.player.now.game (c.requires.player.answers).0) r c.args.player.now.routines c.seat.new.player c.seat.ensures.value g.F.Fn
     c.seat.ensures.seated c.requires.player.answers read.valid
+
+pub returns-clause-short : goal.returns-clause-short
+returns-clause-short g c = λ tells.
+    let old : Standing = g.S.Stage.standing c.args.stage.now in
+    let piece = c.find.new.room.piece in
+    let r = c.in-Ok-read_state.restored in
+    let shown = subst (λ (q : Standing). recover q.disk.bytes ≡ session_shown (kept_digests q.disk.bytes) c.find.new.room.state piece)
+    (c.in-Ok.ensures.call.still tells) (c.in-Ok.ensures.kept tells).shown in
+    let long = buffer_long old.disk.bytes (kept_digests old.disk.bytes) c.find.new.room.state piece r.piece shown
+    (ap piece_length (sym c.state.ensures.value) ∙ c.in-Ok-read_state.ensures.piece) c.in-Ok-read_state.ensures.read.fits.piece in
+    omega (arith, long, c.in-Ok-read_state.ensures.read.fits.piece)
 
 pub returns-clause-meaning : goal.returns-clause-meaning
 returns-clause-meaning g c = λ tells X answers.

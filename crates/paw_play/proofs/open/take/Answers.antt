@@ -36,22 +36,24 @@ returns-in-Some-clause-promises g c = λ tells X answers s n taken earlier opene
 
 pub returns-in-Err-clause-promises : goal.returns-in-Err-clause-promises
 returns-in-Err-clause-promises g c = λ tells X answers s n taken earlier opened count.
+    let story : Story = story_of c.args.player.now.game X in
     let old : Standing = g.S.Stage.standing c.args.stage.now in
     let brings = c.in_default.ensures.meaning X answers s.whole taken earlier c.args.room.now.piece opened.played in
     record {
       meaning = c.in-Err.ensures.call.serves.among;
-      any_moment = Passes_map _ _ _ _ _ (InTaking s n taken c.args.line.now old) (c.commit.ensures.call.crash tells)
+      any_moment = Passes_map _ _ _ _ _ (InTaking story s n taken c.args.line.now old) (c.commit.ensures.call.crash tells)
           (λ m i. in_taking c.args.line.now old opened count brings m i);
     }
 
 pub returns-in-Ok-clause-promises : goal.returns-in-Ok-clause-promises
 returns-in-Ok-clause-promises g c = λ tells X answers s n taken earlier opened count.
+    let story : Story = story_of c.args.player.now.game X in
     let old : Standing = g.S.Stage.standing c.args.stage.now in
     let brings = c.in_default.ensures.meaning X answers s.whole taken earlier c.args.room.now.piece opened.played in
     record {
       meaning = takes_to c.args.line.now old opened count brings OpenSession (record { journal = c.in-Ok.journal; events = c.args.session.events + 1 }) (g.S.Stage.standing c.commit.new.stage)
           c.commit.new.room.piece c.in-Ok.ensures.piece (c.in-Ok.ensures.call.post tells);
-      any_moment = Passes_map _ _ _ _ _ (InTaking s n taken c.args.line.now old) (c.commit.ensures.call.crash tells)
+      any_moment = Passes_map _ _ _ _ _ (InTaking story s n taken c.args.line.now old) (c.commit.ensures.call.crash tells)
           (λ m i. in_taking c.args.line.now old opened count brings m i);
     }
 
