@@ -24,3 +24,4 @@ mod TableRows
 mod Whole
 mod Back
 mod Trying
+mod EndMoments

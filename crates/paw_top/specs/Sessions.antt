@@ -1,5 +1,5 @@
 -- How playing the game of an image with a session ends, and what it leaves.
-use Rattle.std.specs.Prelude.{◌≡◌, []}
+use Rattle.std.specs.Prelude.{◌≡◌, ◌⊎◌, []}
 use Rattle.paw_base.specs.Bytes.{Name, RoutineAnswers, Seed}
 use Rattle.paw_game.specs.Game.{GameLists}
 use Rattle.paw_effects.specs.Story.{story_of}
@@ -36,9 +36,14 @@ pub record ResumesIn (answers : RoutineAnswers) (name store : Name) (old new : S
 
 -- ---- what stands at each moment ----
 
--- A way to say that moments come in two parts: of the first kind until some time, and of the second from then on.
+-- A way to speak of moments in two parts, each with its own kind: that all come so, of the first kind until some time,
+-- and of the second from then on; or that something is one of them.
 abbrev pub TwoParts : Type 1
 TwoParts = (Standing → Type 0) → (Standing → Type 0) → Type 0
+
+-- What stands is a moment of one of the two parts.
+abbrev pub IsMoment : Standing → TwoParts
+IsMoment now Before After = Before now ⊎ After now
 
 -- The moments of a new session in an empty store: until the store is attached, and from then on.
 abbrev pub NewAtEachMoment : TwoParts → RoutineAnswers → Name → Name → Seed → Standing → Type 0

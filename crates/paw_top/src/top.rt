@@ -1,13 +1,16 @@
 // The top call.
 
 ghost use Rattle.std.specs.Prelude.{◌≡◌, ◌↔◌, None, IfSome};
-ghost use Rattle.paw_base.specs.Bytes.{RoutineAnswers};
+ghost use Rattle.paw_base.specs.Bytes.{Name, RoutineAnswers};
 ghost use Rattle.paw_routines.specs.Routines.{AreAnswersOf, HaveAnswers};
 ghost use Rattle.paw_stage.specs.AcrossCalls.{IfTelling, InTwoParts, FailsOnlyBy, IsOneOf};
 ghost use Rattle.paw_stage.specs.Disk.{IsStable};
+ghost use Rattle.paw_play.specs.Laws.{MayBeLeft};
+ghost use Rattle.paw_play.specs.Play.{store_bytes};
 ghost use Rattle.paw_top.specs.Answers.{IfMemory, failed_call};
 ghost use Rattle.paw_top.specs.Commands.{asked_for, meaning};
 ghost use Rattle.paw_top.specs.Completes.{NoFailure, IsUnhindered};
+ghost use Rattle.paw_top.specs.Sessions.{IsMoment};
 ghost use Rattle.paw_top.specs.declared.outcome.Outcome.TheVariants as outcome;
 
 use crate::commands::command_of;
@@ -36,6 +39,10 @@ use std::alloc::Global;
 /// Where playing ends with nothing failed in the store, its bytes are exactly what one commit for each line that is
 /// kept makes of the bytes before: a line whose piece is spent changes nothing there.
 ///
+/// However a command ends, what stands is one of its moments (`stands`), and each file is as a crash then could have
+/// left it (`left`). So where a write or a sync of the store failed, and no crash came, its file stands for all lines
+/// that were taken, or for all but the last, and `resume` goes on from it as after a crash.
+///
 /// If the answer is Outside, the count of the call that it names rose, which is one that the command makes, and no
 /// other count did; otherwise no count of failures rose at all. If no call fails, except maybe a load that finds no
 /// file, the answer names none (`completes`): then the command did what it is for, or refused the file or the store, or
@@ -58,6 +65,12 @@ pub fn paw<S: Stage, F: Fn(u8, u8) -> u8>(
     ensures moments { IfTelling S.Stage stage.old stage.new (λ old new. IfSome (asked_for words.now) (λ c.
         (X : RoutineAnswers) → AreAnswersOf F.Fn routines.now X →
         (meaning c).moments (InTwoParts S.Stage stage.old stage.new) X old)) }
+
+    // However it ends, what stands is one of these moments, and each file is as a crash then could have left it.
+    ensures stands { IfTelling S.Stage stage.old stage.new (λ old new. IfSome (asked_for words.now) (λ c.
+        (X : RoutineAnswers) → AreAnswersOf F.Fn routines.now X → (meaning c).moments (IsMoment new) X old)) }
+    ensures left { IfTelling S.Stage stage.old stage.new (λ old new.
+        (name : Name) → MayBeLeft name new (store_bytes new name)) }
     ensures completes { NoFailure (S.failures stage.old) (S.failures stage.new) → IsUnhindered result }
 {
     match command_of(words) {
