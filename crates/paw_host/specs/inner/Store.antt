@@ -1,18 +1,11 @@
 -- What is known of the attached store before calls, and what they did to the stage.
-use Rattle.std.specs.Prelude.{◌≡◌, List, length, Option, Some}
+use Rattle.std.specs.Prelude.{◌≡◌, List, Option, Some}
 use Rattle.paw_base.specs.Bytes.{Name}
 use Rattle.paw_stage.specs.declared.Stage.{Ghosts}
 use Rattle.paw_stage.specs.declared.StageCall.{StageCall}
 use Rattle.paw_stage.specs.Disk.{IsStable}
 use Rattle.paw_stage.specs.Stage.{Standing}
 use Rattle.paw_stage.specs.AcrossCalls.{FailsOnlyBy, IfTelling}
-use Rattle.paw_journal.specs.declared.store.Attached.{Attached}
-use Rattle.paw_journal.specs.inner.Journal.{IsAtRest}
-
--- The attached store is at rest, and has the length that its attach gave.
-pub record IsAttachedAtRest {S : Type 0} (g : Ghosts S) (at : Attached) (s : S) : Type 0 where
-  pub rests : g.Tells s → IsAtRest (g.standing s)
-  pub attached : g.Tells s → at.length ≡ length (g.standing s).disk.bytes
 
 -- The store of this name is attached, and a crash leaves just its bytes.
 pub record IsAttachedStable (name : Name) (s : Standing) : Type 0 where

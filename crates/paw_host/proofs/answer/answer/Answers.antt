@@ -123,3 +123,11 @@ returns-else-at-eq0-clause-promises g c = λ tells X answers before may stores.
           (c.answer_kept.ensures.promises now X answers before may here).any_moment
           (λ m i. answer_in_kept story seed name before after old mid m stores a.1 i);
     }
+
+-- ---- the reply ----
+
+pub returns-then-at-eq0-clause-short : goal.returns-then-at-eq0-clause-short
+returns-then-at-eq0-clause-short g c = λ tells. c.answer_new.ensures.short
+
+pub returns-else-at-eq0-clause-short : goal.returns-else-at-eq0-clause-short
+returns-else-at-eq0-clause-short g c = λ tells. c.answer_kept.ensures.short (c.attach.ensures.serves.tells.0 tells)

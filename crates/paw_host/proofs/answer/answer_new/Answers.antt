@@ -1,97 +1,59 @@
-use Rattle.std.proofs.Common.{◌∙◌, [], sym, ap, subst, Some}
+use Rattle.std.proofs.Common.{◌≡◌, ◌+◌, ◌++◌, ◌∙◌, [], sym, ap, subst, arith, length, Some}
 use Rattle.std.proofs.lemmas.Result.{on_ok_weaker}
 use Rattle.std.specs.Option.{option_copied}
 use Rattle.paw_game.specs.Game.{GameLists}
 use Rattle.paw_stage.specs.Stage.{Standing}
 use Rattle.paw_stage.specs.Moments.{Passes}
 use Rattle.paw_stage.proofs.Time.{Passes_map, Passes_on}
-use Rattle.paw_routines.specs.Routines.{AreAnswersOf, HaveAnswers}
+use Rattle.paw_routines.specs.Routines.{AreAnswersOf}
 use Rattle.paw_journal.specs.inner.Journal.{IsAtRest, failed_stage_call}
 use Rattle.paw_journal.proofs.Moved.{beside_on}
 use Rattle.paw_journal.proofs.Serving.{serves_then}
 use Rattle.paw_effects.specs.Story.{Story, story_of}
-use Rattle.paw_play.specs.Stands.{Stands}
-use Rattle.paw_host.specs.Replies.{Absent, At, answer}
-use Rattle.paw_host.specs.inner.Answers.{Sits, Answers, InFile, LeftOf, StoresEither}
+use Rattle.paw_play.specs.Played.{session_begun}
+use Rattle.paw_play.specs.declared.open.OpenSession.{OpenSession}
+use Rattle.paw_host.specs.Replies.{Absent, At, Answer, answer}
+use Rattle.paw_host.specs.inner.Answers.{begun, InFile, LeftOf, TakesText, Answers}
 use Rattle.paw_host.proofs.Answering.{not_begun, just_begun, begun_then, in_new_begun, in_new_taking}
+use Rattle.paw_host.proofs.Leaving.{on_ok_said, grown_length}
+use Rattle.paw_host.proofs.Played.{first_refused, first_answer, first_stands, first_in_file}
 use Rattle.paw_host.proofs.Reaching.{no_bytes}
 use Rattle.paw_host.proofs.Staying.{stays_on}
+use Rattle.paw_host.proofs.answer.answer_new.Given.{Over}
+use Rattle.paw_host.proofs.answer.answer_new.Goals.{After-push_piece}
 use Rattle.paw_host.proofs.answer.answer_new.Goals as goal
 
--- ---- the calls of taking a text ----
+-- ---- the piece before the first line ----
 
-pub take_text-requires-clause-player : goal.take_text-requires-clause-player
-take_text-requires-clause-player g c = record {
-  seated = c.begin_session.ensures.anew.stays.seated;
-  answers = subst (λ r. HaveAnswers g.F.Fn r) (sym c.begin_session.ensures.anew.stays.routines) c.requires.player.answers;
-  stands = (rw c.in-Ok-Some.field-0-is at c.in-Ok-Some.ensures.opened).1;
-}
+grows : (g : Over) (c : After-push_piece g) → c.push_piece.new.reply ≡ c.args.reply.now ++ c.begin.new.room.piece
+grows g c = c.push_piece.ensures.value (omega (arith, c.requires.room, c.in-Ok.ensures.short))
 
-pub take_text-requires-clause-kept : goal.take_text-requires-clause-kept
-take_text-requires-clause-kept g c =
-    λ tells. rw c.in-Ok-Some.field-0-is at (c.in-Ok-Some.ensures.leaves.left (c.begin_session.ensures.leaves.serves.tells.1 tells))
+grown_short : (g : Over) (c : After-push_piece g) → length c.push_piece.new.reply ≡ length c.args.reply.now + length c.begin.new.room.piece
+grown_short g c = grown_length c.args.reply.now c.begin.new.room.piece c.push_piece.new.reply (grows g c)
 
--- ---- the game isn't begun ----
+pub answer_text-requires-clause-kept : goal.answer_text-requires-clause-kept
+answer_text-requires-clause-kept g c = λ tells. c.in-Ok.ensures.holds.kept (c.begin.ensures.serves.tells.1 tells)
 
-pub returns-in-Ok-None-clause-leaves : goal.returns-in-Ok-None-clause-leaves
-returns-in-Ok-None-clause-leaves g c = record {
-  serves = c.in-Ok-None.ensures.leaves.serves;
-  beside = c.begin_session.ensures.leaves.beside;
-  left = λ tells. subst IsAtRest (sym (rw c.in-Ok-None.field-0-is at (c.in-Ok-None.ensures.leaves.left tells))) (c.requires.store.rests tells);
-}
-
-pub returns-in-Ok-None-clause-promises : goal.returns-in-Ok-None-clause-promises
-returns-in-Ok-None-clause-promises g c = λ tells X answers.
-    let story : Story = story_of c.args.player.now.game X in
-    let b = rw c.in-Ok-None.field-0-is at (c.in-Ok-None.ensures.promises tells X answers).meaning in
-    let old : Standing = g.S.Stage.standing c.args.stage.now in
-    record {
-      meaning =
-          not_begun story c.args.hosted.now.seed (option_copied c.args.text) c.args.reply.now c.begin_session.new.reply _ b.0 b.1
-          (ap (λ (q : Standing). q.disk.bytes) (rw c.in-Ok-None.field-0-is at (c.in-Ok-None.ensures.leaves.left tells))
-          ∙ no_bytes (g.S.Stage.standing c.args.stage.now).disk.bytes (sym (c.requires.store.attached tells) ∙ c.requires.empty));
-      any_moment =
-          Passes_map _ _ _ _ _
-          (InFile (LeftOf story c.args.hosted.now.seed Absent (answer story c.args.hosted.now.seed Absent (option_copied c.args.text)).session) old)
-          (c.begin_session.ensures.promises tells X answers).any_moment
-          (λ m i. in_new_begun story c.args.hosted.now.seed (option_copied c.args.text) old m i);
-    }
-
--- ---- a call failed ----
-
-pub returns-in-Err-clause-leaves : goal.returns-in-Err-clause-leaves
-returns-in-Err-clause-leaves g c = record {
-  serves = c.in-Err.ensures.leaves.serves;
-  beside = c.begin_session.ensures.leaves.beside;
-  left = λ tells. tt;
-}
-
-pub returns-in-Err-clause-promises : goal.returns-in-Err-clause-promises
-returns-in-Err-clause-promises g c = λ tells X answers.
-    let story : Story = story_of c.args.player.now.game X in
-    let old : Standing = g.S.Stage.standing c.args.stage.now in
-    record {
-      meaning = tt;
-      any_moment =
-          Passes_map _ _ _ _ _
-          (InFile (LeftOf story c.args.hosted.now.seed Absent (answer story c.args.hosted.now.seed Absent (option_copied c.args.text)).session) old)
-          (c.begin_session.ensures.promises tells X answers).any_moment
-          (λ m i. in_new_begun story c.args.hosted.now.seed (option_copied c.args.text) old m i);
-    }
+pub answer_text-requires-clause-room : goal.answer_text-requires-clause-room
+answer_text-requires-clause-room g c =
+    omega (arith, c.requires.room, c.in-Ok.ensures.short, grown_short g (goal.at.answer_text-requires-clause-room g c).After-push_piece)
 
 -- ---- a text is taken ----
 
 pub returns-in-Some-clause-stays : goal.returns-in-Some-clause-stays
-returns-in-Some-clause-stays g c = stays_on c.begin_session.ensures.anew.stays c.take_text.ensures.stays
+returns-in-Some-clause-stays g c = stays_on c.begin.ensures.stays c.answer_text.ensures.stays
+
+pub returns-in-Some-clause-short : goal.returns-in-Some-clause-short
+returns-in-Some-clause-short g c =
+    omega (arith, c.in-Ok.ensures.short, grown_short g (goal.at.returns-in-Some-clause-short g c).After-push_piece, c.answer_text.ensures.short)
 
 pub returns-in-Some-clause-leaves : goal.returns-in-Some-clause-leaves
 returns-in-Some-clause-leaves g c = record {
-  serves =
-      serves_then g.S.Stage _ _ (failed_stage_call c.take_text.result) _ _ _ c.in-Ok-Some.ensures.leaves.serves c.take_text.ensures.leaves.serves;
+  serves = serves_then g.S.Stage _ _ (failed_stage_call c.answer_text.result) _ _ _ c.in-Ok.ensures.serves c.answer_text.ensures.leaves.serves;
   beside = λ tells.
-      beside_on _ (g.S.Stage.standing c.begin_session.new.stage) _ (c.begin_session.ensures.leaves.beside tells)
-      (c.take_text.ensures.leaves.beside (c.begin_session.ensures.leaves.serves.tells.0 tells));
-  left = λ tells. c.take_text.ensures.leaves.left (c.begin_session.ensures.leaves.serves.tells.0 tells);
+      beside_on _ (g.S.Stage.standing c.begin.new.stage) _ (c.begin.ensures.beside tells)
+      (c.answer_text.ensures.leaves.beside (c.begin.ensures.serves.tells.0 tells));
+  left = λ tells. c.answer_text.ensures.leaves.left (c.begin.ensures.serves.tells.0 tells);
 }
 
 pub returns-in-Some-clause-promises : goal.returns-in-Some-clause-promises
@@ -99,61 +61,90 @@ returns-in-Some-clause-promises g c = λ tells X answers.
     let story : Story = story_of c.args.player.now.game X in
     let seed = c.args.hosted.now.seed in
     let text = c.in-Some.text.now in
-    let mid : Standing = g.S.Stage.standing c.begin_session.new.stage in
-    let new : Standing = g.S.Stage.standing c.take_text.new.stage in
-    let own = subst (λ r. AreAnswersOf g.F.Fn r X) (sym c.begin_session.ensures.anew.stays.routines) answers in
-    let b = rw c.in-Ok-Some.field-0-is at (c.in-Ok-Some.ensures.promises tells X answers).meaning in
-    let sits = subst (λ (h : GameLists). Sits (story_of h X) (At seed []) c.begin_session.new.player c.in-Ok-Some.opened.events)
-    (sym c.begin_session.ensures.anew.stays.game)
-    (subst (Sits story (At seed []) c.begin_session.new.player) (sym (rw c.in-Ok-Some.field-0-is at c.in-Ok-Some.ensures.opened).0) b.0) in
-    let stands = subst (λ (h : GameLists). Stands (story_of h X) seed [] mid.disk.bytes) (sym c.begin_session.ensures.anew.stays.game) b.1 in
-    let taken = c.take_text.ensures.promises (c.begin_session.ensures.leaves.serves.tells.0 tells) X own seed (At seed []) sits stands in
-    let is = ap option_copied c.in-Some.is in
     let old : Standing = g.S.Stage.standing c.args.stage.now in
+    let mid : Standing = g.S.Stage.standing c.begin.new.stage in
+    let new : Standing = g.S.Stage.standing c.answer_text.new.stage in
+    let is = ap option_copied c.in-Some.is in
+    let made = c.in-Ok.ensures.promises tells X answers [] in
+    let first = first_answer story seed made.meaning.0 in
+    let at = ap (λ (a : Answer). a.session) first in
+    let own = subst (λ r. AreAnswersOf g.F.Fn r X) (sym c.begin.ensures.stays.routines) answers in
+    let taken = subst (λ (h : GameLists). TakesText g.S.Stage c.begin.new.stage c.answer_text.new.stage (story_of h X) c.in-Ok.session.events c.begin.new.player
+    c.begin.new.room.piece text c.push_piece.new.reply c.answer_text.new.reply c.answer_text.result) c.begin.ensures.stays.game
+    (c.answer_text.ensures.promises (c.begin.ensures.serves.tells.0 tells) X own)
+    seed (At seed []) (session_begun story seed []) (begun seed []) (first_stands story seed made.meaning.0) c.in-Ok.ensures.holds.events made.meaning.0 in
     record {
       meaning =
-          on_ok_weaker c.take_text.result
-          (λ a. subst (λ t. Answers story (answer story seed Absent t) c.args.reply.now c.take_text.new.reply new.disk.bytes) (sym is)
-          (begun_then story seed text c.args.reply.now c.begin_session.new.reply c.take_text.new.reply new.disk.bytes b.2 b.3
-          (subst (λ (h : GameLists). Answers (story_of h X)
-          (answer (story_of h X) seed (At seed []) (Some text)) c.begin_session.new.reply c.take_text.new.reply new.disk.bytes) c.begin_session.ensures.anew.stays.game
-          a)))
+          on_ok_weaker c.answer_text.result
+          (λ a. subst (λ t. Answers story (answer story seed Absent t) c.args.reply.now c.answer_text.new.reply new.disk.bytes) (sym is)
+          (begun_then story seed text c.args.reply.now c.push_piece.new.reply c.answer_text.new.reply new.disk.bytes at
+          (grows g (goal.at.returns-in-Some-clause-promises g c).After-push_piece ∙ ap (λ (b : Answer). c.args.reply.now ++ b.body) (sym first)) a))
           taken.meaning;
       any_moment =
-          subst (λ t. Passes (g.S.Stage.clock c.args.stage.now) (g.S.Stage.clock c.take_text.new.stage) (g.S.Stage.since c.args.stage.now)
-          (g.S.Stage.since c.take_text.new.stage) (InFile (LeftOf story seed Absent (answer story seed Absent t).session) old)) (sym is)
+          subst (λ t. Passes (g.S.Stage.clock c.args.stage.now) (g.S.Stage.clock c.answer_text.new.stage) (g.S.Stage.since c.args.stage.now)
+          (g.S.Stage.since c.answer_text.new.stage) (InFile (LeftOf story seed Absent (answer story seed Absent t).session) old)) (sym is)
           (Passes_on _ _ _ _ _ _ (InFile (LeftOf story seed Absent (answer story seed Absent (Some text)).session) old) _
-          (Passes_map _ _ _ _ _ (InFile (LeftOf story seed Absent (answer story seed Absent (Some text)).session) old)
-          (c.begin_session.ensures.promises tells X answers).any_moment (λ m i. in_new_begun story seed (Some text) old m i))
+          (Passes_map _ _ _ _ _ (InFile (LeftOf story seed Absent (answer story seed Absent (Some text)).session) old) made.any_moment
+          (λ m i. in_new_begun story seed (Some text) old m (first_in_file story seed old m i)))
           taken.any_moment
-          (λ m i. in_new_taking story seed text old mid m b.2 (c.begin_session.ensures.leaves.beside tells)
-          (subst (λ (h : GameLists). InFile
-          (StoresEither (story_of h X) (At seed []) (answer (story_of h X) seed (At seed []) (Some text)).session) mid m) c.begin_session.ensures.anew.stays.game i)));
+          (λ m i. in_new_taking story seed text old mid m at (c.begin.ensures.beside tells) i));
     }
 
 -- ---- none is ----
 
+pub returns-in-None-clause-short : goal.returns-in-None-clause-short
+returns-in-None-clause-short g c =
+    omega (arith, c.in-Ok.ensures.short, grown_short g (goal.at.returns-in-None-clause-short g c).After-push_piece)
+
 pub returns-in-None-clause-leaves : goal.returns-in-None-clause-leaves
-returns-in-None-clause-leaves g c = record {
-  serves = c.in-Ok-Some.ensures.leaves.serves;
-  beside = c.begin_session.ensures.leaves.beside;
-  left = λ tells. (rw c.in-Ok-Some.field-0-is at (c.in-Ok-Some.ensures.leaves.left tells)).rests;
-}
+returns-in-None-clause-leaves g c =
+    record { serves = c.in-Ok.ensures.serves; beside = c.begin.ensures.beside; left = λ tells. (c.in-Ok.ensures.holds.kept tells).rests }
 
 pub returns-in-None-clause-promises : goal.returns-in-None-clause-promises
 returns-in-None-clause-promises g c = λ tells X answers.
     let story : Story = story_of c.args.player.now.game X in
     let seed = c.args.hosted.now.seed in
-    let bytes = (g.S.Stage.standing c.begin_session.new.stage).disk.bytes in
-    let b = rw c.in-Ok-Some.field-0-is at (c.in-Ok-Some.ensures.promises tells X answers).meaning in
     let old : Standing = g.S.Stage.standing c.args.stage.now in
+    let bytes = (g.S.Stage.standing c.begin.new.stage).disk.bytes in
+    let made = c.in-Ok.ensures.promises tells X answers [] in
+    let first = first_answer story seed made.meaning.0 in
     record {
       meaning =
-          subst (λ t. Answers story (answer story seed Absent t) c.args.reply.now c.begin_session.new.reply bytes) (sym (ap option_copied c.in-None.is))
-          (just_begun story seed c.args.reply.now c.begin_session.new.reply bytes b.2 b.3 b.1);
+          subst (λ t. Answers story (answer story seed Absent t) c.args.reply.now c.push_piece.new.reply bytes) (sym (ap option_copied c.in-None.is))
+          (just_begun story seed c.args.reply.now c.push_piece.new.reply bytes (ap (λ (a : Answer). a.session) first)
+          (grows g (goal.at.returns-in-None-clause-promises g c).After-push_piece ∙ ap (λ (b : Answer). c.args.reply.now ++ b.body) (sym first))
+          (first_stands story seed made.meaning.0));
       any_moment =
-          Passes_map _ _ _ _ _
-          (InFile (LeftOf story c.args.hosted.now.seed Absent (answer story c.args.hosted.now.seed Absent (option_copied c.args.text)).session) old)
-          (c.begin_session.ensures.promises tells X answers).any_moment
-          (λ m i. in_new_begun story c.args.hosted.now.seed (option_copied c.args.text) old m i);
+          Passes_map _ _ _ _ _ (InFile (LeftOf story seed Absent (answer story seed Absent (option_copied c.args.text)).session) old) made.any_moment
+          (λ m i. in_new_begun story seed (option_copied c.args.text) old m (first_in_file story seed old m i));
+    }
+
+-- ---- the game isn't begun ----
+
+pub returns-in-Err-clause-leaves : goal.returns-in-Err-clause-leaves
+returns-in-Err-clause-leaves g c = record {
+  serves = rw c.push_end.ensures.failed c.in-Err.ensures.serves;
+  beside = c.begin.ensures.beside;
+  left = λ tells. on_ok_said c.push_end.result c.push_end.ensures.says (λ none said.
+      subst (λ q. IsAtRest (g.S.Stage.standing q)) (sym (c.in-Err.ensures.still (sym c.push_end.ensures.failed ∙ none))) (c.requires.attached tells).rests);
+}
+
+pub returns-in-Err-clause-promises : goal.returns-in-Err-clause-promises
+returns-in-Err-clause-promises g c = λ tells X answers.
+    let story : Story = story_of c.args.player.now.game X in
+    let seed = c.args.hosted.now.seed in
+    let text = option_copied c.args.text in
+    let old : Standing = g.S.Stage.standing c.args.stage.now in
+    let made = c.in-Err.ensures.promises tells X answers [] in
+    record {
+      meaning = on_ok_said c.push_end.result c.push_end.ensures.says (λ none said.
+          let fine = sym c.push_end.ensures.failed ∙ none in
+          let first = first_refused story seed OpenSession (g.S.Stage.standing c.begin.new.stage) c.begin.new.player c.begin.new.room.piece c.in-Err.end made.meaning fine in
+          not_begun story seed text c.args.reply.now c.push_end.new.reply _ (ap (λ (a : Answer). a.session) first)
+          (said ∙ ap (λ (a : Answer). c.args.reply.now ++ a.body) (sym first))
+          (ap (λ q. (g.S.Stage.standing q).disk.bytes) (c.in-Err.ensures.still fine)
+          ∙ no_bytes old.disk.bytes (sym (c.requires.attached tells).long ∙ c.requires.empty)));
+      any_moment =
+          Passes_map _ _ _ _ _ (InFile (LeftOf story seed Absent (answer story seed Absent text).session) old) made.any_moment
+          (λ m i. in_new_begun story seed text old m (first_in_file story seed old m i));
     }

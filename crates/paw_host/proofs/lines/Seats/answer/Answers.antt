@@ -1,4 +1,4 @@
-use Rattle.std.proofs.Common.{◌∙◌, sym, subst, length}
+use Rattle.std.proofs.Common.{◌∙◌, sym, subst, length, arith}
 use Rattle.std.proofs.lemmas.Bool.{leb-true}
 use Rattle.paw_stage.proofs.Time.{Passes_map}
 use Rattle.paw_stage.specs.Stage.{file_bytes}
@@ -38,7 +38,7 @@ returns-clause-done g c = λ tells X answers sessions may stores.
     does_request story c.args.hosted.now.seed sessions old _ (asks c.args.request) store _ _ _ stores c.requires.name is
     (c.answer.ensures.leaves.beside tells) (c.in-Ok.ensures.leaves.left tells).attached c.begin_reply.ensures.value
     (c.in-Ok.ensures.promises tells X answers (sessions name) (may name c.requires.name) here).meaning
-    c.push.ensures.value
+    (c.push.ensures.value (omega (arith, c.answer.ensures.short tells, c.begin_reply.ensures.short)))
 
 pub returns-in-Err-clause-any_moment : goal.returns-in-Err-clause-any_moment
 returns-in-Err-clause-any_moment g c = λ tells X answers sessions may stores.
