@@ -19,7 +19,8 @@ def find(path, *names, told=""):
     if os.path.realpath(sys.executable) != os.path.realpath(DEBIAN) and os.access(DEBIAN, os.X_OK):
         os.execv(DEBIAN, [DEBIAN, os.path.abspath(path), *sys.argv[1:]])
     if told and "--help" in sys.argv:
-        print(told.strip())
+        import paws
+        paws.words(told).print_help()
         sys.exit(0)
     if told and "--version" in sys.argv:
         import changes
