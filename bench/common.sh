@@ -1,15 +1,20 @@
-# What the scripts here share; each sources this. Its words: --help alone.
+# shellcheck shell=sh disable=SC2034
+# What the scripts here share; each sources this. Its words: --help alone, or a number where the script says so.
 
 case $1 in
 --help)
     sed -n '2,/^$/s/^# \{0,1\}//p' "$0"
     exit
     ;;
+*[!0-9]*)
+    printf 'bench/%s: it has no word %s; --help says what it measures\n' "${0##*/}" "$1" >&2
+    exit 1
+    ;;
 esac
 top=$(CDPATH='' cd -- "$(dirname -- "$0")/.." && pwd) || exit
 program=${PAW:-$("$top/paw" --which)} || exit
-room=$(mktemp -d "${TMPDIR:-/tmp}/bench.XXXXXX") || exit
-trap 'rm -rf "$room"' EXIT
+. "$top/tools/room"
+make_room || exit
 
 # One row of the table: what was measured, how much, and of what.
 figure() {
