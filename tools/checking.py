@@ -378,7 +378,7 @@ class Checks:
         for name, lines in ways:
             parts = self.game.parts(lines)
             title = parts[0].strip()[:30]
-            for count, part in enumerate(parts[1:], 1):
+            for count in range(1, len(parts)):
                 asked = self.asked_at(lines, count)
                 if not asked:
                     continue

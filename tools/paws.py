@@ -106,7 +106,7 @@ def outcome(main, is_filtered):
         return 141
     except OSError as fault:
         output.give_up()
-        return refusal("%s: %s: %s" % (name, fault.filename or "the output", fault.strerror))
+        return refusal("%s: %s: %s" % (name, "the output" if fault.filename is None else fault.filename or "''", fault.strerror))
     except MemoryError:
         return refusal("%s: memory is short" % name)
     except ModuleNotFoundError as fault:
@@ -166,7 +166,7 @@ def pieces(paw, image, lines, seed="7", command="walk"):
     With the command "trace" they show what was read, too.
     """
     status, whole, said = run([paw, command, image, seed], lines)
-    shown = [run([paw, command, image, seed], lines[:n])[1] for n in range(len(lines))] + [whole]
+    shown = [run([paw, command, image, seed], lines[:count])[1] for count in range(len(lines))] + [whole]
     parts = [shown[0]]
     for before, after in zip(shown, shown[1:]):
         if not after.startswith(before):
