@@ -419,6 +419,8 @@ def allow_files(count):
 def address_and_port(text):
     """[ADDRESS:]PORT; without an address that of this machine."""
     address, _, port = text.rpartition(":")
+    if not 0 <= int(port) <= 65535:
+        raise ValueError(port)
     return address.strip("[]") or "127.0.0.1", int(port)
 
 
