@@ -16,6 +16,7 @@ sys.path.insert(0, os.path.join(TOP, "tools"))
 import letters  # noqa: E402
 import paws  # noqa: E402
 import sessions  # noqa: E402
+from kept import sync_folder  # noqa: E402, F401 (for copies.py)
 
 LONGEST_NAME, LONGEST_LINE = 16, 200    # letters; a line counts with its first 255 bytes, the name and a space among them
 LONGEST_REPLY = 131200                  # bytes: a name, two pieces and what stands around them
@@ -193,15 +194,6 @@ def put_aside(folder, name):
 def names_in(folder):
     """The names that have a file in a folder."""
     return sorted(entry.name[:-4] for entry in os.scandir(folder) if entry.name.endswith(".paw") and is_name(entry.name[:-4]))
-
-
-def sync_folder(folder):
-    """Sees to it that the names in a folder are on the disk."""
-    file = os.open(folder, os.O_RDONLY)
-    try:
-        os.fsync(file)
-    finally:
-        os.close(file)
 
 
 # --- Words --------------------------------------------------------------------------------------------------------

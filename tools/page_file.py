@@ -11,8 +11,6 @@ Each is a file beside the about file. What stands behind it is what a screen rea
 import base64
 import hashlib
 import html
-import importlib.machinery
-import importlib.util
 import json
 import os
 import re
@@ -220,11 +218,7 @@ def by(fields):
 
 def publishing():
     """The script tools/publish: how it reads an about file, a source and an image, and writes a file."""
-    path = os.path.join(paws.TOP, "tools", "publish")
-    loader = importlib.machinery.SourceFileLoader("publishing", path)
-    made = importlib.util.module_from_spec(importlib.util.spec_from_loader("publishing", loader))
-    loader.exec_module(made)
-    return made
+    return paws.loaded(os.path.join(paws.TOP, "tools", "publish"))
 
 
 def of_game(paw, fields, about, image):

@@ -2,6 +2,8 @@
 import argparse
 import collections
 import errno
+import importlib.machinery
+import importlib.util
 import os
 import re
 import subprocess
@@ -32,6 +34,14 @@ def program(named=None):
     if not os.access(found, os.X_OK):
         sys.exit("no program at %s" % found)
     return os.path.abspath(found)
+
+
+def loaded(path):
+    """A script as a module, for what others need of it."""
+    loader = importlib.machinery.SourceFileLoader(os.path.basename(path) + "_script", path)
+    module = importlib.util.module_from_spec(importlib.util.spec_from_loader(loader.name, loader))
+    loader.exec_module(module)
+    return module
 
 
 def commands():
