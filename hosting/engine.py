@@ -28,9 +28,9 @@ HOSTS = 4                       # pawhosts of an image
 PATIENCE = 5                    # seconds for another server to begin
 LEAST = 64                      # sessions that are kept, however little memory there is
 
-# What the file of a session shows beside its text: the number of the place, or None in the dark. By its inode the file is known
-# from one that was made in its stead.
-Look = collections.namedtuple("Look", "inode lines prompt place score turns")
+# What the file of a session shows beside its text: the number of the place, or None in the dark, and the flags that were asked for.
+# By its inode the file is known from one that was made in its stead.
+Look = collections.namedtuple("Look", "inode lines prompt place score turns flags")
 
 
 class NoRoom(Exception):
@@ -41,8 +41,8 @@ class Broken(Exception):
     """A session that can't be made or played, though its image can: the words say how it failed."""
 
 
-def look_of(path):
-    """What the file of a session shows."""
+def look_of(path, flags=()):
+    """What the file of a session shows, these flags by their values among it."""
     file = os.open(path, os.O_RDONLY | os.O_CLOEXEC)
     try:
         found = os.fstat(file)
@@ -60,7 +60,7 @@ def look_of(path):
 
     has_light = not state(0) or state(256) in (state(38), 253, 254)
     return Look(found.st_ino, int.from_bytes(map(state, range(1039, 1047)), "little"), state(1047), state(38) if has_light else None,
-                state(30), state(31) + 256 * state(32))
+                state(30), state(31) + 256 * state(32), {flag: state(flag) for flag in flags})
 
 
 # --- The folder ----------------------------------------------------------------------------------------------------
@@ -151,10 +151,10 @@ class Pawhost(common.Host):
 
 class Engine:
     """The texts of one image: sessions that are made from lines, and pawhosts that play them, each one line at a time. One that
-    ends is begun anew. A session belongs to one of them, which may hold its lock."""
+    ends is begun anew. A session belongs to one of them, which may hold its lock. Of each state these flags are told."""
 
-    def __init__(self, data, room, tells=lambda event: None):
-        self.places, self.tells = images.places(data), tells
+    def __init__(self, data, room, tells=lambda event: None, flags=()):
+        self.places, self.tells, self.flags = images.places(data), tells, flags
         self.folder = os.path.join(room, images.digest(data))
         os.makedirs(self.folder, mode=0o700)
         self.image = os.path.join(self.folder, "image")
@@ -203,10 +203,10 @@ class Engine:
             raise NoRoom(done.stderr.decode("latin-1").strip())
         if done.returncode not in (0, 5, 6):  # a line that can't be answered ends it, which the count of lines shows
             raise Broken(done.stderr.decode("latin-1").strip())
-        return look_of(path)
+        return look_of(path, self.flags)
 
     def look(self, file):
-        return look_of(self.path(file))
+        return look_of(self.path(file), self.flags)
 
     def place(self, look):
         """The title of the place where a session is."""

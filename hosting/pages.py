@@ -12,11 +12,13 @@ KEPT = ("Each game is kept by this host: go on when you like. Its address is you
 
 
 def about_of(image):
-    """What stands of a game in the file beside its image, NAME.about, and its pictures and sounds; without one, no title."""
-    path = os.path.splitext(image)[0] + ".about"
+    """What stands of a game in the file beside its image, NAME.about, and its pictures and sounds; without one, no title. And the
+    pictures of its places."""
+    stem = os.path.splitext(image)[0]
+    path, shown = stem + ".about", page_file.pictures_of(stem, paws.bytes_of(image, paws.IMAGE_LIMIT))
     if not os.path.exists(path):
-        return {"title": "A game"}, {}
-    return PUBLISHING.read_about(path), page_file.media_of(path)
+        return {"title": "A game"}, {}, shown
+    return PUBLISHING.read_about(path), page_file.media_of(path), shown
 
 
 class Pages:
@@ -30,7 +32,7 @@ class Pages:
 
     def made(self, game, program):
         image = paws.bytes_of(game.image, paws.IMAGE_LIMIT)
-        return page_file.served(game.fields, game.media, image, page_file.has_score(program, image), common.LONGEST_LINE)
+        return page_file.served(game.fields, game.media, image, page_file.has_score(program, image), common.LONGEST_LINE, game.pictures)
 
     def first(self):
         """The first page: the games, and those of this browser."""

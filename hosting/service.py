@@ -35,11 +35,11 @@ class Refused(Exception):
 
 
 class Game:
-    """A game of a host: how its addresses begin, its image, what its about file says, and the seed of new games where all have
-    the same one."""
+    """A game of a host: how its addresses begin, its image, what its about file says, the pictures of its places, and the seed of
+    new games where all have the same one."""
 
-    def __init__(self, prefix, image, fields, media, seed=None):
-        self.prefix, self.image, self.fields, self.media, self.seed = prefix, image, fields, media, seed
+    def __init__(self, prefix, image, fields, media, pictures, seed=None):
+        self.prefix, self.image, self.fields, self.media, self.pictures, self.seed = prefix, image, fields, media, pictures, seed
         self.title = fields["title"]
         with open(image, "rb") as file:
             self.data = file.read()
@@ -226,8 +226,12 @@ class Service:
             if data is None:
                 raise Refused(503, "The version that this game was begun with isn't here. Nothing of it is lost: tell the host.")
             if player.image not in self.engines:
-                self.engines[player.image] = engine.Engine(data, self.room.path, self.tells)
+                self.engines[player.image] = engine.Engine(data, self.room.path, self.tells, self.flags_of(player.image))
         return self.engines[player.image]
+
+    def flags_of(self, image):
+        """The flags by which the pictures of an image's places differ."""
+        return sorted({flag for game in self.games.values() if game.digest == image for flag in game.pictures.flags})
 
     async def session(self, game, name, wants_lines=False):
         """The session of a name, as the store has it now; and its lines, all where they are wanted or it was made anew."""
@@ -334,10 +338,12 @@ class Service:
 
     def state(self, game, session, turns):
         player, stand, look = session.player, session.stand, session.look
+        has_pictures = game.pictures and player.image == game.digest  # what they show is said of this version alone
         return {"name": player.name, "generation": stand.generation, "n": stand.n, "after": stand.key, "seed": player.seed,
                 "image": player.image, "isCurrent": player.image == game.digest, "hasBase": player.has_base,
                 "over": look.prompt == common.OVER, "waitsForKey": look.prompt == engine.KEY, "place": session.engine.place(look),
-                "score": look.score, "turnsMade": look.turns, "turns": turns}
+                "score": look.score, "turnsMade": look.turns, "turns": turns,
+                **({"picture": game.pictures.at(look.place, look.flags)} if has_pictures else {})}
 
     # --- small things
 

@@ -53,7 +53,7 @@ function broughtIn(text) {
   return { digest, seed, lines };
 }
 
-// What the bytes of a session and of an image hold, as far as a status row asks.
+// What the bytes of a session and of an image hold, as far as a status row asks, and a picture.
 function stateOf(session) {
   const number = (bytes, at) => bytes[at] + 256 * bytes[at + 1];
   const slot = session.subarray(128 + 86080 * (session[1] % 2));
@@ -62,7 +62,7 @@ function stateOf(session) {
     state[number(slot, record) % 4096] = slot[record + 2];
   }
   const hasLight = !state[0] || [state[38], 253, 254].includes(state[256]);
-  return { place: hasLight ? state[38] : null, score: state[30], turns: number(state, 31), prompt: state[1047], seed: number(state, 1023) };
+  return { place: hasLight ? state[38] : null, score: state[30], turns: number(state, 31), prompt: state[1047], seed: number(state, 1023), flags: state };
 }
 
 function placesOf(image) {

@@ -40,7 +40,7 @@ async function begins() {
 function now() {
   const state = stateOf(session);
   const place = state.place === null ? "In the dark" : (places[state.place] || "").trim().split("\n")[0].trim();
-  return { place, score: state.score, turns: state.turns, waitsForKey: state.prompt === KEY, isOver: state.prompt === OVER };
+  return { place, score: state.score, turns: state.turns, picture: pictureAt(state), waitsForKey: state.prompt === KEY, isOver: state.prompt === OVER };
 }
 
 const isKept = () => kept === rows.all.length;

@@ -144,6 +144,7 @@ function look() {
   byId("place").textContent = state.place.length <= 60 ? state.place : "";
   byId("counts").textContent = (about.hasScore ? `Score ${state.score} \u00b7 ` : "") + `Turns ${state.turns}`;
   byId("unkept").hidden = isKept();
+  showPicture(state.picture);
   prompt.textContent = state.waitsForKey ? "(Enter)" : promptOf(turns[turns.length - 1].text);
   root.toggleAttribute("data-over", state.isOver);
   byId("next").hidden = !state.isOver;
@@ -251,6 +252,7 @@ function appear() {
   byId("size").value = setting("size") || 110;
   byId("quiet").checked = setting("quiet") === "yes";
   byId("quiet-label").hidden = !Object.values(about.media).some((media) => media.is === "sound");
+  appearPictures();
 }
 
 byId("form").onsubmit = (event) => {
@@ -304,6 +306,11 @@ byId("chosen").onchange = async ({ target }) => {
 };
 ["shade", "size"].forEach((id) => { byId(id).oninput = ({ target }) => { setting(id, target.value); appear(); }; });
 byId("quiet").onchange = ({ target }) => setting("quiet", target.checked ? "yes" : "no");
+byId("no-pictures").onchange = ({ target }) => choosePictures("no pictures", target.checked);
+byId("fold").onclick = ({ detail }) => {
+  choosePictures("folded", root.dataset.pictures === "open");
+  if (detail && matchMedia("(hover: hover)").matches) focus();
+};
 ["menu", "elsewhere"].forEach((id) => byId(id).addEventListener("close", focus));
 document.addEventListener("visibilitychange", () => { if (!document.hidden && turns.length) next(lookAgain); });
 if (window.visualViewport) visualViewport.onresize = visualViewport.onscroll = fit;

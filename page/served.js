@@ -40,7 +40,7 @@ async function post(what, fields) {
 // --- What a page shows
 
 function now() {
-  return { place: stand.place, score: stand.score, turns: stand.turnsMade, waitsForKey: stand.waitsForKey, isOver: stand.over };
+  return { place: stand.place, score: stand.score, turns: stand.turnsMade, picture: stand.picture, waitsForKey: stand.waitsForKey, isOver: stand.over };
 }
 
 const isKept = () => true;

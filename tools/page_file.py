@@ -6,7 +6,8 @@ What a page shows of an about file beside the fields that tools/publish knows: i
   picture 3: lamp.png The lamp, lit
   sound 10 200: bell.ogg
 
-Each is a file beside the about file. What stands behind it is what a screen reader says of the picture.
+Each is a file beside the about file. What stands behind it is what a screen reader says of the picture. Pictures of places lie in a
+folder of their own: pictures.py tells of them.
 """
 import base64
 import hashlib
@@ -16,14 +17,17 @@ import os
 import re
 import zlib
 
+import images
 import letters
 import marks
 import paws
+import pictures
 import signals
 
 FOLDER = os.path.join(paws.TOP, "page")
 # One behind the other they are the script of a page: of a game that the browser plays, and of one that a host keeps.
-SCRIPTS, SERVED = ["engine.js", "store.js", "game.js", "play.js", "local.js"], ["game.js", "yours.js", "play.js", "served.js"]
+SCRIPTS = ["engine.js", "store.js", "game.js", "pictures.js", "play.js", "local.js"]
+SERVED = ["game.js", "yours.js", "pictures.js", "play.js", "served.js"]
 MODULES = [os.path.join(paws.TOP, "bin", "paw.wasm"), os.path.join(paws.TOP, "..", "..", "lib", "paw", "paw.wasm")]
 MEDIA = re.compile(r"(cover|picture \d{1,3}|sound \d{1,3} \d{1,3})\s*:\s*(.*)", re.IGNORECASE)
 PICTURES = {".png": "image/png", ".jpg": "image/jpeg", ".jpeg": "image/jpeg", ".gif": "image/gif", ".webp": "image/webp",
@@ -74,6 +78,14 @@ def medium(name, value, folder, place):
         raise Wrong("%s: there is no file %s" % (place, path))
     data = "data:%s;base64,%s" % (kind, as_text(paws.bytes_of(path, MOST)))
     return {"is": "sound" if kinds is SOUNDS else "picture", "data": data, "tells": told.strip()}
+
+
+def pictures_of(stem, image):
+    """The pictures of the places of a game, whose files begin so."""
+    try:
+        return pictures.of(stem, len(images.places(image)))
+    except pictures.Wrong as fault:
+        raise Wrong(str(fault)) from fault
 
 
 def mark_of(name):
@@ -161,11 +173,12 @@ def front(fields, cover):
     return '<figure id="front">%s<figcaption>%s</figcaption></figure>' % (picture, html.escape(by(fields)))
 
 
-def page(fields, media, image, scored, places=None):
-    """The text of a page. Its image and module stand in it; or they lie beside it in a site, and places has their names and the
-    rules of the policy for that; or a server computes the texts, and places has its address."""
+def page(fields, media, image, scored, places=None, shown=None):
+    """The text of a page, where the pictures of its places are shown. Its image and module stand in it; or they lie beside it in a
+    site, and places has their names and the rules of the policy for that; or a server computes the texts, and places has its
+    address."""
     places, code, beside = places or {}, script(SCRIPTS), ' data-from="%s"'
-    about = {"server": places.get("server", ""), "service": places.get("service", "")}
+    about = {"server": places.get("server", ""), "service": places.get("service", ""), **told_of(shown)}
     return whole(fields, media, about_of(fields, media, image, scored, about), code, policy(code, part("style.css"), places.get("policy")), {
         "IMAGE_FROM": beside % places["image"] if "image" in places else "", "IMAGE": "" if "image" in places else packed(image),
         "MODULE_FROM": beside % places["module"] if "module" in places else "",
@@ -174,17 +187,22 @@ def page(fields, media, image, scored, places=None):
         "PLAIN": "This page is a game, and needs JavaScript."})
 
 
-def served(fields, media, image, scored, longest):
+def served(fields, media, image, scored, longest, shown=None):
     """The text of a page of a game that a host keeps, with a place (@ADDRESS@) for where it is played without JavaScript; and the
-    rules of the policy. The longest line there has this many letters."""
+    rules of the policy. The longest line there has this many letters; the pictures of places are shown."""
     code, style = script(SERVED), part("style.css")
     rules = policy(code, style, {"script-src": hash_of(code), "connect-src": "'self'", "worker-src": "'none'"})
-    about = about_of(fields, media, image, scored, {"longest": longest, "service": ""})
+    about = about_of(fields, media, image, scored, {"longest": longest, "service": "", **told_of(shown)})
     return whole(fields, media, about, code, rules, {
         "BEGIN": filled(part("begin.html"), {"YOURS": part("yours.html")}), "BAR": " hidden",
         "KEPT": "Each line is kept by this host before its answer is shown: close the page when you like. The address of the page is your "
                 "game: whoever has it can go on with it.",
         "PLAIN": 'This page wants JavaScript. <a href="@ADDRESS@">Play without it</a>'}), rules
+
+
+def told_of(shown):
+    """What the script of a page is to know of pictures of places, where there are any."""
+    return {"pictures": shown.told()} if shown else {}
 
 
 def about_of(fields, media, image, scored, more):
@@ -223,4 +241,4 @@ def publishing():
 
 def of_game(paw, fields, about, image):
     """The page of a game, by the path of its about file."""
-    return page(fields, media_of(about), image, has_score(paw, image))
+    return page(fields, media_of(about), image, has_score(paw, image), shown=pictures_of(os.path.splitext(about)[0], image))
