@@ -79,3 +79,10 @@ function placesOf(image) {
   for (let many = things; many; many--) { text(); at += 4; }
   return Array.from({ length: places }, text);
 }
+
+// What stands packed in the page, as the answer to a request.
+function unpacked(id) {
+  if (typeof DecompressionStream === "undefined") throw new Error("this page wants a browser of 2023 or later");
+  const packed = new Blob([Uint8Array.from(atob(byId(id).textContent), (char) => char.charCodeAt(0))]);
+  return new Response(packed.stream().pipeThrough(new DecompressionStream("deflate")));
+}

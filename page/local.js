@@ -11,16 +11,9 @@ let isDoubted = setting(copied) !== "";  // a browser whose disk was full may lo
 
 // Bytes that stand in the page, packed, or lie beside it.
 async function bytesOf(id) {
-  const part = byId(id);
-  let answer;
-  if (part.dataset.from) {
-    answer = await fetch(part.dataset.from);
-    if (!answer.ok) throw new Error(`${part.dataset.from} isn't there`);
-  } else {
-    if (typeof DecompressionStream === "undefined") throw new Error("this page wants a browser of 2023 or later");
-    const packed = new Blob([Uint8Array.from(atob(part.textContent), (char) => char.charCodeAt(0))]);
-    answer = new Response(packed.stream().pipeThrough(new DecompressionStream("deflate")));
-  }
+  const { from } = byId(id).dataset;
+  const answer = from ? await fetch(from) : unpacked(id);
+  if (!answer.ok) throw new Error(`${from} isn't there`);
   return new Uint8Array(await answer.arrayBuffer());
 }
 

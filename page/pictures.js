@@ -2,15 +2,24 @@
 // in the session, and a host tells the row's number itself. A picture is an image alone, so nothing in it runs. It can be folded, or all
 // pictures left out, and both is kept.
 
+let drawings = [];  // the pictures as addresses, by the numbers that rows have for them
+
+// A browser that can't unpack them shows none; the game is played all the same.
+async function unpackPictures() {
+  if (!about.pictures || typeof DecompressionStream === "undefined") return;
+  const texts = await unpacked("pictures").json();
+  drawings = texts.map((text) => "data:image/svg+xml," + encodeURIComponent(text));
+  appearPictures();
+}
+
 // The number of the first row that fits where a game stands; -1 where none does.
 function pictureAt({ place, flags }) {
-  const rows = about.pictures ? about.pictures.rows : [];
-  return rows.findIndex((row) => row.place === place && row.flags.every(([flag, least, most]) => least <= flags[flag] && flags[flag] <= most));
+  return (about.pictures || []).findIndex((row) => row.place === place && row.flags.every(([flag, least, most]) => least <= flags[flag] && flags[flag] <= most));
 }
 
 // How pictures are shown: not at all, folded or open.
 function wayOfPictures() {
-  if (!about.pictures || setting("no pictures") === "yes") return "none";
+  if (!drawings.length || setting("no pictures") === "yes") return "none";
   return setting("folded") === "yes" ? "folded" : "open";
 }
 
@@ -19,14 +28,14 @@ function appearPictures() {
   root.dataset.pictures = way;
   byId("fold").setAttribute("aria-expanded", way === "open");
   byId("no-pictures").checked = way === "none";
-  byId("no-pictures-label").hidden = !about.pictures;
+  byId("no-pictures-label").hidden = !drawings.length;
 }
 
 // Shows the picture of a row.
 function showPicture(number) {
-  const row = wayOfPictures() !== "none" && about.pictures.rows[number];
+  const row = wayOfPictures() !== "none" && about.pictures[number];
   byId("view").hidden = !row;
-  if (row) Object.assign(byId("picture"), { src: about.pictures.files[row.file], alt: row.tells });
+  if (row) Object.assign(byId("picture"), { src: drawings[row.file], alt: row.tells });
 }
 
 // What the player chose, kept and shown; the newest text stays on the screen.

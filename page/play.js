@@ -318,6 +318,7 @@ if (window.visualViewport) visualViewport.onresize = visualViewport.onscroll = f
 appear();
 fit();
 next(async () => {
+  await unpackPictures();
   await begins();
   performance.mark("first text");
   focus();

@@ -182,7 +182,7 @@ def page(fields, media, image, scored, places=None, shown=None):
     return whole(fields, media, about_of(fields, media, image, scored, about), code, policy(code, part("style.css"), places.get("policy")), {
         "IMAGE_FROM": beside % places["image"] if "image" in places else "", "IMAGE": "" if "image" in places else packed(image),
         "MODULE_FROM": beside % places["module"] if "module" in places else "",
-        "MODULE": "" if "module" in places or "server" in places else packed(module()),
+        "MODULE": "" if "module" in places or "server" in places else packed(module()), **packed_of(shown),
         "KEPT": "Each line is kept in this browser before its answer is shown: close the page when you like.",
         "PLAIN": "This page is a game, and needs JavaScript."})
 
@@ -194,7 +194,7 @@ def served(fields, media, image, scored, longest, shown=None):
     rules = policy(code, style, {"script-src": hash_of(code), "connect-src": "'self'", "worker-src": "'none'"})
     about = about_of(fields, media, image, scored, {"longest": longest, "service": "", **told_of(shown)})
     return whole(fields, media, about, code, rules, {
-        "BEGIN": filled(part("begin.html"), {"YOURS": part("yours.html")}), "BAR": " hidden",
+        **packed_of(shown), "BEGIN": filled(part("begin.html"), {"YOURS": part("yours.html")}), "BAR": " hidden",
         "KEPT": "Each line is kept by this host before its answer is shown: close the page when you like. The address of the page is your "
                 "game: whoever has it can go on with it.",
         "PLAIN": 'This page wants JavaScript. <a href="@ADDRESS@">Play without it</a>'}), rules
@@ -205,6 +205,11 @@ def told_of(shown):
     return {"pictures": shown.told()} if shown else {}
 
 
+def packed_of(shown):
+    """The pictures of places as they stand in a page, where there are any."""
+    return {"PICTURES": packed(shown.texts())} if shown else {}
+
+
 def about_of(fields, media, image, scored, more):
     """What the script of a page is to know of its game."""
     return {"title": fields["title"], "digest": hashlib.sha256(image).hexdigest(), "ifid": fields.get("ifid", ""), "hasScore": scored,
@@ -213,7 +218,7 @@ def about_of(fields, media, image, scored, more):
 
 def whole(fields, media, about, code, rules, values):
     """A page of its parts; what no value is named for is empty."""
-    names = ["BEGIN", "BAR", "IMAGE_FROM", "IMAGE", "MODULE_FROM", "MODULE"]
+    names = ["BEGIN", "BAR", "IMAGE_FROM", "IMAGE", "MODULE_FROM", "MODULE", "PICTURES"]
     return filled(part("index.html"), {
         **dict.fromkeys(names, ""), "LANGUAGE": fields.get("language", "en"), "TITLE": html.escape(fields["title"]), "TOLD": told(fields),
         "STYLE": part("style.css"), "POLICY": html.escape(rules), "FRONT": front(fields, media.get("cover")),

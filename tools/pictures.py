@@ -11,8 +11,8 @@ The first row that fits counts. A value with a + behind it means this one or mor
 with ; is a comment. A picture is an SVG without
 anything in it but what is drawn, so that nothing of it runs and nothing is asked for.
 """
-import base64
 import collections
+import json
 import os
 import re
 import xml.parsers.expat
@@ -54,7 +54,7 @@ class Pictures:
             if row.file not in self.files:
                 where = "%s:%d" % (os.path.join(folder, TABLE), row.number)
                 self.files[row.file] = drawn(os.path.join(folder, row.file), where)
-                whole += len(self.files[row.file])
+                whole += len(self.files[row.file].encode("utf-8"))
                 if whole > MOST_OF_ALL:
                     raise Wrong("%s: up to here the pictures have %d bytes, and all may have %d" % (where, whole, MOST_OF_ALL))
 
@@ -74,11 +74,13 @@ class Pictures:
         return None
 
     def told(self):
-        """What the script of a page is to know of them."""
+        """What the script of a page is to know of the rows; a file by its number."""
         names = list(self.files)
-        rows = [{"place": row.place, "flags": row.flags, "file": names.index(row.file), "tells": row.tells} for row in self.rows]
-        addresses = ["data:image/svg+xml;base64," + base64.b64encode(self.files[name]).decode("ascii") for name in names]
-        return {"rows": rows, "files": addresses}
+        return [{"place": row.place, "flags": row.flags, "file": names.index(row.file), "tells": row.tells} for row in self.rows]
+
+    def texts(self):
+        """The bytes of a JSON text that has the texts of the files."""
+        return json.dumps(list(self.files.values())).encode("ascii")
 
 
 # --- The table -----------------------------------------------------------------------------------------------------
@@ -86,7 +88,7 @@ class Pictures:
 def text_of(path, most):
     """The text of a file in UTF-8, of so many bytes at most."""
     try:
-        return paws.bytes_of(path, most).decode("utf-8")
+        return paws.bytes_of(path, most).decode("utf-8-sig")
     except UnicodeDecodeError as fault:
         raise Wrong("%s: not UTF-8, at byte %d" % (path, fault.start)) from fault
 
@@ -144,14 +146,14 @@ def flag_of(flag, value, where):
 # --- The pictures --------------------------------------------------------------------------------------------------
 
 def drawn(path, where):
-    """The bytes of a picture that nothing can run in, and that asks for nothing; the table names it where it is told to."""
+    """The text of a picture that nothing can run in, and that asks for nothing; the table names it where it is told to."""
     if not os.path.isfile(path):
         raise Wrong("%s: there is no file %s" % (where, path))
     if os.path.getsize(path) > MOST:
         raise Wrong("%s: %s has %d bytes, and may have %d" % (where, path, os.path.getsize(path), MOST))
-    data = paws.bytes_of(path, MOST)
-    Checker(path).check(data)
-    return data
+    text = text_of(path, MOST)
+    Checker(path).check(text)
+    return text
 
 
 class Checker:
@@ -161,17 +163,22 @@ class Checker:
         self.path, self.depth = path, 0
         self.parser = xml.parsers.expat.ParserCreate(namespace_separator=" ")
         self.parser.StartElementHandler, self.parser.EndElementHandler = self.begins, self.ends
+        self.parser.XmlDeclHandler = self.declared
         self.parser.StartDoctypeDeclHandler = lambda *_: self.refuse("a document type may not stand there")
         self.parser.ProcessingInstructionHandler = lambda *_: self.refuse("an instruction may not stand there")
 
-    def check(self, data):
+    def check(self, text):
         try:
-            self.parser.Parse(data, True)
+            self.parser.Parse(text, True)
         except xml.parsers.expat.ExpatError as fault:
             raise Wrong("%s:%d: not well formed: %s" % (self.path, fault.lineno, xml.parsers.expat.ErrorString(fault.code))) from fault
 
     def refuse(self, why):
         raise Wrong("%s:%d: %s" % (self.path, self.parser.CurrentLineNumber, why))
+
+    def declared(self, _, encoding, *__):
+        if encoding and encoding.lower() != "utf-8":
+            self.refuse("UTF-8 is wanted, and %s is declared" % encoding)
 
     def begins(self, name, attributes):
         space, _, element = name.rpartition(" ")
