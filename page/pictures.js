@@ -3,6 +3,7 @@
 // pictures left out, and both is kept.
 
 let drawings = [];  // the pictures as addresses, by the numbers that rows have for them
+let pictured = null;  // the row whose picture was shown last
 
 // A browser that can't unpack them shows none; the game is played all the same.
 async function unpackPictures() {
@@ -35,7 +36,9 @@ function appearPictures() {
 function showPicture(number) {
   const row = wayOfPictures() !== "none" && about.pictures[number];
   byId("view").hidden = !row;
-  if (row) Object.assign(byId("picture"), { src: drawings[row.file], alt: row.tells });
+  if (!row || row === pictured) return;
+  pictured = row;
+  Object.assign(byId("picture"), { src: drawings[row.file], alt: row.tells });
 }
 
 // What the player chose, kept and shown; the newest text stays on the screen.
