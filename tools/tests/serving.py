@@ -1,7 +1,9 @@
 """What tests share: whether the programs that they need are there, and servers that run for a while."""
 import contextlib
+import glob
 import json
 import os
+import random
 import shutil
 import signal
 import socket
@@ -13,7 +15,7 @@ import urllib.error
 import urllib.request
 
 TOP = os.path.dirname(os.path.dirname(os.path.dirname(os.path.abspath(__file__))))
-LATEST = 180  # seconds
+LATEST = 600  # seconds until something hangs for sure: what is waited for comes much sooner
 
 
 def installed(packages):
@@ -37,7 +39,7 @@ def may_install():
 
 def install(packages):
     """Installs Debian packages, whose services aren't started."""
-    get = "apt-get -qq install -y --no-install-recommends " + " ".join(packages)
+    get = "apt-get -qq -o DPkg::Lock::Timeout=%d install -y --no-install-recommends %s" % (LATEST, " ".join(packages))
     with no_services():
         subprocess.run(["sh", "-c", "%s || { apt-get -qq update && %s; }" % (get, get)], stdin=subprocess.DEVNULL,
                        stdout=subprocess.DEVNULL, stderr=subprocess.DEVNULL, env=dict(os.environ, DEBIAN_FRONTEND="noninteractive"))
@@ -68,19 +70,56 @@ def has_host():
 
 
 def free_port():
-    with socket.socket() as taken:
-        taken.bind(("127.0.0.1", 0))
-        return taken.getsockname()[1]
+    """A port that nobody has, below those that the system gives to clients: one of these might have it before a server does."""
+    with open("/proc/sys/net/ipv4/ip_local_port_range", encoding="ascii") as file:
+        ports = range(10000, int(file.read().split()[0]))
+    for port in random.sample(ports, min(len(ports), 100)) + [0]:
+        with contextlib.suppress(OSError), socket.socket() as taken:
+            taken.bind(("127.0.0.1", port))
+            return taken.getsockname()[1]
+    sys.exit("there is no free port")
 
 
 def wait_for(port, process):
     """Waits until somebody listens at a port of this machine."""
     end = time.monotonic() + LATEST
     while time.monotonic() < end and process.poll() is None:
-        with contextlib.suppress(OSError), socket.create_connection(("127.0.0.1", port), 1):
+        with contextlib.suppress(OSError), socket.create_connection(("127.0.0.1", port), LATEST):
             return
         time.sleep(0.05)
     sys.exit("nobody listens at port %d" % port)
+
+
+def children_of(process):
+    """The processes that a process has begun, in whichever of its threads."""
+    found = []
+    for path in glob.glob("/proc/%d/task/*/children" % process):
+        with contextlib.suppress(OSError), open(path, encoding="ascii") as file:
+            found += [int(word) for word in file.read().split()]
+    return found
+
+
+def family_of(process):
+    """A process and all that it has begun, and these have."""
+    return [process] + [one for child in children_of(process) for one in family_of(child)]
+
+
+def runs(process):
+    """Whether a process runs: one that has ended may still be listed."""
+    try:
+        with open("/proc/%d/stat" % process, encoding="latin-1") as file:
+            return file.read().rpartition(")")[2].split()[0] not in ("X", "Z")
+    except OSError:
+        return False
+
+
+def wait_for_end(processes):
+    """Waits until none of these runs: what was killed may hold locks and ports until then."""
+    end = time.monotonic() + LATEST
+    while any(runs(process) for process in processes):
+        if time.monotonic() > end:
+            sys.exit("a process doesn't end")
+        time.sleep(0.01)
 
 
 @contextlib.contextmanager
@@ -151,12 +190,12 @@ class Cluster:
                 time.sleep(0.1)
 
     def kill(self):
-        """Ends it at once, as a failure would."""
+        """Ends it at once, as a failure would. Each connection has a process of its own, which ends a moment later: before that it may
+        take one more change."""
         with open(os.path.join(self.data, "postmaster.pid"), encoding="ascii") as file:
-            number = int(file.readline())
-        os.kill(number, signal.SIGKILL)
-        while os.path.exists("/proc/%d" % number):
-            time.sleep(0.01)
+            family = family_of(int(file.readline()))
+        os.kill(family[0], signal.SIGKILL)
+        wait_for_end(family)
 
     def stop(self):
         self.run("pg_ctl", "-D", self.data, "-m", "immediate", "-w", "-s", "stop")
@@ -211,9 +250,17 @@ class Player:
         self.address, self.game, self.state, self.texts = address, game, {"name": name}, []
 
     def post(self, what, address=None, **fields):
-        """The status and the answer of a request."""
-        request = urllib.request.Request((address or self.address) + self.game + "/" + what, json.dumps(fields).encode("ascii"),
-                                         {"Content-Type": "application/json", "Accept": "application/json"})
+        """The status and the answer of a request. What the host can't do right now is sent again, as a page does."""
+        end = time.monotonic() + LATEST
+        while True:
+            status, answer = self.once((address or self.address) + self.game + "/" + what, json.dumps(fields).encode("ascii"))
+            if status != 503 or time.monotonic() > end:
+                return status, answer
+            time.sleep(0.1)
+
+    @staticmethod
+    def once(address, data):
+        request = urllib.request.Request(address, data, {"Content-Type": "application/json", "Accept": "application/json"})
         try:
             with urllib.request.urlopen(request, timeout=LATEST) as answer:
                 return answer.status, json.load(answer)
