@@ -5,19 +5,24 @@ import contextlib
 import fcntl
 import json
 import os
+import select
 import signal
 import socket
 import subprocess
 import sys
 import time
 
-LATEST = 120  # seconds
+LATEST = 600  # seconds until something hangs for sure
 KEYS = {"Enter": ("Enter", 13, "\r", "\ue007"), "ArrowUp": ("ArrowUp", 38, "", "\ue013"),
         "ArrowDown": ("ArrowDown", 40, "", "\ue015"), "Escape": ("Escape", 27, "", "\ue00c"), "Tab": ("Tab", 9, "\t", "\ue004")}
 
 
 class Wrong(Exception):
     """What isn't as it should be, in words."""
+
+
+class Ended(Wrong):
+    """A browser that has ended, or hangs."""
 
 
 def check(holds, told):
@@ -28,14 +33,23 @@ def check(holds, told):
 class Window:
     """What windows of both browsers can do."""
 
-    def until(self, expression, told, latest=None):
+    def until(self, expression, told):
         """Waits until an expression is true."""
-        end = time.monotonic() + (latest or LATEST)
-        while not self.value("(() => { try { return !!(%s); } catch { return false; } })()" % expression):
+        end = time.monotonic() + LATEST
+        while not self.holds(expression):
             if time.monotonic() > end:
                 shown = self.value("document.body && document.body.innerText") or ""
                 raise Wrong("%s; shown is %r" % (told, shown[-600:]))
             time.sleep(0.01)
+
+    def holds(self, expression):
+        """Whether an expression is true; it isn't where it can't be told, as while a page goes for another."""
+        try:
+            return self.value("(() => { try { return !!(%s); } catch { return false; } })()" % expression)
+        except Ended:
+            raise
+        except Wrong:
+            return False
 
     def enter(self, text):
         """Types a line and Enter, wherever the focus is."""
@@ -90,8 +104,10 @@ class Chromium(Started):
     def read(self):
         """The next message."""
         while b"\0" not in self.held:
-            part = os.read(self.come, 1 << 20)
-            check(part, "the browser has ended")
+            is_there = select.select([self.come], [], [], LATEST)[0]
+            part = os.read(self.come, 1 << 20) if is_there else b""
+            if not part:
+                raise Ended("the browser has ended" if is_there else "the browser says nothing")
             self.held += part
         message, _, self.held = self.held.partition(b"\0")
         return json.loads(message)
@@ -189,8 +205,12 @@ class Socket:
         check(b" 101 " in answer, "Firefox refuses its socket: %r" % answer)
 
     def more(self):
-        part = self.socket.recv(1 << 20)
-        check(part, "the browser has ended")
+        try:
+            part = self.socket.recv(1 << 20)
+        except OSError as why:
+            raise Ended("the browser says nothing (%s)" % why) from why
+        if not part:
+            raise Ended("the browser has ended")
         self.held += part
 
     def take(self, count):

@@ -43,7 +43,7 @@ def types_until_killed(browser, page, lines, done):
         while True:
             browser.events.append(browser.read())
     except page_browsers.Wrong:
-        return max(shown_in(browser.events)), typed
+        return max([done + 1, *shown_in(browser.events)]), typed
 
 
 def killed(room, opened, lines, image, times):
