@@ -30,6 +30,14 @@ def check(holds, told):
         raise Wrong(told)
 
 
+def until(holds, told):
+    """Waits until something holds."""
+    end = time.monotonic() + LATEST
+    while not holds():
+        check(time.monotonic() < end, told)
+        time.sleep(0.01)
+
+
 class Window:
     """What windows of both browsers can do."""
 

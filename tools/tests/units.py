@@ -11,7 +11,7 @@ import subprocess
 import sys
 import time
 
-LATEST = 60  # seconds
+LATEST = 600  # seconds
 STORE = "/var/lib/games/paw.store"
 
 
