@@ -10,7 +10,6 @@ import contextlib
 import fcntl
 import os
 import shutil
-import struct
 import subprocess
 import tempfile
 import time
@@ -49,14 +48,19 @@ def look_of(path, flags=()):
         if found.st_size != sessions.LENGTH:
             raise Broken("its file has another length")
         slot = sessions.SLOTS + sessions.SLOT * (os.pread(file, 2, 0)[1] % 2)
-        count, = struct.unpack("<H", os.pread(file, 2, slot))
-        base = os.pread(file, 1048, slot + sessions.BASE)
-        changed = dict(struct.iter_unpack("<HBx", os.pread(file, 4 * min(count, 4096), slot + sessions.RECORDS)))
+        head = os.pread(file, sessions.BASE + 1048, slot)
+        base, count = head[sessions.BASE:], min(int.from_bytes(head[:2], "little"), 4096)
+        records = os.pread(file, 4 * count, slot + sessions.RECORDS)
     finally:
         os.close(file)
+    lows, highs, values = records[::4], records[1::4], records[2::4]
 
     def state(at):
-        return changed.get(at, base[at])
+        """The byte at an offset: that of its last record, or else that of the base. There may be thousands of records."""
+        found = lows.rfind(at % 256)
+        while found >= 0 and highs[found] != at // 256:
+            found = lows.rfind(at % 256, 0, found)
+        return base[at] if found < 0 else values[found]
 
     has_light = not state(0) or state(256) in (state(38), 253, 254)
     return Look(found.st_ino, int.from_bytes(map(state, range(1039, 1047)), "little"), state(1047), state(38) if has_light else None,
