@@ -64,9 +64,13 @@ class Host:
         return self.reply(name)
 
     def send(self, name, text=None):
-        """Hands a line over. Where pawhost has ended, the reply tells it."""
+        """Hands a line over."""
+        self.write(name.encode("ascii") + (b"" if text is None else b" " + text) + b"\n")
+
+    def write(self, lines):
+        """Hands lines over as they are. Where pawhost has ended, the reply tells it."""
         with contextlib.suppress(BrokenPipeError):
-            self.process.stdin.write(name.encode("ascii") + (b"" if text is None else b" " + text) + b"\n")
+            self.process.stdin.write(lines)
 
     def reply(self, name):
         """The body of the next reply, which is that to a line of this name."""

@@ -24,6 +24,9 @@ KEY = 3                         # the prompt of a session that waits for a key
 ATTEMPTS = 2                    # how often a session is made, and a line played, where a pawhost ends
 MAKERS = 4                      # sessions that are made at once
 HOSTS = 4                       # pawhosts of an image
+MOST_ASKED = 32                 # lines that a pawhost is handed before it has answered them: its input holds more
+LONGEST_ASKED = 255             # bytes of such a line that count
+REPLY = bytearray(common.LONGEST_REPLY)
 PATIENCE = 5                    # seconds for another server to begin
 LEAST = 64                      # sessions that are kept, however little memory there is
 
@@ -128,29 +131,102 @@ def sweep(parent):
 
 # --- One game's texts ----------------------------------------------------------------------------------------------
 
-class Pawhost(common.Host):
-    """A pawhost that is asked one thing at a time, without anything else waiting for it."""
+class Pawhost:
+    """A pawhost that answers in turn what it is asked; nothing else waits for it. Where it ends, what it was to answer first is
+    Ended, and the rest goes to one that is begun anew."""
 
-    def __init__(self, folder, image):
-        super().__init__(folder, image, 0)
-        self.output.setblocking(False)
+    def __init__(self, folder, image, tells):
+        self.folder, self.image, self.tells = folder, image, tells
+        self.host, self.loop, self.timer, self.since = None, None, None, 0
+        self.waiting, self.asked = collections.deque(), collections.deque()  # what it was not handed yet, and what it was
 
-    async def answer(self, name, text=None):
-        """The body of its reply to a line, or to the name alone."""
-        self.send(name, text)
+    def ask(self, name, text=None):
+        """The future of the body of its reply to a line, or to the name alone."""
+        if text and b"\n" in text:
+            raise ValueError("a line end in a line")
+        self.loop = asyncio.get_running_loop()
+        line, body = name.encode("ascii") + (b"" if text is None else b" " + text), self.loop.create_future()
+        self.waiting.append((name, line[:LONGEST_ASKED] + b"\n", body))
+        if not self.asked:
+            self.hand_over()
+        return body
+
+    def hand_over(self):
+        """Hands over what waits in one write, as much as surely fits into its input."""
+        if self.waiting and self.host is None:
+            try:
+                self.begin()
+            except OSError as fault:
+                while self.waiting:
+                    fail(self.waiting.popleft()[2], fault)
+        lines = []
+        while self.waiting and len(self.asked) < MOST_ASKED:
+            self.asked.append(self.waiting.popleft())
+            lines.append(self.asked[-1][1])
+        if lines:
+            self.host.write(b"".join(lines))
+        self.since = time.monotonic()
+
+    def begin(self):
+        self.host = common.Host(self.folder, self.image, 0)
+        self.host.output.setblocking(False)
+        self.loop.add_reader(self.host.output, self.hear)
+        self.timer = self.timer or self.loop.call_later(common.SLOWEST, self.look_after)
+
+    def hear(self):
+        """Takes the replies that are there, and hands over what waits."""
         try:
-            comes = asyncio.get_running_loop().sock_recv(self.output, common.LONGEST_REPLY)
-            reply = await asyncio.wait_for(comes, common.SLOWEST)
-        except (ConnectionResetError, asyncio.TimeoutError):
-            self.process.kill()
-            reply = b""
-        return self.body(name, reply)
+            self.hear_one()
+            while self.asked:
+                self.hear_one()
+        except BlockingIOError:
+            pass
+        except (common.Ended, OSError, ValueError) as fault:
+            self.end_with(fault)
+        self.hand_over()
+
+    def hear_one(self):
+        """Takes the next reply, which is that to what was asked first."""
+        length = self.host.output.recv_into(REPLY)
+        name, _, body = self.asked[0] if self.asked else ("?", None, None)
+        text = self.host.body(name, REPLY[:length])
+        self.asked.popleft()
+        if not body.done():
+            body.set_result(text)
+
+    def end_with(self, fault):
+        """It has ended, or has to: what it was to answer first has no answer."""
+        self.stop()
+        self.tells("ended")
+        if self.asked:
+            fail(self.asked.popleft()[2], fault)
+        self.waiting.extendleft(reversed(self.asked))
+        self.asked.clear()
+
+    def look_after(self):
+        """Ends it where it has answered nothing for too long, which is then heard."""
+        left, self.timer = common.SLOWEST, None
+        if self.asked:
+            left += self.since - time.monotonic()
+        if self.host:
+            if left <= 0:
+                self.host.process.kill()
+            self.timer = self.loop.call_later(max(left, 1), self.look_after)
 
     def stop(self):
         """Ends it at once, whatever it does."""
-        self.process.kill()
-        with contextlib.suppress(OSError):
-            self.end()
+        host, self.host = self.host, None
+        if host:
+            if not self.loop.is_closed():
+                self.loop.remove_reader(host.output)
+            host.process.kill()
+            with contextlib.suppress(OSError):
+                host.end()
+
+
+def fail(future, fault):
+    if not future.done():
+        future.set_exception(fault)
 
 
 class Engine:
@@ -158,32 +234,23 @@ class Engine:
     ends is begun anew. A session belongs to one of them, which may hold its lock. Of each state these flags are told."""
 
     def __init__(self, data, room, tells=lambda event: None, flags=()):
-        self.places, self.tells, self.flags = images.places(data), tells, flags
+        self.places, self.flags = images.places(data), flags
         self.folder = os.path.join(room, images.digest(data))
         os.makedirs(self.folder, mode=0o700)
         self.image = os.path.join(self.folder, "image")
         with open(self.image, "wb") as file:
             file.write(data)
-        self.paw, self.hosts, self.turns = common.program("paw"), [None] * HOSTS, [asyncio.Lock() for _ in range(HOSTS)]
+        self.paw = common.program("paw")
+        self.hosts = [Pawhost(self.folder, self.image, tells) for _ in range(HOSTS)]
         self.makers = concurrent.futures.ThreadPoolExecutor(MAKERS)
 
     def path(self, file):
         return common.path_of(self.folder, file)
 
-    async def ask(self, file, text=None):
-        """The body of pawhost's reply to a line for a session, or to the session alone. Where it ends it is Ended, and this
-        session alone has to be made again."""
-        which = int(file[1:]) % HOSTS
-        async with self.turns[which]:
-            if self.hosts[which] is None or self.hosts[which].process.poll() is not None:
-                self.hosts[which] = Pawhost(self.folder, self.image)
-            try:
-                return await self.hosts[which].answer(file, text)
-            except BaseException:
-                self.hosts[which].stop()
-                self.hosts[which] = None
-                self.tells("ended")
-                raise
+    def ask(self, file, text=None):
+        """The future of the body of pawhost's reply to a line for a session, or to the session alone. Where it ends it is Ended,
+        and this session alone has to be made again."""
+        return self.hosts[int(file[1:]) % HOSTS].ask(file, text)
 
     async def make(self, file, seed, lines, base=None):
         """Makes a session of the lines, from its seed on, or from a session that it begins with."""
@@ -227,8 +294,7 @@ class Engine:
     def end(self):
         self.makers.shutdown(wait=False)
         for host in self.hosts:
-            if host:
-                host.stop()
+            host.stop()
 
 
 # --- Sessions in memory --------------------------------------------------------------------------------------------
