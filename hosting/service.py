@@ -19,8 +19,8 @@ import store
 MOST_TURNS = 200         # turns that are shown when a game is opened
 MOST_AT_ONCE = 500       # turns that can be asked for at once
 MOST_BROUGHT = 20000     # lines of a game that is brought
-LONGEST_LINE = 255       # bytes
-TRIES = 4                # how often a line is tried where others play the same game
+TRIES = 4                # how often a line is tried where others play the same game, and its row where others write
+SOON = 0.001             # seconds until a row is tried again
 LATEST = 20              # seconds for a change of the store
 FULL_MEMORY = "There is no memory for this game right now. Nothing is lost: try again in a while."
 WORDS = {"over": "over", "full": "full", "spent": "spent", "too deep": "deep"}  # of pawhost, and the event of each
@@ -63,7 +63,7 @@ class Service:
         self.room = engine.Room(folder) if folder else engine.Room()
         self.sessions, self.engines = engine.Sessions(most), {}
         self.readers = concurrent.futures.ThreadPoolExecutor(store.READERS)
-        self.locks = weakref.WeakValueDictionary()
+        self.locks, self.unkept = weakref.WeakValueDictionary(), []
 
     def end(self):
         for found in self.engines.values():
@@ -138,7 +138,7 @@ class Service:
                 self.tells(WORDS[body])
                 return {**self.state(game, session, []), "taken": False, "refused": body, "note": common.meaning(body)}
             line = store.Line(before.n + 1, key, text.decode("ascii"), int(time.time()))
-            if await self.change(self.store.take(session.player, before, line)):
+            if await self.kept(session.player, before, line):
                 session.stand, session.look = store.Stand(before.generation, line.n, key), look
                 session.text = body
                 if abs(line.at - session.player.seen) > store.HOUR:
@@ -349,13 +349,11 @@ class Service:
 
     async def alone(self, who, does):
         """Does something for a name while nothing else is done for it here; who asked may go away meanwhile."""
-        async def done():
+        try:
             if who is None:
                 return await does()
             async with self.locks.setdefault(who, asyncio.Lock()):
                 return await does()
-        try:
-            return await asyncio.shield(asyncio.ensure_future(done()))
         except store.Failed:
             self.tells("failed")
             if who:
@@ -364,6 +362,31 @@ class Service:
 
     async def read(self, does, *words):
         return await asyncio.get_running_loop().run_in_executor(self.readers, does, *words)
+
+    async def kept(self, *line):
+        """Whether a line is taken by the store. Those that are to be kept by now share a transaction: right here, where little has
+        to be waited for, and else in the thread that does changes."""
+        loop = asyncio.get_running_loop()
+        if not self.unkept:
+            loop.call_soon(self.keep, loop)
+        is_taken = loop.create_future()
+        self.unkept.append((line, is_taken))
+        found = await is_taken
+        return await self.change(self.store.take(*line)) if found is None else found
+
+    def keep(self, loop, tries=TRIES):
+        """Has the rows written that wait, or leaves them to the thread."""
+        try:
+            given = self.store.take_now([line for line, _ in self.unkept])
+        except BlockingIOError:
+            if tries:
+                loop.call_later(SOON, self.keep, loop, tries - 1)
+                return
+            given = None
+        waiting, self.unkept = self.unkept, []
+        for (_, is_taken), found in zip(waiting, given or [None] * len(waiting)):
+            if not is_taken.done():
+                is_taken.set_result(found)
 
     async def change(self, future):
         """What a change of the store gives; where it doesn't come in time nobody knows whether it is done."""

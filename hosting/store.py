@@ -9,6 +9,7 @@ import collections
 import concurrent.futures
 import contextlib
 import fcntl
+import math
 import os
 import queue
 import re
@@ -20,6 +21,8 @@ MOST_AT_ONCE = 500   # changes that share a commit
 READERS = 4          # reads at once
 PATIENCE = 10        # seconds for another program to end its change
 HOUR = 3600
+QUICK = 0.005        # seconds of a commit that a thread with other work may wait for
+SHARE = 10           # such a thread gives to slower ones one part of so many of its time
 
 SCHEMA = """
 create table if not exists player (
@@ -70,15 +73,15 @@ class Wrong(Exception):
 class Sqlite:
     """One file of this machine, which nobody else can read."""
 
-    failures, lock, begins = (sqlite3.Error, OSError), "", "begin immediate"
+    failures, lock, begins, is_local = (sqlite3.Error, OSError), "", "begin immediate", True
 
     def __init__(self, path):
         self.path = os.path.abspath(path)
 
-    def connect(self):
+    def connect(self, patience=PATIENCE):
         with contextlib.suppress(FileExistsError):
             os.close(os.open(self.path, os.O_CREAT | os.O_EXCL | os.O_RDWR, 0o600))
-        connection = sqlite3.connect(self.path, PATIENCE, isolation_level=None, check_same_thread=False)
+        connection = sqlite3.connect(self.path, patience, isolation_level=None, check_same_thread=False)
         connection.execute("pragma journal_mode = wal")
         connection.execute("pragma synchronous = full")
         return connection
@@ -87,12 +90,12 @@ class Sqlite:
         connection.executescript("begin immediate;" + SCHEMA.format(bytes="blob") + "; commit")
 
     @contextlib.contextmanager
-    def turn(self):
+    def turn(self, waits=True):
         """A program's turn to change the file. SQLite itself looks more and more seldom whether another one is done, so that some
-        would wait for very long."""
+        would wait for very long. Who doesn't wait is told by BlockingIOError that another one has it."""
         file = os.open(self.path + "-turn", os.O_CREAT | os.O_RDWR | os.O_CLOEXEC, 0o600)
         try:
-            fcntl.flock(file, fcntl.LOCK_EX)
+            fcntl.flock(file, fcntl.LOCK_EX if waits else fcntl.LOCK_EX | fcntl.LOCK_NB)
             yield
         finally:
             os.close(file)
@@ -107,7 +110,7 @@ class Sqlite:
 class Postgres:
     """A server that many machines share. It is found as libpq finds it: PGPASSFILE and the like have what is secret."""
 
-    lock, begins = "for update of player", "begin"
+    lock, begins, is_local = "for update of player", "begin", False
 
     def __init__(self, address):
         import psycopg2  # wanted where there are many machines, and not else
@@ -127,7 +130,7 @@ class Postgres:
     def asks(self, text):
         return text.replace("?", "%s")
 
-    def turn(self):
+    def turn(self, waits=True):
         return contextlib.nullcontext()
 
     def bytes(self, data):
@@ -152,7 +155,8 @@ class Store:
     def __init__(self, address, tells=lambda rows, seconds: None):
         self.engine = engine_of(address)
         self.tells, self.own, self.readers = tells, threading.local(), []
-        self.waiting = queue.SimpleQueue()
+        self.quick, self.quick_from = None, 0 if self.engine.is_local else math.inf
+        self.waiting, self.take_text = queue.SimpleQueue(), TAKE.format(lock=self.engine.lock)
         with self.failing():
             connection = self.engine.connect()
             self.engine.make(connection)
@@ -164,7 +168,7 @@ class Store:
         """Ends it, once all that waits is written, or another program keeps it from that for long."""
         self.waiting.put(None)
         self.writer.join(2 * PATIENCE)
-        for connection in self.readers:
+        for connection in [*self.readers, *([self.quick] if self.quick else [])]:
             with contextlib.suppress(Exception):
                 connection.close()
 
@@ -250,15 +254,36 @@ class Store:
         """Takes a line behind where a player stands (before); the result is whether it is taken. It isn't where the game stands
         elsewhere, where the number or the key is taken, and where the player is gone. When the player was last seen is written
         where an hour has passed since the time that is known."""
+        return self.change(player.game, player.name, lambda ask: self.taken(ask, player, before, line))
+
+    def taken(self, ask, player, before, line):
         values = (line.n, line.key, line.text, line.at, player.game, player.name, before.generation, player.seed, player.image,
                   before.n, before.n, before.key)
+        is_taken = ask(self.take_text, *values) == 1
+        if is_taken and abs(line.at - player.seen) > HOUR:
+            ask(SEEN, line.at, player.game, player.name)
+        return is_taken
 
-        def does(ask):
-            is_taken = ask(TAKE.format(lock=self.engine.lock), *values) == 1
-            if is_taken and abs(line.at - player.seen) > HOUR:
-                ask(SEEN, line.at, player.game, player.name)
-            return is_taken
-        return self.change(player.game, player.name, does)
+    def take_now(self, lines):
+        """Takes lines (each with its player and where that stands, as for take) in a transaction of this thread, and gives for
+        each whether it is taken; None where they are to be handed to the thread that may wait. That is so where a commit was slow
+        of late, and where anything fails. Where another one has its turn right now BlockingIOError tells it."""
+        begun = time.monotonic()
+        if begun < self.quick_from:
+            return None
+        try:
+            self.quick = self.quick or self.engine.connect(0)
+            given = self.transaction(self.quick, [lambda ask, line=line: self.taken(ask, *line) for line in lines], False)
+        except BlockingIOError:
+            raise
+        except Exception:
+            self.quick = self.rolled_back(self.quick)
+            return None
+        took = time.monotonic() - begun
+        if took > QUICK:
+            self.quick_from = begun + SHARE * took
+        self.tells(len(lines), took)
+        return given
 
     def renew(self, player, before, keeps, lines=(), **others):
         """Makes a new generation of the first lines (as many as keeps says), with others behind them, and another seed or image
@@ -321,7 +346,7 @@ class Store:
         begun = time.monotonic()
         try:
             connection = connection or self.engine.connect()
-            given = self.transaction(connection, changes)
+            given = self.transaction(connection, [does for _, does, _ in changes])
         except Exception as fault:
             connection = self.rolled_back(connection)
             if connection and len(changes) > 1:
@@ -336,11 +361,13 @@ class Store:
         self.tells(len(changes), time.monotonic() - begun)
         return connection
 
-    def transaction(self, connection, changes):
-        with self.engine.turn():
-            self.ask(connection, self.engine.begins, ())
-            given = [does(lambda text, *values: self.ask(connection, text, values)) for _, does, _ in changes]
-            self.ask(connection, "commit", ())
+    def transaction(self, connection, changes, waits=True):
+        def ask(text, *values):
+            return self.ask(connection, text, values)
+        with self.engine.turn(waits):
+            ask(self.engine.begins)
+            given = [does(ask) for does in changes]
+            ask("commit")
             return given
 
     def rolled_back(self, connection):
