@@ -14,7 +14,6 @@ import re
 
 from starlette.applications import Starlette
 from starlette.exceptions import HTTPException
-from starlette.requests import ClientDisconnect
 from starlette.responses import HTMLResponse, JSONResponse, PlainTextResponse, RedirectResponse
 from starlette.routing import Route
 
@@ -29,7 +28,13 @@ NAME = re.compile("[a-z]{%d}" % common.LONGEST_NAME)
 KEY = re.compile("[A-Za-z0-9_-]{1,40}")
 NOTHING = "There is nothing here."
 HEADERS = {"Cache-Control": "no-store", "Referrer-Policy": "no-referrer", "X-Frame-Options": "DENY", "X-Content-Type-Options": "nosniff"}
+RAW_HEADERS = [(name.lower().encode("ascii"), value.encode("ascii")) for name, value in HEADERS.items()]
 ROBOTS = "User-agent: *\nDisallow: /\n"
+encoded = json.JSONEncoder(ensure_ascii=False, separators=(",", ":")).encode
+
+
+class Gone(Exception):
+    """Whoever sent a request has left."""
 
 
 class Asked:
@@ -89,72 +94,123 @@ def line_of(typed):
     return line
 
 
-async def body_of(request, most=LONGEST_BODY):
+async def body_of(receive, most=LONGEST_BODY):
     """The bytes of a request's body; one that is too long is refused before all of it is read."""
-    data = b""
-    async for part in request.stream():
-        data += part
+    data, is_whole = b"", False
+    while not is_whole:
+        message = await receive()
+        if message["type"] != "http.request":
+            raise Gone()
+        data += message.get("body", b"")
         if len(data) > most:
             raise service.Refused(413, "That is too long.")
+        is_whole = not message.get("more_body", False)
     return data
 
 
-async def fields_of(request, most=LONGEST_BODY):
-    if request.headers.get("content-type", "").partition(";")[0].strip() != "application/json":
+def header_of(scope, wanted):
+    """The first header of a name; nothing where there is none."""
+    return next((value for name, value in scope["headers"] if name == wanted), b"")
+
+
+async def fields_of(scope, receive, most):
+    if header_of(scope, b"content-type").partition(b";")[0].strip() != b"application/json":
         raise service.Refused(415, "JSON is wanted.")
     try:
-        return Asked(json.loads(await body_of(request, most)))
+        return Asked(json.loads(await body_of(receive, most)))
     except (ValueError, RecursionError):
         raise service.Refused(400, "These are no fields of this page.") from None
 
 
-def count_game(request):
+def count_game(scope):
     """Counts a game that is begun, where the host is limited; refuses one too many."""
-    wait = request.scope["visitor"].seconds_until_game() if "visitor" in request.scope else 0
+    wait = scope["visitor"].seconds_until_game() if "visitor" in scope else 0
     if wait:
         raise service.Refused(429, "Too many games are begun. Wait a while.", wait)
 
 
-# --- What the page asks --------------------------------------------------------------------------------------------
+# --- What the page asks: each gives what is to be waited for --------------------------------------------------------
 
-async def begin(host, game, request):
-    asked = await fields_of(request)
+def begin(host, game, asked, scope):
     seed = asked.seed(None)
-    count_game(request)
-    return await host.begin(game, seed)
+    count_game(scope)
+    return host.begin(game, seed)
 
 
-async def open_game(host, game, request):
-    asked = await fields_of(request)
+def open_game(host, game, asked, _):
     first = asked.fields.get("from")
-    return await host.open(game, asked.name(), None if first is None else asked.number("from"))
+    return host.open(game, asked.name(), None if first is None else asked.number("from"))
 
 
-async def line(host, game, request):
-    asked = await fields_of(request)
-    return await host.line(game, asked.name(), asked.before(asked.number("n") - 1), asked.key(), asked.line())
+def line(host, game, asked, _):
+    return host.line(game, asked.name(), asked.before(asked.number("n") - 1), asked.key(), asked.line())
 
 
-async def undo(host, game, request):
-    asked = await fields_of(request)
-    return await host.undo(game, asked.name(), asked.before(asked.number("n")), asked.number("to"))
+def undo(host, game, asked, _):
+    return host.undo(game, asked.name(), asked.before(asked.number("n")), asked.number("to"))
 
 
-async def bring(host, game, request):
-    asked = await fields_of(request, LONGEST_BROUGHT)
+def bring(host, game, asked, scope):
     name = asked.name(None)
     before = asked.before(asked.number("n")) if name else None
     if not name:
-        count_game(request)
-    return await host.bring(game, asked.seed(), asked.lines(), name, before)
+        count_game(scope)
+    return host.bring(game, asked.seed(), asked.lines(), name, before)
 
 
-async def lines(host, game, request):
-    asked = await fields_of(request)
-    return await host.lines(game, asked.name())
+def lines(host, game, asked, _):
+    return host.lines(game, asked.name())
 
 
 ASKED = {"begin": begin, "open": open_game, "line": line, "undo": undo, "bring": bring, "lines": lines}
+LONGEST = {"bring": LONGEST_BROUGHT}
+
+
+class Application:
+    """What answers requests: those of the page here, without what makes others easy, and the others by Starlette."""
+
+    def __init__(self, host, others):
+        self.host, self.others = host, others
+
+    async def __call__(self, scope, receive, send):
+        word, prefix, base = "", "", None
+        if scope["type"] == "http" and scope["method"] == "POST":
+            base, _, word = scope["path"].rpartition("/")
+            base, _, prefix = base.rpartition("/")
+        if word not in ASKED or base not in ("", scope.get("root_path")):
+            await self.others(scope, receive, send)
+            return
+        game = self.host.games.get(prefix)
+        scope["paw"] = prefix + " " + word if game else word
+        status, found, again = await answered(self.asked(word, game, scope, receive))
+        if status == 200 or b"application/json" in header_of(scope, b"accept"):
+            kind, body = b"application/json", encoded(found if status == 200 else {"why": found}).encode("utf-8")
+        else:
+            kind, body = b"text/plain; charset=utf-8", found.encode("utf-8") + b"\n"
+        headers = [*RAW_HEADERS, (b"content-type", kind), (b"content-length", b"%d" % len(body))]
+        if again:
+            headers.append((b"retry-after", b"%d" % again))
+        await send({"type": "http.response.start", "status": status, "headers": headers})
+        await send({"type": "http.response.body", "body": body})
+
+    async def asked(self, word, game, scope, receive):
+        if not game:
+            raise service.Refused(404, NOTHING)
+        fields = await fields_of(scope, receive, LONGEST.get(word, LONGEST_BODY))
+        return await ASKED[word](self.host, game, fields, scope)
+
+
+async def answered(found):
+    """The status of an answer, what it gives or why it gives nothing, and in how many seconds to ask again."""
+    try:
+        return 200, await found, None
+    except service.Refused as why:
+        return why.status, why.why, why.again
+    except Gone:
+        return 400, "Nobody waits for the answer.", None
+    except Exception as fault:
+        paws.own_fault("hosting/serve", fault)
+        return 500, "The host has a fault of its own. Nothing of your game is lost.", None
 
 
 def refusal(request, status, why, again=None):
@@ -169,28 +225,17 @@ def application(host, pages):
     """The application of a service; pages gives the first page, and that of each game."""
 
     def route(word, does):
+        async def asked(request, game, name):
+            if "game" in request.path_params and not game or name is not None and not NAME.fullmatch(name):
+                raise service.Refused(404, NOTHING)
+            return await does(request, game, name)
+
         async def answer(request):
             game = host.games.get(request.path_params.get("game", ""))
-            name = request.path_params.get("name")
             request.scope["paw"] = " ".join(part for part in (game and game.prefix, word) if part)
-            try:
-                if "game" in request.path_params and not game or name is not None and not NAME.fullmatch(name):
-                    raise service.Refused(404, NOTHING)
-                found = await does(request, game, name)
-            except service.Refused as why:
-                return refusal(request, why.status, why.why, why.again)
-            except ClientDisconnect:
-                return refusal(request, 400, "Nobody waits for the answer.")
-            except Exception as fault:
-                paws.own_fault("hosting/serve", fault)
-                return refusal(request, 500, "The host has a fault of its own. Nothing of your game is lost.")
-            return JSONResponse(found, headers=HEADERS) if isinstance(found, dict) else found
+            status, found, again = await answered(asked(request, game, request.path_params.get("name")))
+            return found if status == 200 else refusal(request, status, found, again)
         return answer
-
-    def asks(word):
-        async def does(request, game, _):
-            return await ASKED[word](host, game, request)
-        return Route("/{game}/" + word, route(word, does), methods=["POST"])
 
     def page_response(page, policy):
         return HTMLResponse(page, headers={**HEADERS, "Content-Security-Policy": policy})
@@ -209,8 +254,8 @@ def application(host, pages):
 
     async def begin_plainly(request, game, _):
         if request.method == "POST":
-            await body_of(request)
-            count_game(request)
+            await body_of(request.receive)
+            count_game(request.scope)
             found = await host.begin(game)
             return RedirectResponse("%s/plain" % found["name"], 303, HEADERS)
         return page_response(*plain.beginning(game))
@@ -218,7 +263,7 @@ def application(host, pages):
     async def play_plainly(request, game, name):
         if request.method != "POST":
             return page_response(*plain.page(game, await host.open(game, name, service.MOST_BROUGHT)))
-        typed = plain.fields(await body_of(request))
+        typed = plain.fields(await body_of(request.receive))
         asked = Asked(typed)
         if "undo" in typed:
             found = await host.undo(game, name, asked.before(asked.number("n") - 1), max(0, asked.number("n") - 2))
@@ -237,8 +282,7 @@ def application(host, pages):
         Route("/", route("first", first)), Route("/robots.txt", route("robots", robots)),
         Route("/{game}", route("page", to_page)), Route("/{game}/", route("page", page)),
         Route("/{game}/plain", route("plain", begin_plainly), methods=["GET", "POST"]),
-        *[asks(word) for word in ASKED],
         Route("/{game}/{name}", route("page", page)),
         Route("/{game}/{name}/plain", route("plain", play_plainly), methods=["GET", "POST"])])
     found.router.redirect_slashes = False  # what leads nowhere is answered so, and not by a host that the request names
-    return found
+    return Application(host, found)
