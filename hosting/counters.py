@@ -7,7 +7,6 @@ import fcntl
 import http.server
 import mmap
 import os
-import struct
 import sys
 import threading
 import time
@@ -35,9 +34,7 @@ EVENTS = {
 LEVELS = {"connections": "open connections", "at work": "requests at work"}
 COLUMNS = ["process", "requests", "microseconds", "bytes", *EVENTS, *LEVELS, *("requests " + status for status in STATUSES),
            *("limit " + reason for reason in REASONS), *("within %g" % bound for bound in BOUNDS)]
-NUMBER = struct.Struct("q")
-PLACE = {name: NUMBER.size * place for place, name in enumerate(COLUMNS)}
-LENGTH = NUMBER.size * len(COLUMNS)
+PLACE = {name: place for place, name in enumerate(COLUMNS)}
 SPARE = 8   # rows for processes that take the place of others
 
 
@@ -46,22 +43,21 @@ class Shared:
 
     def __init__(self, processes=1):
         self.file = os.memfd_create("counters")
-        os.truncate(self.file, LENGTH * (processes + SPARE))
-        self.memory = mmap.mmap(self.file, LENGTH * (processes + SPARE))
+        os.truncate(self.file, 8 * len(COLUMNS) * (processes + SPARE))
+        self.numbers = memoryview(mmap.mmap(self.file, 0)).cast("q")
 
     def sums(self):
         """What all processes counted, by name."""
-        numbers = struct.unpack("%dq" % (len(self.memory) // NUMBER.size), self.memory[:])
-        return {name: sum(numbers[place::len(COLUMNS)]) for place, name in enumerate(COLUMNS)}
+        return {name: sum(self.numbers[place::len(COLUMNS)]) for name, place in PLACE.items()}
 
     def claim(self):
         """Where the row of this process begins: one that nobody has, or whose process has ended."""
         fcntl.lockf(self.file, fcntl.LOCK_EX)
         try:
-            for first in range(0, len(self.memory), LENGTH):
-                process = NUMBER.unpack_from(self.memory, first)[0]
+            for first in range(0, len(self.numbers), len(COLUMNS)):
+                process = self.numbers[first]
                 if process in (0, os.getpid()) or not is_there(process):
-                    NUMBER.pack_into(self.memory, first, os.getpid())
+                    self.numbers[first] = os.getpid()
                     return first
             return 0
         finally:
@@ -80,15 +76,14 @@ class Counters:
 
     def __init__(self, shared=None):
         self.shared = shared or Shared()
-        self.memory, self.first = self.shared.memory, self.shared.claim()
+        self.row = self.shared.numbers[self.shared.claim():][:len(COLUMNS)]
         for name in LEVELS:
-            NUMBER.pack_into(self.memory, self.first + PLACE[name], 0)
+            self.row[PLACE[name]] = 0
 
     def add(self, name, more=1):
         """Counts something; what has no column isn't counted."""
         if name in PLACE:
-            place = self.first + PLACE[name]
-            NUMBER.pack_into(self.memory, place, NUMBER.unpack_from(self.memory, place)[0] + more)
+            self.row[PLACE[name]] += more
 
     def request(self, status, seconds, given):
         """Counts a request that was answered, with the bytes that were given."""

@@ -79,8 +79,8 @@ class Proxies:
 
     def has(self, address):
         """Whether an address is that of such a server."""
-        if not address:
-            return True
+        if not address or not self.networks:
+            return not address
         try:
             found = ipaddress.ip_address(address.partition("%")[0])
         except ValueError:
