@@ -1,6 +1,6 @@
 -- The digits of a number, one after another.
-use Rattle.std.proofs.Common.{◌≡◌, ℕ, suc, ◌<◌, ◌≤◌, ◌+◌, ◌-◌, ◌*◌, min, length, drop, get_or, if◌then◌else◌, Some, None}
-use Rattle.std.proofs.Common.{refl, add-one, drop-cons, arith}
+use Rattle.std.proofs.Common.{◌≡◌, ℕ, ◌<◌, ◌≤◌, ◌+◌, ◌-◌, ◌*◌, min, length, drop, get_or, if◌then◌else◌, Some, None}
+use Rattle.std.proofs.Common.{refl, add-one, drop-cons}
 use Rattle.std.specs.Char.{is_ascii_digit}
 use Rattle.std.proofs.lemmas.List.{drop_all}
 use Rattle.paw_base.specs.Bytes.{Bytes}

@@ -1,45 +1,65 @@
 -- Lines that come out, one after another.
-use Rattle.std.proofs.Common.{◌≡◌, ℕ, zero, suc, ◌<◌, ◌≤◌, ◌+◌, ◌-◌, ◌++◌, ◌==◌, ◌||◌, Bool, false, List, [], ◌∷◌, length, drop, get_or}
-use Rattle.std.proofs.Common.{refl, sym, ap, ◌∙◌, add-one, drop-cons, append_assoc, append-nil, arith}
+use Rattle.std.proofs.Common.{◌≡◌, ℕ, suc, ◌<◌, ◌≤◌, ◌+◌, ◌-◌, ◌++◌, Bool, true, false, List, [], ◌∷◌, length, drop, get_or}
+use Rattle.std.proofs.Common.{if◌then◌else◌, cond, filter, refl, sym, ap, ◌∙◌, add-one, drop-cons, append_assoc, append-nil, arith}
+use Rattle.std.specs.List.{flat_map}
 use Rattle.std.proofs.lemmas.List.{drop_all}
-use Rattle.paw_author.specs.declared.sections.SectionLine.{SectionLine}
-use Rattle.paw_author.specs.Fragments.{WithOrigin, WrittenLines}
-use Rattle.paw_author.specs.Order.{lines_added, of_section, sections, all_lines}
+use Rattle.paw_author.specs.Fragments.{LinesInParts}
+use Rattle.paw_author.specs.Hooks.{is_entry_for, lines_for, unit_lines}
+use Rattle.paw_author.specs.Order.{is_own, own_lines, section_lines, sections}
+use Rattle.paw_author.specs.Units.{UnitLines}
 
 -- What comes out now, and the rest after it.
-pub go_on : (before added rest all now : WrittenLines) → now ≡ before ++ added → before ++ (added ++ rest) ≡ all → now ++ rest ≡ all
+pub go_on : (before added rest all now : LinesInParts) → now ≡ before ++ added → before ++ (added ++ rest) ≡ all → now ++ rest ≡ all
 go_on before added rest all now e f = rw e (append_assoc before added rest ∙ f)
 
 -- Nothing is left.
-pub at_last : (before rest all : WrittenLines) → rest ≡ [] → before ++ rest ≡ all → before ≡ all
-at_last before rest all e f = sym (append-nil before) ∙ ap (λ more. before ++ more) (sym e) ∙ f
+pub at_last : (before rest all : LinesInParts) → rest ≡ [] → before ++ rest ≡ all → before ≡ all
+at_last before rest all e f = sym (append-nil before) ∙ ap (λ (more : LinesInParts). before ++ more) (sym e) ∙ f
 
--- A line of a list and those after it.
-pub from_row : (rows : List SectionLine) (i : ℕ) (row : SectionLine) → row ≡ get_or rows i row → i < length rows
-    → drop i rows ≡ row ∷ drop (i + 1) rows
-from_row rows i row e h = rw (add-one) (drop-cons rows i row h ∙ ap (λ (x : SectionLine). x ∷ drop (suc i) rows) (sym e))
+-- A unit of a list and those after it.
+pub from_unit : (units : List UnitLines) (i : ℕ) (u : UnitLines) → u ≡ get_or units i u → i < length units
+    → drop i units ≡ u ∷ drop (i + 1) units
+from_unit units i u e h = rw (add-one) (drop-cons units i u h ∙ ap (λ (x : UnitLines). x ∷ drop (suc i) units) (sym e))
 
-pub one_row : (section : ℕ) (begun : Bool) (rows : List SectionLine) (i : ℕ) (row : SectionLine) → row ≡ get_or rows i row
-    → i < length rows → of_section section begun (drop i rows)
-    ≡ lines_added section begun row ++ of_section section (begun || (row.section == section)) (drop (i + 1) rows)
-unfolding of_section
-one_row section begun rows i row e h = rw (from_row rows i row e h) refl
+-- What a test lets through of one unit, and of those after it.
+pub one_chosen : (p : UnitLines → Bool) (f : UnitLines → LinesInParts) (u : UnitLines) (us : List UnitLines)
+    → flat_map f (filter p (u ∷ us)) ≡ (if p u then f u else []) ++ flat_map f (filter p us)
+one_chosen p f u us =
+    elim (p u) as (λ v. flat_map f (cond v (u ∷ filter p us) (filter p us)) ≡ (cond v (f u) []) ++ flat_map f (filter p us)) [
+      | true ↦ refl
+      | false ↦ refl
+    ]
 
-pub no_row : (section : ℕ) (begun : Bool) (rows : List SectionLine) (i : ℕ) → length rows ≤ i → of_section section begun (drop i rows) ≡ []
-unfolding of_section
-no_row section begun rows i h = rw (drop_all i rows h) refl
+pub one_for : (name : List ℕ) (units : List UnitLines) (i : ℕ) (u : UnitLines) → u ≡ get_or units i u → i < length units
+    → lines_for name (drop i units)
+    ≡ (if is_entry_for name u then u.lines else []) ++ lines_for name (drop (i + 1) units)
+one_for name units i u e h =
+    ap (λ (us : List UnitLines). lines_for name us) (from_unit units i u e h)
+    ∙ one_chosen (λ x. is_entry_for name x) (λ x. x.lines) u (drop (i + 1) units)
 
-pub one_section : (most section : ℕ) (rows : List SectionLine) → section < most
-    → sections (most - section) section rows ≡ of_section section false rows ++ sections (most - (section + 1)) (section + 1) rows
+pub none_for : (name : List ℕ) (units : List UnitLines) (i : ℕ) → length units ≤ i → lines_for name (drop i units) ≡ []
+none_for name units i h = rw (drop_all i units h) refl
+
+pub one_own : (all : List UnitLines) (section file : ℕ) (units : List UnitLines) (i : ℕ) (u : UnitLines)
+    → u ≡ get_or units i u → i < length units
+    → own_lines all section file (drop i units)
+    ≡ (if is_own all section file u then unit_lines all u else []) ++ own_lines all section file (drop (i + 1) units)
+one_own all section file units i u e h =
+    ap (λ (us : List UnitLines). own_lines all section file us) (from_unit units i u e h)
+    ∙ one_chosen (λ x. is_own all section file x) (λ x. unit_lines all x) u (drop (i + 1) units)
+
+pub none_own : (all : List UnitLines) (section file : ℕ) (units : List UnitLines) (i : ℕ) → length units ≤ i
+    → own_lines all section file (drop i units) ≡ []
+none_own all section file units i h = rw (drop_all i units h) refl
+
+pub one_section : (most section files : ℕ) (all : List UnitLines) → section < most
+    → sections (most - section) section files all
+    ≡ section_lines files all section ++ sections (most - (section + 1)) (section + 1) files all
 unfolding sections
-one_section most section rows h =
+one_section most section files all h =
     let more : most - section ≡ suc (most - suc section) = omega arith in
     rw (add-one, more) refl
 
-pub no_section : (n section : ℕ) (rows : List SectionLine) → n ≡ 0 → sections n section rows ≡ []
+pub no_section : (n section files : ℕ) (all : List UnitLines) → n ≡ 0 → sections n section files all ≡ []
 unfolding sections
-no_section n section rows e = rw e refl
-
-pub one_line : (rows : List SectionLine) (i : ℕ) (row : SectionLine) → row ≡ get_or rows i row
-    → i < length rows → all_lines (drop i rows) ≡ row.line ∷ all_lines (drop (i + 1) rows)
-one_line rows i row e h = rw (from_row rows i row e h) refl
+no_section n section files all e = rw e refl

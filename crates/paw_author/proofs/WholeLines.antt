@@ -3,8 +3,9 @@ use Rattle.std.proofs.Common.{◌≡◌, ℕ, suc, ◌<◌, ◌≤◌, ◌+◌, 
 use Rattle.std.proofs.Common.{refl, sym, ap, ◌∙◌, add-one, one-add, append_assoc, append-nil, arith}
 use Rattle.std.specs.List.{position_or_len, onto_first}
 use Rattle.std.proofs.lemmas.List.{take_all, drop_all}
-use Rattle.paw_base.specs.Bytes.{Bytes, Lines}
-use Rattle.paw_author.specs.Fragments.{WithOrigin, WrittenLines, written_line}
+use Rattle.paw_base.specs.Bytes.{Bytes}
+use Rattle.paw_author.specs.Fragments.{Fragments, LinesInParts}
+use Rattle.paw_author.specs.Parts.{line_parts}
 use Rattle.paw_author.specs.FileLines.{whole_lines, with_numbers}
 
 abbrev before_lf : Bytes → ℕ
@@ -47,16 +48,16 @@ unfolding whole_lines
 first_unended s n e h l = rw (take_all n s l, drop_all n s l) (unended s h (omega arith))
 
 -- One line more is read.
-pub one_more : (before : WrittenLines) (x : WithOrigin) (file n k : ℕ) (s : Bytes)
-    → whole_lines s ≡ take k s ∷ whole_lines (drop k s) → x ≡ written_line file (n + 1) (take k s)
+pub one_more : (before : LinesInParts) (x : Fragments) (file n k : ℕ) (s : Bytes)
+    → whole_lines s ≡ take k s ∷ whole_lines (drop k s) → x ≡ line_parts file (n + 1) (take k s)
     → (before ++ x ∷ []) ++ with_numbers file (n + 1) (whole_lines (drop k s)) ≡ before ++ with_numbers file n (whole_lines s)
 unfolding with_numbers
 one_more before x file n k s e f =
     append_assoc before (x ∷ []) (with_numbers file (n + 1) (whole_lines (drop k s)))
-    ∙ ap (λ more. before ++ more) (rw (e, f, add-one) refl)
+    ∙ ap (λ (more : LinesInParts). before ++ more) (rw (e, f, add-one) refl)
 
 -- No line is left.
-pub none_left : (before : WrittenLines) (file n : ℕ) (s : Bytes) (all : WrittenLines) → length s ≡ 0
+pub none_left : (before : LinesInParts) (file n : ℕ) (s : Bytes) (all : LinesInParts) → length s ≡ 0
     → before ++ with_numbers file n (whole_lines s) ≡ all → before ≡ all
 unfolding whole_lines with_numbers
 none_left before file n [] all e f = sym (append-nil before) ∙ f

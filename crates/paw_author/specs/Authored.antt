@@ -1,26 +1,38 @@
 -- The plain source of the files that an author writes.
-use Rattle.std.specs.Prelude.{◌≡◌, [], ◌∷◌, map, length, Result, Ok, Err}
+use Rattle.std.specs.Prelude.{◌≡◌, ◌&&◌, Bool, [], ◌∷◌, length, nat_le, if◌then◌else◌, Result, Ok, Err}
 use Rattle.paw_base.specs.Bytes.{Names}
+use Rattle.paw_base.specs.declared.limits.TheConstants.{SOURCE_LIMIT}
 use Rattle.paw_read_error.specs.Bind.{◌>>=◌}
 use Rattle.paw_read_error.specs.declared.read_error.ReadError.{ReadError}
 use Rattle.paw_read_error.specs.declared.read_error.ReadError.TheVariants.{Memory, Fault}
 use Rattle.paw_author.specs.declared.mistake.Mistake.{Mistake}
-use Rattle.paw_author.specs.Files.{NamedFiles}
-use Rattle.paw_author.specs.Fragments.{WithOrigin, Fragments, PlainLines}
-use Rattle.paw_author.specs.Joining.{files_joined}
+use Rattle.paw_author.specs.FileLines.{file_lines}
+use Rattle.paw_author.specs.Files.{NamedFile, NamedFiles}
+use Rattle.paw_author.specs.Fragments.{LinesInParts}
+use Rattle.paw_author.specs.Hooks.{hooks_known}
+use Rattle.paw_author.specs.Includes.{row_of}
+use Rattle.paw_author.specs.Joining.{files_chosen, row_joined}
 use Rattle.paw_author.specs.Order.{in_order}
+use Rattle.paw_author.specs.PlainSources.{is_plain_source}
 
--- A line as it is written.
-abbrev pub in_one_part : WithOrigin → Fragments
-in_one_part line = line ∷ []
+-- Whether a file is a plain source that isn't too long.
+abbrev pub is_plain_file : NamedFile → Bool
+is_plain_file file = nat_le (length file.bytes) SOURCE_LIMIT && is_plain_source (file_lines 0 file.bytes)
 
--- The lines of the plain source, or the first mistake.
-abbrev pub plain_lines : Names → NamedFiles → Result PlainLines Mistake
-plain_lines switches files =
-    files_joined switches 0 [] files >>= λ rows. Ok (map in_one_part (in_order (length files) rows))
+-- The lines of these files by sections, or the first mistake.
+abbrev pub joined_lines : Names → NamedFiles → Result LinesInParts Mistake
+joined_lines switches files =
+    files_chosen switches 0 [] files >>= λ chosen. row_of chosen >>= λ row. row_joined chosen 0 [] row
+    >>= λ units. hooks_known units [] units >>= λ _. Ok (in_order (length row) units)
+
+-- The lines of the plain source, or the first mistake. A first file that is a plain source comes out as it is.
+abbrev pub plain_lines : Names → NamedFiles → Result LinesInParts Mistake
+plain_lines switches [] = Ok []
+plain_lines switches (file ∷ files) =
+    if is_plain_file file then Ok (file_lines 0 file.bytes) else joined_lines switches (file ∷ files)
 
 -- What is answered is the plain source or the first mistake. Lack of memory says nothing.
-abbrev pub IsAnswered : Result PlainLines (ReadError Mistake) → Result PlainLines Mistake → Type 0
+abbrev pub IsAnswered : Result LinesInParts (ReadError Mistake) → Result LinesInParts Mistake → Type 0
 IsAnswered (Ok lines) plain = plain ≡ Ok lines
 IsAnswered (Err Memory) plain = Unit {0}
 IsAnswered (Err (Fault mistake)) plain = plain ≡ Err mistake

@@ -1,7 +1,7 @@
 -- The parts of a file that stand between `/IF` and `/ENDIF`.
 use Rattle.std.specs.Prelude.{ℕ, ◌==◌, Bool, true, false, not, List, [], ◌∷◌, ◌++◌, if◌then◌else◌, Result, Ok, Err, codes}
 use Rattle.std.specs.List.{list_all, list_any}
-use Rattle.paw_base.specs.Bytes.{Bytes, Name, Names}
+use Rattle.paw_base.specs.Bytes.{Name, Names}
 use Rattle.paw_base.specs.declared.fault.SourceKind.TheVariants.{Section, Missing}
 use Rattle.paw_read_error.specs.Bind.{◌>>=◌}
 use Rattle.paw_author.specs.declared.fragment.Origin.{Origin}
@@ -10,21 +10,21 @@ use Rattle.paw_author.specs.declared.choices.IfLine.{IfLine}
 use Rattle.paw_author.specs.declared.choices.IfLine.TheVariants.{If, Else, EndIf, Wrong, Other}
 use Rattle.paw_author.specs.declared.choices.OpenIf.{OpenIf}
 use Rattle.paw_author.specs.Mistakes.{wrong_line}
-use Rattle.paw_author.specs.Fragments.{WithOrigin, WrittenLines}
-use Rattle.paw_author.specs.Words.{leading_word, operand, operand_count, is_same}
+use Rattle.paw_author.specs.Fragments.{Fragments, LinesInParts}
+use Rattle.paw_author.specs.Tokens.{leading_word, line_origin, token_at, token_count, is_same}
 
 -- ---- what a line says ----
 
--- The kind of a line that has to have this number of words after the first one.
-abbrev pub with_operands : ℕ → IfLine → Bytes → IfLine
-with_operands count kind line = if operand_count line == count then kind else Wrong
+-- The kind of a line that has to have this number of tokens.
+abbrev pub with_tokens : ℕ → IfLine → Fragments → IfLine
+with_tokens count kind line = if token_count line == count then kind else Wrong
 
--- What a line says: `/IF` has one word after it, `/ELSE` and `/ENDIF` have none.
-abbrev pub if_line : Bytes → IfLine
+-- What a line says: `/IF` has one token after it, `/ELSE` and `/ENDIF` have none.
+abbrev pub if_line : Fragments → IfLine
 if_line line =
-    if is_same (leading_word line) (codes "/IF") then with_operands 1 If line
-    else if is_same (leading_word line) (codes "/ELSE") then with_operands 0 Else line
-    else if is_same (leading_word line) (codes "/ENDIF") then with_operands 0 EndIf line
+    if is_same (leading_word line) (codes "/IF") then with_tokens 2 If line
+    else if is_same (leading_word line) (codes "/ELSE") then with_tokens 1 Else line
+    else if is_same (leading_word line) (codes "/ENDIF") then with_tokens 1 EndIf line
     else Other
 
 -- Whether one of the switches has this name, in any case of letters.
@@ -50,11 +50,11 @@ after_endif origin [] = Err (wrong_line origin Section)
 after_endif origin (part ∷ parts) = Ok parts
 
 -- What is open after a line of this kind.
-abbrev pub after_change : Names → IfLine → WithOrigin → List OpenIf → Result (List OpenIf) Mistake
-after_change switches If line parts = after_if (is_on switches (operand line.bytes)) line.origin parts
-after_change switches Else line parts = after_else line.origin parts
-after_change switches EndIf line parts = after_endif line.origin parts
-after_change switches Wrong line parts = Err (wrong_line line.origin Section)
+abbrev pub after_change : Names → IfLine → Fragments → List OpenIf → Result (List OpenIf) Mistake
+after_change switches If line parts = after_if (is_on switches (token_at 1 line)) (line_origin line) parts
+after_change switches Else line parts = after_else (line_origin line) parts
+after_change switches EndIf line parts = after_endif (line_origin line) parts
+after_change switches Wrong line parts = Err (wrong_line (line_origin line) Section)
 after_change switches Other line parts = Ok parts
 
 -- ---- all lines of a file ----
@@ -62,7 +62,7 @@ after_change switches Other line parts = Ok parts
 -- The parts that are open, the innermost first, and the lines that were taken.
 pub record Chosen : Type 0 where
   pub parts : List OpenIf
-  pub lines : WrittenLines
+  pub lines : LinesInParts
 
 -- Whether all halves that are read are taken.
 abbrev pub all_taken : List OpenIf → Bool
@@ -70,17 +70,17 @@ all_taken parts = list_all (λ part. part.taken) parts
 
 -- A line that says nothing of parts is taken where all halves that it stands in are; any other changes what is open,
 -- and is left out.
-abbrev pub line_chosen : Names → IfLine → Chosen → WithOrigin → Result Chosen Mistake
+abbrev pub line_chosen : Names → IfLine → Chosen → Fragments → Result Chosen Mistake
 line_chosen switches Other s line =
     Ok (record s { lines = if all_taken s.parts then s.lines ++ line ∷ [] else s.lines })
 line_chosen switches kind s line = after_change switches kind line s.parts >>= λ parts. Ok (record s { parts = parts })
 
 -- What was chosen after one line more.
-abbrev pub chosen_with : Names → Chosen → WithOrigin → Result Chosen Mistake
-chosen_with switches s line = line_chosen switches (if_line line.bytes) s line
+abbrev pub chosen_with : Names → Chosen → Fragments → Result Chosen Mistake
+chosen_with switches s line = line_chosen switches (if_line line) s line
 
 -- What was chosen after all these lines.
-unfoldable pub chosen_from : Names → Chosen → WrittenLines → Result Chosen Mistake
+unfoldable pub chosen_from : Names → Chosen → LinesInParts → Result Chosen Mistake
 chosen_from switches s [] = Ok s
 chosen_from switches s (line ∷ lines) = chosen_with switches s line >>= λ next. chosen_from switches next lines
 
@@ -94,6 +94,6 @@ at_end [] = Ok tt
 at_end (part ∷ parts) = Err (wrong_line part.origin Missing)
 
 -- The lines of a file without those that aren't taken.
-abbrev pub chosen_lines : Names → WrittenLines → Result WrittenLines Mistake
+abbrev pub chosen_lines : Names → LinesInParts → Result LinesInParts Mistake
 chosen_lines switches lines =
     chosen_from switches no_line_yet lines >>= λ s. at_end s.parts >>= λ _. Ok s.lines

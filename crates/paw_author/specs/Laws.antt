@@ -1,33 +1,28 @@
 -- What holds of plain sources.
-use Rattle.std.specs.Prelude.{◌≡◌, ◌≤◌, ◌==◌, ◌&&◌, ℕ, Bool, true, false, not, [], ◌∷◌, map, length, Ok}
-use Rattle.std.specs.List.{before_first, list_all, flat_map}
+use Rattle.std.specs.Prelude.{◌≡◌, ◌≤◌, ◌==◌, ℕ, true, ◌∷◌, length, Ok}
+use Rattle.std.specs.List.{before_first, flat_map}
 use Rattle.paw_base.specs.Bytes.{Bytes, Names}
 use Rattle.paw_base.specs.declared.limits.TheConstants.{SOURCE_LIMIT}
-use Rattle.paw_author.specs.declared.choices.IfLine.{IfLine}
-use Rattle.paw_author.specs.declared.choices.IfLine.TheVariants.{Other}
-use Rattle.paw_author.specs.Authored.{in_one_part, plain_lines}
-use Rattle.paw_author.specs.Choices.{if_line}
+use Rattle.paw_author.specs.Authored.{plain_lines}
 use Rattle.paw_author.specs.FileLines.{file_lines}
-use Rattle.paw_author.specs.Files.{NamedFile}
-use Rattle.paw_author.specs.Fragments.{WithOrigin}
-use Rattle.paw_author.specs.Joining.{is_include}
+use Rattle.paw_author.specs.Files.{NamedFile, NamedFiles}
+use Rattle.paw_author.specs.Fragments.{Fragments, LinesInParts}
+use Rattle.paw_author.specs.PlainSources.{is_plain_source}
 
--- Whether a line says nothing of parts.
-abbrev pub is_other : IfLine → Bool
-is_other Other = true
-is_other _ = false
+-- The bytes of a line, and of lines.
+abbrev pub line_bytes : Fragments → Bytes
+line_bytes line = flat_map (λ part. part.bytes) line
 
--- Whether a line is one of a plain source: it says nothing of parts, and includes no file.
-abbrev pub is_plain_line : WithOrigin → Bool
-is_plain_line line = is_other (if_line line.bytes) && not (is_include line.bytes)
+abbrev pub all_bytes : LinesInParts → Bytes
+all_bytes lines = flat_map (λ line. line_bytes line) lines
 
--- A source whose lines are all plain comes out as it is.
+-- A plain source comes out as it is, whatever switches are on and whatever other files there are.
 abbrev pub PlainStays : Type 0
-PlainStays = (switches : Names) (file : NamedFile) → length file.bytes ≤ SOURCE_LIMIT
-    → list_all is_plain_line (file_lines 0 file.bytes) ≡ true
-    → plain_lines switches (file ∷ []) ≡ Ok (map in_one_part (file_lines 0 file.bytes))
+PlainStays = (switches : Names) (file : NamedFile) (files : NamedFiles) → length file.bytes ≤ SOURCE_LIMIT
+    → is_plain_source (file_lines 0 file.bytes) ≡ true
+    → plain_lines switches (file ∷ files) ≡ Ok (file_lines 0 file.bytes)
 
 -- The lines of a file are its bytes, up to its end.
 abbrev pub LinesAreTheFile : Type 0
 LinesAreTheFile = (number : ℕ) (bytes : Bytes)
-    → flat_map (λ line. line.bytes) (file_lines number bytes) ≡ before_first (λ b. b == 0x1A) bytes
+    → all_bytes (file_lines number bytes) ≡ before_first (λ b. b == 0x1A) bytes

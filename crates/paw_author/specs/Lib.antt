@@ -1,11 +1,16 @@
 pub mod Files
 pub mod Mistakes
 pub mod Fragments
+pub mod Parts
 pub mod FileLines
-pub mod Words
+pub mod Tokens
 pub mod Choices
 pub mod Sections
+pub mod Includes
+pub mod Units
 pub mod Joining
+pub mod Hooks
 pub mod Order
+pub mod PlainSources
 pub mod Authored
 pub mod Laws

@@ -1,21 +1,25 @@
--- Which section a line belongs to.
-use Rattle.std.specs.Prelude.{ℕ, ◌+◌, ◌-◌, ◌*◌, ◌==◌, Bool, false, not, [], ◌∷◌, min, length, nat_lt, if◌then◌else◌}
+-- Which section a line begins.
+use Rattle.std.specs.Prelude.{ℕ, ◌+◌, ◌-◌, ◌*◌, ◌==◌, ◌&&◌, ◌||◌, Bool, not, [], ◌∷◌, min, length, nat_lt, nat_le, is_some, if◌then◌else◌}
 use Rattle.std.specs.Prelude.{Option, Some, None, codes}
 use Rattle.std.specs.List.{position}
+use Rattle.std.specs.Option.{option_map}
 use Rattle.std.specs.Char.{is_ascii_digit}
-use Rattle.paw_base.specs.Bytes.{Bytes, Name, Names, Token}
-use Rattle.paw_author.specs.declared.sections.SectionLine.{SectionLine}
-use Rattle.paw_author.specs.declared.sections.TheConstants.{TABLES, NAMED_TABLES, TABLE_NUMBERS}
-use Rattle.paw_author.specs.Fragments.{WithOrigin}
-use Rattle.paw_author.specs.Words.{leading_word, operand, is_same}
+use Rattle.paw_base.specs.Bytes.{Bytes, Names, Token}
+use Rattle.paw_author.specs.declared.sections.TheConstants.{KINDS, THINGS, LETTERS, WORDS, EXITS, TABLES, NAMED_TABLES, TABLE_NUMBERS}
+use Rattle.paw_author.specs.Fragments.{Fragments}
+use Rattle.paw_author.specs.Tokens.{leading_word, token_at, is_same}
 
--- ---- headers ----
+-- ---- tables ----
 
 -- The number that n and the decimal digits after it are, if there are no other bytes; 256 stands for any from there on.
 unfoldable pub number_after : ℕ → Bytes → Option ℕ
 number_after n [] = Some n
 number_after n (b ∷ bs) =
     if is_ascii_digit b then number_after (min (10 * n + (b - 48)) TABLE_NUMBERS) bs else None
+
+-- Whether a token is a number in decimal digits.
+abbrev pub is_number : Token → Bool
+is_number token = not (length token == 0) && is_some (number_after 0 token)
 
 -- The section of the table with this number.
 abbrev pub numbered_table : Option ℕ → ℕ
@@ -26,43 +30,42 @@ numbered_table (Some n) = if nat_lt n TABLE_NUMBERS then TABLES + n else NAMED_T
 abbrev pub table_section : Token → ℕ
 table_section word = if length word == 0 then NAMED_TABLES else numbered_table (number_after 0 word)
 
--- The headers of sections but tables, in the order in which the sections stand.
+-- ---- headers ----
+
+-- The headers of sections but tables, in the order in which the sections come out.
 abbrev pub headers : Names
 headers =
-    codes "/NAMES" ∷ codes "/VOC" ∷ codes "/STX" ∷ codes "/MTX" ∷ codes "/OTX" ∷ codes "/LTX" ∷ codes "/CON"
-    ∷ codes "/OBJ" ∷ []
+    codes "/NAMES" ∷ codes "/KINDS" ∷ codes "/THINGS" ∷ codes "/LNG" ∷ codes "/VOC" ∷ codes "/STX" ∷ codes "/MTX"
+    ∷ codes "/OTX" ∷ codes "/LTX" ∷ codes "/CON" ∷ codes "/OBJ" ∷ []
 
 -- The index of the name that a word is, in any case of letters.
 abbrev pub index_of_name : Names → Token → Option ℕ
 index_of_name names word = position (λ name. is_same word name) names
 
--- The section of the header with this index. Section 0 is what stands above the first header of a file.
-abbrev pub plain_section : Option ℕ → Option ℕ
-plain_section None = None
-plain_section (Some i) = Some (i + 1)
+-- Whether a line is the header of a table.
+abbrev pub is_table_header : Fragments → Bool
+is_table_header line = is_same (leading_word line) (codes "/PRO")
 
--- The section that a line begins, where it is a header.
-abbrev pub header_section : Bytes → Option ℕ
+-- The section that a line begins, where it is a header. What stands above the first header of a file is section 0.
+abbrev pub header_section : Fragments → Option ℕ
 header_section line =
-    if is_same (leading_word line) (codes "/PRO") then Some (table_section (operand line))
-    else plain_section (index_of_name headers (leading_word line))
+    if is_table_header line then Some (table_section (token_at 1 line))
+    else option_map (λ i. i + 1) (index_of_name headers (leading_word line))
 
--- ---- lines ----
+-- ---- what a section holds ----
 
--- The section of a line, by that of the line above and by the section that it begins itself.
-abbrev pub section_after : ℕ → Option ℕ → ℕ
-section_after section None = section
-section_after section (Some begun) = begun
+-- Whether a section holds texts below items.
+abbrev pub has_texts : ℕ → Bool
+has_texts section = nat_le LETTERS section && nat_lt section EXITS && not (section == WORDS)
 
--- Whether a header is left out where its section has begun: that of a table with no number isn't.
-abbrev pub may_repeat : Option ℕ → Bool
-may_repeat None = false
-may_repeat (Some section) = not (section == NAMED_TABLES)
+-- Whether a section holds items.
+abbrev pub has_items : ℕ → Bool
+has_items section = has_texts section || section == EXITS || section == KINDS || section == THINGS
 
--- A line in its section, by the section of the line above.
-abbrev pub in_section : ℕ → WithOrigin → SectionLine
-in_section section line = record {
-  section = section_after section (header_section line.bytes);
-  header = may_repeat (header_section line.bytes);
-  line = line;
-}
+-- Whether a section holds facts of kinds or things.
+abbrev pub has_facts : ℕ → Bool
+has_facts section = section == KINDS || section == THINGS
+
+-- Whether a section is a table.
+abbrev pub is_table : ℕ → Bool
+is_table section = nat_le TABLES section

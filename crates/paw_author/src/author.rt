@@ -1,71 +1,88 @@
 // The plain source of the files that an author writes.
 
-ghost use Rattle.std.specs.Prelude.{◌≡◌, ◌∷◌, [], IfOk, map};
-ghost use Rattle.paw_author.specs.Authored.{in_one_part, plain_lines, IsAnswered};
+ghost use Rattle.std.specs.Prelude.{◌≡◌, ◌<◌, true, false, length, IfOk, MatchOption};
+ghost use Rattle.paw_read_error.specs.inner.Gives.{Gives};
+ghost use Rattle.paw_author.specs.Authored.{is_plain_file, joined_lines, plain_lines, IsAnswered};
+ghost use Rattle.paw_author.specs.FileLines.{file_lines};
 
 use crate::file::{File, Switch};
-use crate::fragment::Fragment;
-use crate::joining::join_files;
+use crate::fragment::Line;
+use crate::hooks::hooks_known;
+use crate::includes::row_of;
+use crate::joining::{files_chosen, row_joined};
+use crate::lines::file_lines;
 use crate::mistake::AuthorError;
 use crate::order::in_order;
+use crate::plain_sources::is_plain_source;
+use paw_base::limits::SOURCE_LIMIT;
 use std::alloc::{AllocError, Global};
-use std::collections::VecDeque;
 use std::marker::Model;
-
-/// A line of a plain source with its line end, in parts that each have an origin.
-#[derive(Drop)]
-pub struct PlainLine {
-    pub fragments: Vec<Fragment>,
-}
-
-impl Model for PlainLine {
-    ghost use Rattle.paw_author.specs.Fragments.{Fragments};
-
-    ghost Value = { Fragments };
-
-    ghost view = { λ l. l.fragments.items };
-}
 
 /// A plain source, line by line.
 #[derive(Drop)]
 pub struct PlainSource {
-    pub lines: Vec<PlainLine>,
+    pub lines: Vec<Line>,
 }
 
 impl Model for PlainSource {
-    ghost use Rattle.paw_author.specs.Fragments.{PlainLines};
+    ghost use Rattle.paw_author.specs.Fragments.{LinesInParts};
 
-    ghost Value = { PlainLines };
+    ghost Value = { LinesInParts };
 
     ghost view = { λ s. s.lines.items };
 }
 
-// A line as it is written.
-fn in_one_part(alloc: Global, line: Fragment) -> Result<PlainLine, AllocError>
-    ensures value { IfOk result (λ plain. plain ≡ in_one_part line) }
+// The lines of a file where it is a plain source.
+fn plain_file(alloc: Global, file: &File) -> Result<Option<Vec<Line>>, AllocError>
+    ensures value { IfOk result (λ plain. MatchOption plain (is_plain_file file.now ≡ false)
+        (λ lines. (is_plain_file file.now ≡ true) × (lines.items ≡ file_lines 0 file.now.bytes))) }
 {
-    let mut fragments = Vec::new(alloc);
-    fragments.push(line)?;
-    Ok(PlainLine { fragments })
-}
-
-// A source of lines as they are written.
-fn as_written(alloc: Global, lines: VecDeque<Fragment>) -> Result<PlainSource, AllocError>
-    ensures value { IfOk result (λ plain. plain ≡ map in_one_part lines.items) }
-{
-    let mut left = lines;
-    let mut plain = Vec::new(alloc);
-    while let Some(line) = left.pop_front() {
-        plain.push(in_one_part(alloc, line)?)?;
+    let bytes = file.bytes.as_slice();
+    if bytes.len() > SOURCE_LIMIT {
+        return Ok(None);
     }
-    Ok(PlainSource { lines: plain })
+    let lines = file_lines(alloc, 0, bytes)?;
+    Ok(if is_plain_source(lines.as_slice()) {
+        Some(lines)
+    } else {
+        None
+    })
 }
 
-/// The plain source that these files are, where these switches are on. The first file is the one that
-/// includes the others; each stands above all that it includes.
+// The lines of these files by sections.
+fn joined_lines(
+    alloc: Global,
+    switches: &[Switch],
+    files: &[File],
+) -> Result<Vec<Line>, AuthorError>
+    requires some { 0 < length files.now }
+    ensures gives { Gives (λ lines. lines.items) result (joined_lines switches.now files.now) }
+{
+    let chosen = files_chosen(alloc, switches, files)?;
+    let row = row_of(alloc, chosen.as_slice())?;
+    let units = row_joined(alloc, chosen.as_slice(), row.as_slice())?;
+    hooks_known(units.as_slice())?;
+    Ok(in_order(alloc, row.len(), units.as_slice())?)
+}
+
+// The lines of the plain source of these files.
+fn lines_of(alloc: Global, switches: &[Switch], files: &[File]) -> Result<Vec<Line>, AuthorError>
+    ensures gives { Gives (λ lines. lines.items) result (plain_lines switches.now files.now) }
+{
+    match files {
+        [] => Ok(Vec::new(alloc)),
+        [file, ..] => match plain_file(alloc, file)? {
+            Some(lines) => Ok(lines),
+            None => joined_lines(alloc, switches, files),
+        },
+    }
+}
+
+/// The plain source that these files are, where these switches are on. The first file includes the others, which stand in
+/// any order.
 ///
 /// # Errors
-/// Fault exactly where the files have a mistake: the first. Memory only where there is none.
+/// Fault exactly where the files have a mistake and memory suffices: the first one. Memory where it doesn't.
 pub fn plain_lines(
     alloc: Global,
     switches: &[Switch],
@@ -73,7 +90,6 @@ pub fn plain_lines(
 ) -> Result<PlainSource, AuthorError>
     ensures answer { IsAnswered result (plain_lines switches.now files.now) }
 {
-    let joined = join_files(alloc, switches, files)?;
-    let ordered = in_order(alloc, files.len(), joined.as_slice())?;
-    Ok(as_written(alloc, ordered)?)
+    let lines = lines_of(alloc, switches, files)?;
+    Ok(PlainSource { lines })
 }

@@ -2,14 +2,14 @@
 
 ghost use Rattle.std.specs.Prelude.{◌≡◌, ◌==◌};
 ghost use Rattle.paw_read_error.specs.inner.Gives.{Gives};
-ghost use Rattle.paw_author.specs.Words.{is_same, operand};
-ghost use Rattle.paw_author.specs.Choices.{if_line, with_operands, is_on, after_if, after_else, after_endif, after_change, chosen_with};
+ghost use Rattle.paw_author.specs.Tokens.{is_same};
+ghost use Rattle.paw_author.specs.Choices.{if_line, with_tokens, is_on, after_if, after_else, after_endif, after_change, chosen_with};
 ghost use Rattle.paw_author.specs.Choices.{all_taken, chosen_lines, chosen_from, no_line_yet, at_end};
 
 use crate::file::Switch;
-use crate::fragment::{Fragment, Origin};
+use crate::fragment::{Fragment, Line, Origin};
 use crate::mistake::{AuthorError, wrong_line};
-use crate::words::{is_same, leading_word, operand, operand_count};
+use crate::tokens::{is_same, leading_word, line_origin, token_at, token_count};
 use paw_base::fault::SourceKind;
 use paw_read_error::read_error::ReadError;
 use std::alloc::Global;
@@ -34,11 +34,11 @@ pub(crate) struct OpenIf {
     pub(crate) origin: Origin,
 }
 
-// The kind of a line that has to have this number of words after the first one.
-fn with_operands(count: u8, kind: IfLine, line: &[u8]) -> IfLine
-    ensures value { result ≡ with_operands count kind line.now }
+// The kind of a line that has to have this number of tokens.
+fn with_tokens(count: usize, kind: IfLine, line: &[Fragment]) -> IfLine
+    ensures value { result ≡ with_tokens count kind line.now }
 {
-    if operand_count(line) == count {
+    if token_count(line) == count {
         kind
     } else {
         IfLine::Wrong
@@ -46,16 +46,16 @@ fn with_operands(count: u8, kind: IfLine, line: &[u8]) -> IfLine
 }
 
 // What a line says of parts.
-fn if_line(line: &[u8]) -> IfLine
+fn if_line(line: &[Fragment]) -> IfLine
     ensures value { result ≡ if_line line.now }
 {
     let word = leading_word(line);
     if is_same(word, b"/IF") {
-        with_operands(1, IfLine::If, line)
+        with_tokens(2, IfLine::If, line)
     } else if is_same(word, b"/ELSE") {
-        with_operands(0, IfLine::Else, line)
+        with_tokens(1, IfLine::Else, line)
     } else if is_same(word, b"/ENDIF") {
-        with_operands(0, IfLine::EndIf, line)
+        with_tokens(1, IfLine::EndIf, line)
     } else {
         IfLine::Other
     }
@@ -128,18 +128,14 @@ fn open_part(taken: bool, origin: Origin, parts: &mut VecDeque<OpenIf>) -> Resul
 fn change(
     switches: &[Switch],
     kind: IfLine,
-    line: &Fragment,
+    line: &[Fragment],
     parts: &mut VecDeque<OpenIf>,
 ) -> Result<(), AuthorError>
     ensures gives { Gives (λ _. parts.new.items) result (after_change switches.now kind line.now parts.old.items) }
 {
-    let origin = line.origin;
+    let origin = line_origin(line);
     match kind {
-        IfLine::If => open_part(
-            is_on(switches, operand(line.bytes.as_slice())),
-            origin,
-            parts,
-        ),
+        IfLine::If => open_part(is_on(switches, token_at(1, line)), origin, parts),
         IfLine::Else => begin_else(origin, parts),
         IfLine::EndIf => close(origin, parts),
         IfLine::Wrong => Err(ReadError::Fault(wrong_line(origin, SourceKind::Section))),
@@ -147,29 +143,22 @@ fn change(
     }
 }
 
-// What a line says of parts.
-fn kind_of(line: &Fragment) -> IfLine
-    ensures value { result ≡ if_line line.now.bytes }
-{
-    if_line(line.bytes.as_slice())
-}
-
 // Takes a line of a file after those above it.
 fn take_line(
     switches: &[Switch],
-    line: Fragment,
+    line: Line,
     parts: &mut VecDeque<OpenIf>,
-    lines: &mut VecDeque<Fragment>,
+    lines: &mut Vec<Line>,
 ) -> Result<(), AuthorError>
     ensures gives { Gives (λ _. record { parts = parts.new.items; lines = lines.new.items }) result
         (chosen_with switches.now (record { parts = parts.old.items; lines = lines.old.items }) line) }
 {
-    let kind = kind_of(&line);
+    let kind = if_line(line.parts.as_slice());
     if kind != IfLine::Other {
-        return change(switches, kind, &line, parts);
+        return change(switches, kind, line.parts.as_slice(), parts);
     }
     if all_taken(parts) {
-        lines.push_back(line)?;
+        lines.push(line)?;
     }
     Ok(())
 }
@@ -192,13 +181,13 @@ fn at_end(parts: &VecDeque<OpenIf>) -> Result<(), AuthorError>
 pub(crate) fn chosen_lines(
     alloc: Global,
     switches: &[Switch],
-    file: VecDeque<Fragment>,
-) -> Result<VecDeque<Fragment>, AuthorError>
+    file: Vec<Line>,
+) -> Result<Vec<Line>, AuthorError>
     ensures gives { Gives (λ lines. lines.items) result (chosen_lines switches.now file.items) }
 {
-    let mut left = file;
+    let mut left = VecDeque::from(file);
     let mut parts = VecDeque::new(alloc);
-    let mut lines = VecDeque::new(alloc);
+    let mut lines = Vec::new(alloc);
     while let Some(line) = left.pop_front() {
         take_line(switches, line, &mut parts, &mut lines)?;
     }

@@ -1,13 +1,13 @@
-// Bytes that come from somewhere.
+// Bytes that come from somewhere, and lines that are made of such bytes.
 
 use std::marker::Model;
 
 /// Where something is written: the file, by its number among the files, the line and the column, both counted from 1.
 #[derive(Clone, Copy, Drop, PartialEq, Eq, Debug)]
 pub struct Origin {
-    pub file: u32,
-    pub line: u32,
-    pub column: u32,
+    pub file: usize,
+    pub line: usize,
+    pub column: usize,
 }
 
 /// Some bytes, and where they are written or, where they were made, what they stand for.
@@ -23,4 +23,18 @@ impl Model for Fragment {
     ghost Value = { WithOrigin };
 
     ghost view = { λ f. record { origin = f.origin; bytes = f.bytes.items } };
+}
+
+/// A line in its parts: its tokens, and what stands before, between and after them, with the line end.
+#[derive(Drop)]
+pub struct Line {
+    pub parts: Vec<Fragment>,
+}
+
+impl Model for Line {
+    ghost use Rattle.paw_author.specs.Fragments.{Fragments};
+
+    ghost Value = { Fragments };
+
+    ghost view = { λ l. l.parts.items };
 }

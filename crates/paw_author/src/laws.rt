@@ -2,7 +2,7 @@
 
 ghost use Rattle.paw_author.specs.Laws.{PlainStays, LinesAreTheFile};
 
-/// A source whose lines are all plain comes out as it is, and the lines of a file are its bytes up to its end.
+/// A plain source comes out as it is, and the lines of a file are its bytes up to its end.
 pub fn plain_sources_stay()
     ensures plain { PlainStays }
     ensures bytes { LinesAreTheFile }

@@ -5,14 +5,19 @@ pub mod author;
 mod choices;
 pub mod file;
 pub mod fragment;
+mod hooks;
+mod includes;
 mod joining;
 pub mod laws;
 mod lines;
 pub mod mistake;
 mod order;
+mod parts;
+mod plain_sources;
 mod sections;
 #[cfg(test)]
 mod tests;
-mod words;
+mod tokens;
+mod units;
 
 pub use author::plain_lines;

@@ -1,56 +1,72 @@
 // Which section a line belongs to.
 
-ghost use Rattle.std.specs.Prelude.{◌≡◌, ◌≤◌};
+ghost use Rattle.std.specs.Prelude.{◌≡◌, ◌≤◌, ◌+◌};
 ghost use Rattle.std.specs.List.{position};
-ghost use Rattle.paw_author.specs.Words.{is_same};
-ghost use Rattle.paw_author.specs.Sections.{number_after, table_section, index_of_name, headers, plain_section, header_section};
-ghost use Rattle.paw_author.specs.Sections.{section_after, may_repeat, in_section};
+ghost use Rattle.std.specs.Option.{option_map};
+ghost use Rattle.paw_author.specs.Tokens.{is_same};
+ghost use Rattle.paw_author.specs.Sections.{number_after, is_number, table_section, index_of_name, headers};
+ghost use Rattle.paw_author.specs.Sections.{is_table_header, header_section, has_texts, has_items, has_facts, is_table};
 
 use crate::fragment::Fragment;
-use crate::words::{is_same, leading_word, operand};
+use crate::tokens::{is_same, leading_word, token_at};
 
-/// The headers of sections but tables, in the order in which the sections stand; the first is that of section 1.
-static HEADERS: [&[u8]; 8] = [
-    b"/NAMES", b"/VOC", b"/STX", b"/MTX", b"/OTX", b"/LTX", b"/CON", b"/OBJ",
+/// The headers of sections but tables, in the order in which the sections come out; the first is that of section 1.
+static HEADERS: [&[u8]; 11] = [
+    b"/NAMES", b"/KINDS", b"/THINGS", b"/LNG", b"/VOC", b"/STX", b"/MTX", b"/OTX", b"/LTX",
+    b"/CON", b"/OBJ",
 ];
 
+/// The section of kinds.
+const KINDS: usize = 2;
+
+/// The section of things.
+const THINGS: usize = 3;
+
+/// The section of letters, the first of those with texts.
+const LETTERS: usize = 4;
+
+/// The section of words, the first that each plain source has.
+pub(crate) const WORDS: usize = 5;
+
+/// The section of exits, the first behind those with texts.
+pub(crate) const EXITS: usize = 10;
+
 /// The section of table 0; that of table n is n further on.
-const TABLES: u16 = 9;
+const TABLES: usize = 12;
 
 /// The section of the tables that have no number yet, which is the last one.
-pub(crate) const NAMED_TABLES: u16 = 265;
+pub(crate) const NAMED_TABLES: usize = 268;
 
-/// How many sections there are. Section 0 is what stands above the first header of a file.
-pub(crate) const SECTIONS: u16 = 266;
+/// How many sections there are. What stands above the first header of a file is section 0.
+pub(crate) const SECTIONS: usize = 269;
 
 /// How many numbers a table may have.
-const TABLE_NUMBERS: u16 = 256;
-
-/// A line, its section, and whether it is a header that is left out where its section has begun.
-#[derive(Drop)]
-pub(crate) struct SectionLine {
-    pub(crate) section: u16,
-    pub(crate) header: bool,
-    pub(crate) line: Fragment,
-}
+const TABLE_NUMBERS: usize = 256;
 
 // The number that decimal digits are; 256 stands for any number from there on.
 #[tactic(auto, using(crate::proofs::Digits::one_digit, crate::proofs::Digits::no_digit))]
-fn number_of(word: &[u8]) -> Option<u16>
+fn number_of(word: &[u8]) -> Option<usize>
     ensures value { result ≡ number_after 0 word.now }
 {
-    let mut number: u16 = 0;
+    let mut number: usize = 0;
     for byte in word {
         if !byte.is_ascii_digit() {
             return None;
         }
-        number = (10 * number + u16::from(*byte - b'0')).min(TABLE_NUMBERS);
+        number = (10 * number + usize::from(*byte - b'0')).min(TABLE_NUMBERS);
     }
     Some(number)
 }
 
+/// Whether a token is a number in decimal digits.
+pub(crate) fn is_number(token: &[u8]) -> bool
+    ensures value { result ≡ is_number token.now }
+{
+    !token.is_empty() && number_of(token).is_some()
+}
+
 // The section of the table that a word names.
-fn table_section(word: &[u8]) -> u16
+fn table_section(word: &[u8]) -> usize
     ensures value { result ≡ table_section word.now }
 {
     if word.is_empty() {
@@ -76,57 +92,55 @@ fn index_of_name(names: &[&[u8]], word: &[u8]) -> Option<usize>
 }
 
 // The section that a header other than that of a table begins.
-fn plain_section(word: &[u8]) -> Option<u16>
-    ensures value { result ≡ plain_section (index_of_name headers word.now) }
+fn plain_section(word: &[u8]) -> Option<usize>
+    ensures value { result ≡ option_map (λ i. i + 1) (index_of_name headers word.now) }
 {
     let index = index_of_name(&HEADERS, word)?;
-    Some(index as u16 + 1)
+    Some(index + 1)
 }
 
-// The section that a line begins, where it is a header.
-fn header_section(line: &[u8]) -> Option<u16>
+/// Whether a line is the header of a table.
+pub(crate) fn is_table_header(line: &[Fragment]) -> bool
+    ensures value { result ≡ is_table_header line.now }
+{
+    is_same(leading_word(line), b"/PRO")
+}
+
+/// The section that a line begins, where it is a header.
+pub(crate) fn header_section(line: &[Fragment]) -> Option<usize>
     ensures value { result ≡ header_section line.now }
 {
-    let word = leading_word(line);
-    if is_same(word, b"/PRO") {
-        Some(table_section(operand(line)))
+    if is_table_header(line) {
+        Some(table_section(token_at(1, line)))
     } else {
-        plain_section(word)
+        plain_section(leading_word(line))
     }
 }
 
-// The section of a line that begins `header`, where the line above belongs to `section`.
-fn section_after(section: u16, header: Option<u16>) -> u16
-    ensures value { result ≡ section_after section header }
+/// Whether a section holds texts below items.
+pub(crate) fn has_texts(section: usize) -> bool
+    ensures value { result ≡ has_texts section }
 {
-    header.unwrap_or(section)
+    LETTERS <= section && section < EXITS && section != WORDS
 }
 
-// Whether a header is left out where its section has begun.
-fn may_repeat(header: Option<u16>) -> bool
-    ensures value { result ≡ may_repeat header }
+/// Whether a section holds items.
+pub(crate) fn has_items(section: usize) -> bool
+    ensures value { result ≡ has_items section }
 {
-    match header {
-        None => false,
-        Some(section) => section != NAMED_TABLES,
-    }
+    has_texts(section) || section == EXITS || section == KINDS || section == THINGS
 }
 
-/// A line in its section, where the line above belongs to `section`.
-pub(crate) fn in_section(section: u16, line: Fragment) -> SectionLine
-    ensures value { result ≡ in_section section line }
+/// Whether a section holds facts of kinds or things.
+pub(crate) fn has_facts(section: usize) -> bool
+    ensures value { result ≡ has_facts section }
 {
-    let header = header_of(&line);
-    SectionLine {
-        section: section_after(section, header),
-        header: may_repeat(header),
-        line,
-    }
+    section == KINDS || section == THINGS
 }
 
-// The section that a line begins, where it is a header.
-fn header_of(line: &Fragment) -> Option<u16>
-    ensures value { result ≡ header_section line.now.bytes }
+/// Whether a section is a table.
+pub(crate) fn is_table(section: usize) -> bool
+    ensures value { result ≡ is_table section }
 {
-    header_section(line.bytes.as_slice())
+    TABLES <= section
 }

@@ -1,8 +1,8 @@
 // Small sources in one file and in two, and what comes out of them.
 
-use crate::author::{PlainLine, PlainSource};
+use crate::author::PlainSource;
 use crate::file::{File, Switch};
-use crate::fragment::Origin;
+use crate::fragment::{Line, Origin};
 use crate::mistake::{AuthorError, Mistake, MistakeKind};
 use crate::plain_lines;
 use paw_base::fault::SourceKind;
@@ -33,15 +33,15 @@ fn source_of_two(alloc: Global, game: &[u8], lib: &[u8]) -> Result<PlainSource, 
 }
 
 // Adds the bytes of a line.
-fn add_bytes(line: &PlainLine, bytes: &mut Vec<u8>) -> Result<(), AllocError> {
-    for fragment in &line.fragments {
-        bytes.extend_from_slice(fragment.bytes.as_slice())?;
+fn add_bytes(line: &Line, bytes: &mut Vec<u8>) -> Result<(), AllocError> {
+    for part in &line.parts {
+        bytes.extend_from_slice(part.bytes.as_slice())?;
     }
     Ok(())
 }
 
 // The bytes of all lines.
-fn bytes_of(alloc: Global, lines: &[PlainLine]) -> Result<Vec<u8>, AllocError> {
+fn bytes_of(alloc: Global, lines: &[Line]) -> Result<Vec<u8>, AllocError> {
     let mut bytes = Vec::new(alloc);
     for line in lines {
         add_bytes(line, &mut bytes)?;
@@ -49,11 +49,28 @@ fn bytes_of(alloc: Global, lines: &[PlainLine]) -> Result<Vec<u8>, AllocError> {
     Ok(bytes)
 }
 
-// Where the first part of a line is written.
-fn origin_of(lines: &[PlainLine], index: usize) -> Option<Origin> {
+// Where a part of a line is written.
+fn origin_of(lines: &[Line], index: usize, part: usize) -> Option<Origin> {
     let line = lines.get(index)?;
-    let fragment = line.fragments.first()?;
-    Some(fragment.origin)
+    let part = line.parts.get(part)?;
+    Some(part.origin)
+}
+
+#[test]
+fn a_plain_source_comes_out_as_it_is(rt: HostRuntime) -> Result<(), Fail> {
+    let alloc = rt.alloc();
+    let source =
+        b"; plain\r\n/PRO 0\n_ _ DONE ; \"\n/VOC\nX 30 verb\n/LTX\n/0\n\"a + <b>\n/PRO no 1\x1A/IF";
+    let plain = source_of_two(alloc, b"/LTX\n/7\n\"a + <b>\n/VOC\nX 30 verb\n", b"")
+        .ok()
+        .ok_or("refused")?;
+    let bytes = bytes_of(alloc, plain.lines.as_slice())?;
+    assert_eq!(rt;
+        bytes.as_slice(),
+        b"/LTX\n/7\n\"a + <b>\n/VOC\nX 30 verb\n".as_slice()
+    );
+    assert_eq!(rt; mistake_of(alloc, source, b"").is_some(), true);
+    Ok(())
 }
 
 #[test]
@@ -66,14 +83,14 @@ fn one_file_comes_out_without_what_is_not_taken(rt: HostRuntime) -> Result<(), F
     let bytes = bytes_of(alloc, plain.lines.as_slice())?;
     assert_eq!(rt;
         bytes.as_slice(),
-        b"/OBJ\r\n/VOC\nXYZZY 31 verb\n B\nlast".as_slice()
+        b"/VOC\nXYZZY 31 verb\n B\nlast\n/STX\n/MTX\n/OTX\n/LTX\n/CON\n/OBJ\r\n/PRO 0\n/PRO 1\n/PRO 2\n".as_slice()
     );
     let origin = Origin {
         file: 0,
-        line: 8,
-        column: 1,
+        line: 4,
+        column: 7,
     };
-    assert_eq!(rt; origin_of(plain.lines.as_slice(), 3), Some(origin));
+    assert_eq!(rt; origin_of(plain.lines.as_slice(), 1, 2), Some(origin));
     Ok(())
 }
 
@@ -82,19 +99,61 @@ fn sections_of_two_files_become_one(rt: HostRuntime) -> Result<(), Fail> {
     let alloc = rt.alloc();
     let game =
         b"; a game\n/INCLUDE lib\n/PRO mine\n_ _ OK\n/PRO 10\n_ _ OK\n/PRO 0\nX _ DONE\n/voc\nX 30 verb";
-    let lib = b"/VOC\nY 31 verb\n/PRO 0\nY _ OK\n/PRO theirs\n/pro 1\n";
+    let lib = b"; a library\n/VOC\nY 31 verb\n/PRO 0 ; two\n; lines\nY _ OK\n/PRO theirs\n/pro 1\n";
     let plain = source_of_two(alloc, game, lib).ok().ok_or("refused")?;
     let bytes = bytes_of(alloc, plain.lines.as_slice())?;
     let wanted =
-        b"; a game\n/voc\nX 30 verb\nY 31 verb\n/PRO 0\nX _ DONE\nY _ OK\n/pro 1\n/PRO 10\n_ _ OK\n\
-        /PRO mine\n_ _ OK\n/PRO theirs\n";
+        b"; a game\n/voc\nX 30 verb\nY 31 verb\n/STX\n/MTX\n/OTX\n/LTX\n/CON\n/OBJ\n/PRO 0\nX _ DONE\n\
+        Y _ OK\n/pro 1\n/PRO 2\n/PRO 10\n_ _ OK\n/PRO mine\n_ _ OK\n/PRO theirs\n";
     assert_eq!(rt; bytes.as_slice(), wanted.as_slice());
     let origin = Origin {
         file: 1,
-        line: 2,
+        line: 3,
         column: 1,
     };
-    assert_eq!(rt; origin_of(plain.lines.as_slice(), 3), Some(origin));
+    assert_eq!(rt; origin_of(plain.lines.as_slice(), 3, 0), Some(origin));
+    Ok(())
+}
+
+#[test]
+fn entries_stand_at_the_places_for_them(rt: HostRuntime) -> Result<(), Fail> {
+    let alloc = rt.alloc();
+    let game =
+        b"/INCLUDE lib\n/PRO 0\nRING _ AT 1\n MESSAGE 2\n\n DONE ; far\n/PRO odd ; more\nSING _ OK\n/VOC\n";
+    let lib = b"/PRO 0\nIN _ DESC\n/HOOK ; here\n; of the game\nRING _ OK\n/HOOK odd\nLAST _ OK\n";
+    let plain = source_of_two(alloc, game, lib).ok().ok_or("refused")?;
+    let bytes = bytes_of(alloc, plain.lines.as_slice())?;
+    let wanted =
+        b"/VOC\n/STX\n/MTX\n/OTX\n/LTX\n/CON\n/OBJ\n/PRO 0\nIN _ DESC\nRING _ AT 1\n MESSAGE 2\n\n DONE ; far\n\
+        RING _ OK\nSING _ OK\nLAST _ OK\n/PRO 1\n/PRO 2\n";
+    assert_eq!(rt; bytes.as_slice(), wanted.as_slice());
+    Ok(())
+}
+
+#[test]
+fn each_file_stands_before_all_that_it_includes(rt: HostRuntime) -> Result<(), Fail> {
+    let alloc = rt.alloc();
+    let mut files = Vec::new(alloc);
+    files.push(file(
+        alloc,
+        b"a/g",
+        b"/INCLUDE b\n/INCLUDE \"c \"\"d\"\n/VOC\nG 1 verb\n",
+    )?)?;
+    files.push(file(
+        alloc,
+        b"a/b",
+        b"/INCLUDE /e\n/INCLUDE \"c \"\"d\" ; too\n/VOC\nB 1 verb\n",
+    )?)?;
+    files.push(file(alloc, b"a/c \"d", b"; words\n/VOC\nC 1 verb")?)?;
+    files.push(file(alloc, b"/e", b"/VOC\nE 1 verb\n")?)?;
+    let switches = Vec::new(alloc);
+    let plain = plain_lines(alloc, switches.as_slice(), files.as_slice())
+        .ok()
+        .ok_or("refused")?;
+    let bytes = bytes_of(alloc, plain.lines.as_slice())?;
+    let wanted =
+        b"/VOC\nG 1 verb\nB 1 verb\nE 1 verb\nC 1 verb\n/STX\n/MTX\n/OTX\n/LTX\n/CON\n/OBJ\n/PRO 0\n/PRO 1\n/PRO 2\n";
+    assert_eq!(rt; bytes.as_slice(), wanted.as_slice());
     Ok(())
 }
 
@@ -110,27 +169,54 @@ fn mistake_of(alloc: Global, game: &[u8], lib: &[u8]) -> Option<Mistake> {
 fn the_first_mistake_is_named(rt: HostRuntime) {
     let section = MistakeKind::Line(SourceKind::Section);
     let missing = MistakeKind::Line(SourceKind::Missing);
-    let faulty: [(&[u8], &[u8], u32, u32, MistakeKind); 7] = [
-        (b"/IF\n", b"", 0, 1, section),
-        (b"\n/ENDIF\n", b"", 0, 2, section),
-        (b"/IF a\n/ELSE\n/ELSE\n/ENDIF\n", b"", 0, 3, section),
-        (b"/IF a\n/IF b\n/ENDIF\n", b"", 0, 1, missing),
-        (b"/VOC\n/INCLUDE lib\n", b"/STX\n", 0, 2, section),
-        (b"/INCLUDE other\n", b"/STX\n", 0, 1, MistakeKind::File),
+    let extra = MistakeKind::Line(SourceKind::Extra);
+    let duplicate = MistakeKind::Line(SourceKind::Duplicate);
+    let text = MistakeKind::Line(SourceKind::Text);
+    let faulty: [(&[u8], &[u8], usize, usize, usize, MistakeKind); 20] = [
+        (b"/IF\n", b"", 0, 1, 1, section),
+        (b"\n/ENDIF\n", b"", 0, 2, 1, section),
+        (b"/IF a\n/ELSE\n/ELSE\n/ENDIF\n", b"", 0, 3, 1, section),
+        (b"/IF a\n/IF b\n/ENDIF\n", b"", 0, 1, 1, missing),
+        (b"/VOC\n/INCLUDE lib\n", b"/STX\n", 0, 2, 1, section),
+        (b"/INCLUDE other\n", b"/STX\n", 0, 1, 10, MistakeKind::File),
         (
             b"/INCLUDE lib\n",
             b"\n/INCLUDE game\n",
-            1,
-            2,
+            0,
+            0,
+            0,
             MistakeKind::File,
         ),
+        (b"/PRO a\n_ _ MES \"a\"\"\n", b"", 0, 2, 9, text),
+        (b"/PRO a\n_ _ MES \"a\"b\n", b"", 0, 2, 12, text),
+        (b"/HOOK\n", b"", 0, 1, 1, section),
+        (b"/PRO 0\n/HOOK a b\n", b"", 0, 2, 9, extra),
+        (b"/PRO x 1\n", b"", 0, 1, 8, extra),
+        (b"/VOC x\n/HOOK\n", b"", 0, 1, 6, extra),
+        (b"/PRO\n/HOOK\n", b"", 0, 1, 1, missing),
+        (b"/PRO a\n/HOOK\n x\n", b"", 0, 3, 1, section),
+        (
+            b"/PRO a\nx\n; c\n\n x\n/HOOK\n/HOOK\n",
+            b"",
+            0,
+            7,
+            1,
+            duplicate,
+        ),
+        (
+            b"/PRO 0\n/HOOK a\n/PRO 1\n/HOOK A\n",
+            b"",
+            0,
+            4,
+            1,
+            duplicate,
+        ),
+        (b"/PRO 0\n/HOOK a\n/PRO A\n/HOOK b\n", b"", 0, 4, 1, section),
+        (b"/CON\nN 1\n/HOOK\n", b"", 0, 2, 1, section),
+        (b"/VOC\n/one\n/HOOK\n", b"", 0, 2, 1, section),
     ];
-    for (game, lib, file, line, kind) in faulty {
-        let origin = Origin {
-            file,
-            line,
-            column: 1,
-        };
+    for (game, lib, file, line, column, kind) in faulty {
+        let origin = Origin { file, line, column };
         assert_eq!(rt;
             mistake_of(rt.alloc(), game, lib),
             Some(Mistake { origin, kind })

@@ -4,4 +4,5 @@ use Rattle.paw_author.specs.Order.{sections}
 use Rattle.paw_author.proofs.order.sections.Given as goal
 
 abbrev pub invariant-loop-section : goal.invariant-loop-section
-invariant-loop-section l = l.out.items ++ sections (SECTIONS - l.section) l.section l.lines ≡ sections SECTIONS 0 l.lines
+invariant-loop-section l =
+    l.lines.items ++ sections (SECTIONS - l.section) l.section l.files l.all ≡ sections SECTIONS 0 l.files l.all
