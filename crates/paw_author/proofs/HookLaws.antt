@@ -1,20 +1,21 @@
 -- The places that are marked, one unit after another.
 use Rattle.std.proofs.Common.{◌≡◌, ℕ, ◌<◌, ◌≤◌, ◌+◌, ◌++◌, List, [], ◌∷◌, length, take, drop, get_or, Ok, refl, sym, ap, ◌∙◌}
 use Rattle.std.proofs.lemmas.List.{take_more, drop_all}
+use Rattle.paw_base.specs.Bytes.{Names}
 use Rattle.paw_read_error.specs.Bind.{◌>>=◌}
 use Rattle.paw_author.specs.Hooks.{hook_known, hooks_known}
 use Rattle.paw_author.specs.Units.{UnitLines}
 use Rattle.paw_author.proofs.Rows.{from_unit}
 
-pub one_hook : (all : List UnitLines) (i : ℕ) (u : UnitLines) → u ≡ get_or all i u → i < length all
-    → hooks_known all (take i all) (drop i all)
-    ≡ (hook_known all (take i all) u >>= λ _. hooks_known all (take (i + 1) all) (drop (i + 1) all))
+pub one_hook : (hooks : Names) (all : List UnitLines) (i : ℕ) (u : UnitLines) → u ≡ get_or all i u → i < length all
+    → hooks_known hooks (take i all) (drop i all)
+    ≡ (hook_known hooks (take i all) u >>= λ _. hooks_known hooks (take (i + 1) all) (drop (i + 1) all))
 unfolding hooks_known
-one_hook all i u e h =
-    ap (λ (us : List UnitLines). hooks_known all (take i all) us) (from_unit all i u e h)
-    ∙ ap (λ (before : List UnitLines). hook_known all (take i all) u >>= λ _. hooks_known all before (drop (i + 1) all))
+one_hook hooks all i u e h =
+    ap (λ (us : List UnitLines). hooks_known hooks (take i all) us) (from_unit all i u e h)
+    ∙ ap (λ (before : List UnitLines). hook_known hooks (take i all) u >>= λ _. hooks_known hooks before (drop (i + 1) all))
     (sym (take_more all i u h ∙ ap (λ (x : UnitLines). take i all ++ x ∷ []) (sym e)))
 
-pub no_hook : (all : List UnitLines) (i : ℕ) → length all ≤ i → hooks_known all (take i all) (drop i all) ≡ Ok tt
+pub no_hook : (hooks : Names) (all : List UnitLines) (i : ℕ) → length all ≤ i → hooks_known hooks (take i all) (drop i all) ≡ Ok tt
 unfolding hooks_known
-no_hook all i h = rw (drop_all i all h) refl
+no_hook hooks all i h = rw (drop_all i all h) refl

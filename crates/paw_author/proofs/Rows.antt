@@ -43,10 +43,10 @@ none_for name units i h = rw (drop_all i units h) refl
 pub one_own : (all : List UnitLines) (section file : ℕ) (units : List UnitLines) (i : ℕ) (u : UnitLines)
     → u ≡ get_or units i u → i < length units
     → own_lines all section file (drop i units)
-    ≡ (if is_own all section file u then unit_lines all u else []) ++ own_lines all section file (drop (i + 1) units)
+    ≡ (if is_own section file u then unit_lines all u else []) ++ own_lines all section file (drop (i + 1) units)
 one_own all section file units i u e h =
     ap (λ (us : List UnitLines). own_lines all section file us) (from_unit units i u e h)
-    ∙ one_chosen (λ x. is_own all section file x) (λ x. unit_lines all x) u (drop (i + 1) units)
+    ∙ one_chosen (λ x. is_own section file x) (λ x. unit_lines all x) u (drop (i + 1) units)
 
 pub none_own : (all : List UnitLines) (section file : ℕ) (units : List UnitLines) (i : ℕ) → length units ≤ i
     → own_lines all section file (drop i units) ≡ []

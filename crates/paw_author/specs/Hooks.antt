@@ -1,8 +1,8 @@
 -- Places that are marked in tables: entries of other files come to stand there.
-use Rattle.std.specs.Prelude.{◌==◌, ◌&&◌, ◌||◌, Bool, true, false, not, List, [], ◌∷◌, ◌++◌, filter, length, slice_get}
+use Rattle.std.specs.Prelude.{◌==◌, ◌&&◌, ◌||◌, Bool, true, false, not, List, [], ◌∷◌, ◌++◌, filter, length, map, slice_get}
 use Rattle.std.specs.Prelude.{if◌then◌else◌, Option, Some, None, Result, Ok, Err}
 use Rattle.std.specs.List.{list_any, flat_map}
-use Rattle.paw_base.specs.Bytes.{Name}
+use Rattle.paw_base.specs.Bytes.{Name, Names}
 use Rattle.paw_base.specs.declared.fault.SourceKind.TheVariants.{Section, Duplicate}
 use Rattle.paw_read_error.specs.Bind.{◌>>=◌}
 use Rattle.paw_author.specs.declared.mistake.Mistake.{Mistake}
@@ -36,13 +36,13 @@ first_line u = line_or_none (slice_get u.lines 0)
 abbrev pub hook_name : UnitLines → Name
 hook_name u = token_at 1 (first_line u)
 
--- Whether a unit marks the place with this name.
-abbrev pub is_hook_of : Name → UnitLines → Bool
-is_hook_of name u = is_hook_kind u.kind && is_same (hook_name u) name
+-- The names of the places that are marked; no byte for those without a name.
+abbrev pub hook_names : List UnitLines → Names
+hook_names all = map (λ u. hook_name u) (filter (λ u. is_hook_kind u.kind) all)
 
 -- Whether a unit stands in a table whose name is that of a place, and so for that place.
-abbrev pub is_for_hook : List UnitLines → UnitLines → Bool
-is_for_hook all u = u.section == NAMED_TABLES && list_any (λ hook. is_hook_of u.table hook) all
+abbrev pub is_for_hook : Names → UnitLines → Bool
+is_for_hook hooks u = u.section == NAMED_TABLES && list_any (λ hook. is_same hook u.table) hooks
 
 -- ---- faults ----
 
@@ -57,17 +57,17 @@ mark_one_place u v =
     && (not (length (hook_name u) == 0) || stand_together u v)
 
 -- A place is marked once, and not among the entries for a place.
-abbrev pub hook_known : List UnitLines → List UnitLines → UnitLines → Result (Unit {0}) Mistake
-hook_known all before u =
+abbrev pub hook_known : Names → List UnitLines → UnitLines → Result (Unit {0}) Mistake
+hook_known hooks before u =
     if not (is_hook_kind u.kind) then Ok tt
-    else if is_for_hook all u then Err (wrong_line (line_origin (first_line u)) Section)
+    else if is_for_hook hooks u then Err (wrong_line (line_origin (first_line u)) Section)
     else if list_any (λ v. mark_one_place u v) before then Err (wrong_line (line_origin (first_line u)) Duplicate)
     else Ok tt
 
 -- Each of these units, where those before them were looked at.
-unfoldable pub hooks_known : List UnitLines → List UnitLines → List UnitLines → Result (Unit {0}) Mistake
-hooks_known all before [] = Ok tt
-hooks_known all before (u ∷ us) = hook_known all before u >>= λ _. hooks_known all (before ++ u ∷ []) us
+unfoldable pub hooks_known : Names → List UnitLines → List UnitLines → Result (Unit {0}) Mistake
+hooks_known hooks before [] = Ok tt
+hooks_known hooks before (u ∷ us) = hook_known hooks before u >>= λ _. hooks_known hooks (before ++ u ∷ []) us
 
 -- ---- lines ----
 

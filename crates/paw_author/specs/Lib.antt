@@ -10,6 +10,9 @@ pub mod Includes
 pub mod Units
 pub mod Joining
 pub mod Hooks
+pub mod Known
+pub mod TableNumbers
+pub mod NamedLines
 pub mod Order
 pub mod PlainSources
 pub mod Authored

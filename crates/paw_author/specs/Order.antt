@@ -3,9 +3,9 @@ use Rattle.std.specs.Prelude.{ℕ, zero, suc, ◌==◌, ◌&&◌, Bool, false, n
 use Rattle.std.specs.Prelude.{if◌then◌else◌, Option, Some, None, slice_get, codes}
 use Rattle.std.specs.List.{position, flat_map}
 use Rattle.paw_base.specs.Bytes.{Bytes, Lines}
-use Rattle.paw_author.specs.declared.sections.TheConstants.{SECTIONS, NAMED_TABLES, WORDS}
+use Rattle.paw_author.specs.declared.sections.TheConstants.{SECTIONS, WORDS}
 use Rattle.paw_author.specs.Fragments.{Fragments, LinesInParts}
-use Rattle.paw_author.specs.Hooks.{is_header, is_hook_kind, is_for_hook, hook_name, unit_lines}
+use Rattle.paw_author.specs.Hooks.{is_header, is_hook_kind, hook_name, unit_lines}
 use Rattle.paw_author.specs.Tokens.{bytes_of, line_origin}
 use Rattle.paw_author.specs.Units.{UnitLines}
 
@@ -37,23 +37,17 @@ header_or_made section (Some u) = u.lines
 
 -- ---- the units of a section ----
 
--- Whether a unit of a section comes out there. In the tables without a number the headers do too, and what is for a place
--- stands there instead.
-abbrev pub comes_out : List UnitLines → UnitLines → Bool
-comes_out all u = if u.section == NAMED_TABLES then not (is_for_hook all u) else not (is_header u.kind)
-
 -- Whether a unit comes out in this section as one of this file.
-abbrev pub is_own : List UnitLines → ℕ → ℕ → UnitLines → Bool
-is_own all section file u = u.section == section && u.file == file && comes_out all u
+abbrev pub is_own : ℕ → ℕ → UnitLines → Bool
+is_own section file u = u.section == section && u.file == file && not (is_header u.kind)
 
 -- Whether a unit marks the place for the entries of the files above its own.
-abbrev pub is_place : List UnitLines → ℕ → ℕ → UnitLines → Bool
-is_place all section file u =
-    is_own all section file u && is_hook_kind u.kind && length (hook_name u) == 0 && not (section == NAMED_TABLES)
+abbrev pub is_place : ℕ → ℕ → UnitLines → Bool
+is_place section file u = is_own section file u && is_hook_kind u.kind && length (hook_name u) == 0
 
 -- The lines that come out in a section for these units of a file.
 abbrev pub own_lines : List UnitLines → ℕ → ℕ → List UnitLines → LinesInParts
-own_lines all section file units = flat_map (λ u. unit_lines all u) (filter (λ u. is_own all section file u) units)
+own_lines all section file units = flat_map (λ u. unit_lines all u) (filter (λ u. is_own section file u) units)
 
 -- The lines of a section with those of one file more: around the lines of the files above it where a place is marked
 -- for them, and behind them where none is.
@@ -66,16 +60,15 @@ with_file all section file above (Some i) =
 unfoldable pub lines_in_files : List UnitLines → ℕ → ℕ → LinesInParts
 lines_in_files all section zero = []
 lines_in_files all section (suc file) =
-    with_file all section file (lines_in_files all section file) (position (λ u. is_place all section file u) all)
+    with_file all section file (lines_in_files all section file) (position (λ u. is_place section file u) all)
 
 -- How many files have lines in a section: above the headers only the first has.
 abbrev pub files_of : ℕ → ℕ → ℕ
 files_of files section = if section == 0 then 1 else files
 
--- The header of a section; those of tables without a number stand among their lines.
+-- The header of a section.
 abbrev pub header_lines : List UnitLines → ℕ → LinesInParts
-header_lines all section =
-    if section == NAMED_TABLES then [] else header_or_made section (find (λ u. is_header_of section u) all)
+header_lines all section = header_or_made section (find (λ u. is_header_of section u) all)
 
 -- The lines of a section: its header, and then the units of all files.
 abbrev pub section_lines : ℕ → List UnitLines → ℕ → LinesInParts

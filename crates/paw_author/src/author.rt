@@ -2,18 +2,22 @@
 
 ghost use Rattle.std.specs.Prelude.{◌≡◌, ◌<◌, true, false, length, IfOk, MatchOption};
 ghost use Rattle.paw_read_error.specs.inner.Gives.{Gives};
-ghost use Rattle.paw_author.specs.Authored.{is_plain_file, joined_lines, plain_lines, IsAnswered};
+ghost use Rattle.paw_author.specs.Authored.{is_plain_file, named_lines, numbered_lines, hooked_lines, lines_of_units, joined_lines, plain_lines, IsAnswered};
 ghost use Rattle.paw_author.specs.FileLines.{file_lines};
 
 use crate::file::{File, Switch};
 use crate::fragment::Line;
-use crate::hooks::hooks_known;
+use crate::hooks::{HookName, hook_names, hooks_known};
 use crate::includes::row_of;
 use crate::joining::{files_chosen, row_joined};
+use crate::known::Known;
 use crate::lines::file_lines;
 use crate::mistake::AuthorError;
+use crate::named_lines::units_named;
 use crate::order::in_order;
 use crate::plain_sources::is_plain_source;
+use crate::table_numbers::{tables_known, units_numbered};
+use crate::units::Unit;
 use paw_base::limits::SOURCE_LIMIT;
 use std::alloc::{AllocError, Global};
 use std::marker::Model;
@@ -49,6 +53,56 @@ fn plain_file(alloc: Global, file: &File) -> Result<Option<Vec<Line>>, AllocErro
     })
 }
 
+// The lines of units whose tables have numbers, with numbers in the place of names.
+fn named_lines(
+    alloc: Global,
+    files: usize,
+    hooks: &[HookName],
+    known: &[Known],
+    units: Vec<Unit>,
+) -> Result<Vec<Line>, AuthorError>
+    ensures gives { Gives (λ lines. lines.items) result (named_lines files hooks.now known.now units.items) }
+{
+    hooks_known(hooks, units.as_slice())?;
+    let named = units_named(alloc, known, units)?;
+    Ok(in_order(alloc, files, named.as_slice())?)
+}
+
+// The lines of units, where tables have these names.
+fn numbered_lines(
+    alloc: Global,
+    files: usize,
+    hooks: &[HookName],
+    known: &[Known],
+    units: Vec<Unit>,
+) -> Result<Vec<Line>, AuthorError>
+    ensures gives { Gives (λ lines. lines.items) result (numbered_lines files hooks.now known.now units.items) }
+{
+    let numbered = units_numbered(alloc, hooks, known, units)?;
+    named_lines(alloc, files, hooks, known, numbered)
+}
+
+// The lines of units, where places have these names.
+fn hooked_lines(
+    alloc: Global,
+    files: usize,
+    hooks: &[HookName],
+    units: Vec<Unit>,
+) -> Result<Vec<Line>, AuthorError>
+    ensures gives { Gives (λ lines. lines.items) result (hooked_lines files hooks.now units.items) }
+{
+    let known = tables_known(alloc, hooks, units.as_slice())?;
+    numbered_lines(alloc, files, hooks, known.as_slice(), units)
+}
+
+// The lines of these units of a number of files.
+fn lines_of_units(alloc: Global, files: usize, units: Vec<Unit>) -> Result<Vec<Line>, AuthorError>
+    ensures gives { Gives (λ lines. lines.items) result (lines_of_units files units.items) }
+{
+    let hooks = hook_names(alloc, units.as_slice())?;
+    hooked_lines(alloc, files, hooks.as_slice(), units)
+}
+
 // The lines of these files by sections.
 fn joined_lines(
     alloc: Global,
@@ -61,8 +115,7 @@ fn joined_lines(
     let chosen = files_chosen(alloc, switches, files)?;
     let row = row_of(alloc, chosen.as_slice())?;
     let units = row_joined(alloc, chosen.as_slice(), row.as_slice())?;
-    hooks_known(units.as_slice())?;
-    Ok(in_order(alloc, row.len(), units.as_slice())?)
+    lines_of_units(alloc, row.len(), units)
 }
 
 // The lines of the plain source of these files.

@@ -1,9 +1,10 @@
 // Places that are marked in tables: entries of other files come to stand there.
 
-ghost use Rattle.std.specs.Prelude.{◌≡◌, ◌++◌, ◌==◌, [], IfOk, length, if◌then◌else◌};
+ghost use Rattle.std.specs.Prelude.{◌≡◌, ◌++◌, ◌==◌, ◌∷◌, [], IfOk, length, if◌then◌else◌};
 ghost use Rattle.std.specs.List.{list_any};
 ghost use Rattle.paw_read_error.specs.inner.Gives.{Gives};
-ghost use Rattle.paw_author.specs.Hooks.{is_header, is_hook_kind, first_line, hook_name, is_hook_of, is_for_hook};
+ghost use Rattle.paw_author.specs.Tokens.{is_same};
+ghost use Rattle.paw_author.specs.Hooks.{is_header, is_hook_kind, first_line, hook_name, hook_names, is_for_hook};
 ghost use Rattle.paw_author.specs.Hooks.{stand_together, mark_one_place, hook_known, hooks_known};
 ghost use Rattle.paw_author.specs.Hooks.{is_entry_for, lines_for, unit_lines};
 
@@ -15,6 +16,7 @@ use crate::units::{Unit, UnitKind};
 use paw_base::fault::SourceKind;
 use paw_read_error::read_error::ReadError;
 use std::alloc::{AllocError, Global};
+use std::marker::Model;
 
 // ---- what a unit is ----
 
@@ -32,8 +34,8 @@ pub(crate) fn is_hook(u: &Unit) -> bool
     matches!(u.kind, UnitKind::Hook)
 }
 
-// The line that a unit begins with.
-fn first_line(u: &Unit) -> &[Fragment]
+/// The line that a unit begins with.
+pub(crate) fn first_line(u: &Unit) -> &[Fragment]
     ensures value { result.now ≡ first_line u.now }
 {
     match u.lines.first() {
@@ -56,25 +58,65 @@ pub(crate) fn has_no_name(u: &Unit) -> bool
     hook_name(u).is_empty()
 }
 
-// Whether a unit marks the place with this name.
-fn is_hook_of(name: &[u8], u: &Unit) -> bool
-    ensures value { result ≡ is_hook_of name.now u.now }
-{
-    is_hook(u) && is_same(hook_name(u), name)
+/// The name of a place; no byte for one without a name.
+#[derive(Drop)]
+pub(crate) struct HookName {
+    bytes: Vec<u8>,
 }
 
-// Whether one of the units marks the place with this name.
-fn is_marked_by(all: &[Unit], name: &[u8]) -> bool
-    ensures value { result ≡ list_any (λ hook. is_hook_of name.now hook) all.now }
+impl Model for HookName {
+    ghost use Rattle.paw_base.specs.Bytes.{Name};
+
+    ghost Value = { Name };
+
+    ghost view = { λ n. n.bytes.items };
+}
+
+// Adds the name of the place that a unit marks, where it marks one.
+fn add_hook_name(alloc: Global, u: &Unit, names: &mut Vec<HookName>) -> Result<(), AllocError>
+    ensures value { IfOk result (λ _. names.new.items ≡ names.old.items ++ (if is_hook_kind u.now.kind then hook_name u.now ∷ [] else [])) }
 {
-    all.iter().any(|hook| is_hook_of(name, hook))
+    if is_hook(u) {
+        names.push(HookName {
+            bytes: Vec::from_slice(alloc, hook_name(u))?,
+        })?;
+    }
+    Ok(())
+}
+
+/// The names of the places that are marked.
+///
+/// # Errors
+/// Where there is no memory.
+pub(crate) fn hook_names(alloc: Global, all: &[Unit]) -> Result<Vec<HookName>, AllocError>
+    ensures value { IfOk result (λ names. names.items ≡ hook_names all.now) }
+{
+    let mut names = Vec::new(alloc);
+    for u in all {
+        add_hook_name(alloc, u, &mut names)?;
+    }
+    Ok(names)
+}
+
+// Whether a place has this name.
+fn is_hook_named(hook: &HookName, name: &[u8]) -> bool
+    ensures value { result ≡ is_same hook.now name.now }
+{
+    is_same(hook.bytes.as_slice(), name)
+}
+
+// Whether one of the places has this name.
+fn is_marked_by(hooks: &[HookName], name: &[u8]) -> bool
+    ensures value { result ≡ list_any (λ hook. is_same hook name.now) hooks.now }
+{
+    hooks.iter().any(|hook| is_hook_named(hook, name))
 }
 
 /// Whether a unit stands in a table whose name is that of a place.
-pub(crate) fn is_for_hook(all: &[Unit], u: &Unit) -> bool
-    ensures value { result ≡ is_for_hook all.now u.now }
+pub(crate) fn is_for_hook(hooks: &[HookName], u: &Unit) -> bool
+    ensures value { result ≡ is_for_hook hooks.now u.now }
 {
-    u.section == NAMED_TABLES && is_marked_by(all, u.table.as_slice())
+    u.section == NAMED_TABLES && is_marked_by(hooks, u.table.as_slice())
 }
 
 // ---- faults ----
@@ -101,13 +143,13 @@ fn is_marked(before: &[Unit], u: &Unit) -> bool
 }
 
 // Looks whether a unit marks no place that is marked already, and stands among no entries for one.
-fn hook_known(all: &[Unit], before: &[Unit], u: &Unit) -> Result<(), AuthorError>
-    ensures gives { Gives (λ _. tt) result (hook_known all.now before.now u.now) }
+fn hook_known(hooks: &[HookName], before: &[Unit], u: &Unit) -> Result<(), AuthorError>
+    ensures gives { Gives (λ _. tt) result (hook_known hooks.now before.now u.now) }
 {
     if !is_hook(u) {
         return Ok(());
     }
-    if is_for_hook(all, u) {
+    if is_for_hook(hooks, u) {
         return Err(ReadError::Fault(wrong_line(line_origin(first_line(u)), SourceKind::Section)));
     }
     if is_marked(before, u) {
@@ -120,11 +162,11 @@ fn hook_known(all: &[Unit], before: &[Unit], u: &Unit) -> Result<(), AuthorError
 ///
 /// # Errors
 /// Fault where one isn't.
-pub(crate) fn hooks_known(all: &[Unit]) -> Result<(), AuthorError>
-    ensures gives { Gives (λ _. tt) result (hooks_known all.now [] all.now) }
+pub(crate) fn hooks_known(hooks: &[HookName], all: &[Unit]) -> Result<(), AuthorError>
+    ensures gives { Gives (λ _. tt) result (hooks_known hooks.now [] all.now) }
 {
     for (i, u) in all.iter().enumerate() {
-        hook_known(all, &all[..i], u)?;
+        hook_known(hooks, &all[..i], u)?;
     }
     Ok(())
 }

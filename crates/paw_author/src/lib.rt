@@ -8,13 +8,16 @@ pub mod fragment;
 mod hooks;
 mod includes;
 mod joining;
+mod known;
 pub mod laws;
 mod lines;
 pub mod mistake;
+mod named_lines;
 mod order;
 mod parts;
 mod plain_sources;
 mod sections;
+mod table_numbers;
 #[cfg(test)]
 mod tests;
 mod tokens;

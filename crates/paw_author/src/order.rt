@@ -4,14 +4,14 @@ ghost use Rattle.std.specs.Prelude.{◌≡◌, ◌++◌, ◌==◌, ◌∷◌, []
 ghost use Rattle.std.specs.List.{flat_map, position};
 ghost use Rattle.std.specs.Option.{option_copied};
 ghost use Rattle.paw_author.specs.Hooks.{unit_lines};
-ghost use Rattle.paw_author.specs.Order.{made_headers, made_line, header_made, is_header_of, header_or_made, comes_out, is_own};
+ghost use Rattle.paw_author.specs.Order.{made_headers, made_line, header_made, is_header_of, header_or_made, is_own};
 ghost use Rattle.paw_author.specs.Order.{is_place, own_lines, with_file, lines_in_files, files_of, header_lines, section_lines};
 ghost use Rattle.paw_author.specs.Order.{sections, ends_with_lf, has_line_end, ended_line, all_ended, in_order};
 ghost use Rattle.paw_author.specs.declared.sections.TheConstants.{SECTIONS, WORDS};
 
 use crate::fragment::{Fragment, Line, Origin};
-use crate::hooks::{add_lines, add_unit, has_no_name, is_for_hook, is_header, is_hook};
-use crate::sections::{NAMED_TABLES, SECTIONS, WORDS};
+use crate::hooks::{add_lines, add_unit, has_no_name, is_header, is_hook};
+use crate::sections::{SECTIONS, WORDS};
 use crate::tokens::line_origin;
 use crate::units::Unit;
 use std::alloc::{AllocError, Global};
@@ -99,9 +99,6 @@ fn add_header(
 ) -> Result<(), AllocError>
     ensures value { IfOk result (λ _. out.new.items ≡ out.old.items ++ header_lines all.now section) }
 {
-    if section == NAMED_TABLES {
-        return Ok(());
-    }
     match header_of(section, all) {
         None => add_made_header(alloc, section, out),
         Some(u) => add_lines(alloc, u.lines.as_slice(), out),
@@ -110,37 +107,26 @@ fn add_header(
 
 // ---- the units of a section ----
 
-// Whether a unit of a section comes out there.
-fn comes_out(all: &[Unit], u: &Unit) -> bool
-    ensures value { result ≡ comes_out all.now u.now }
-{
-    if u.section == NAMED_TABLES {
-        !is_for_hook(all, u)
-    } else {
-        !is_header(u)
-    }
-}
-
 // Whether a unit comes out in this section as one of this file.
-fn is_own(all: &[Unit], section: usize, file: usize, u: &Unit) -> bool
-    ensures value { result ≡ is_own all.now section file u.now }
+fn is_own(section: usize, file: usize, u: &Unit) -> bool
+    ensures value { result ≡ is_own section file u.now }
 {
-    u.section == section && u.file == file && comes_out(all, u)
+    u.section == section && u.file == file && !is_header(u)
 }
 
 // Whether a unit marks the place for the entries of the files above its own.
-fn is_place(all: &[Unit], section: usize, file: usize, u: &Unit) -> bool
-    ensures value { result ≡ is_place all.now section file u.now }
+fn is_place(section: usize, file: usize, u: &Unit) -> bool
+    ensures value { result ≡ is_place section file u.now }
 {
-    is_own(all, section, file, u) && is_hook(u) && has_no_name(u) && section != NAMED_TABLES
+    is_own(section, file, u) && is_hook(u) && has_no_name(u)
 }
 
 // The index of that unit.
 fn place_of(all: &[Unit], section: usize, file: usize) -> Option<usize>
-    ensures value { result ≡ position (λ u. is_place all.now section file u) all.now }
+    ensures value { result ≡ position (λ u. is_place section file u) all.now }
     ensures within { IfSome result (λ i. i < length all.now) }
 {
-    all.iter().position(|u| is_place(all, section, file, u))
+    all.iter().position(|u| is_place(section, file, u))
 }
 
 // Adds the lines of a unit where it comes out in this section as one of this file.
@@ -153,9 +139,9 @@ fn add_own_unit(
     out: &mut Vec<Line>,
 ) -> Result<(), AllocError>
     ensures value { IfOk result (λ _. out.new.items
-        ≡ out.old.items ++ (if is_own all.now section file u.now then unit_lines all.now u.now else [])) }
+        ≡ out.old.items ++ (if is_own section file u.now then unit_lines all.now u.now else [])) }
 {
-    if is_own(all, section, file, u) {
+    if is_own(section, file, u) {
         add_unit(alloc, all, u, out)?;
     }
     Ok(())
@@ -187,7 +173,7 @@ fn with_file(
     above: Vec<Line>,
 ) -> Result<Vec<Line>, AllocError>
     ensures value { IfOk result (λ lines. lines.items
-        ≡ with_file all.now section file above.items (position (λ u. is_place all.now section file u) all.now)) }
+        ≡ with_file all.now section file above.items (position (λ u. is_place section file u) all.now)) }
 {
     let mut above = above;
     match place_of(all, section, file) {

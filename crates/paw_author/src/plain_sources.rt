@@ -1,6 +1,6 @@
 // Sources that are plain already: no line has anything of what authors may write beyond it.
 
-ghost use Rattle.std.specs.Prelude.{◌≡◌, ◌||◌, not, drop};
+ghost use Rattle.std.specs.Prelude.{◌≡◌, ◌||◌, not};
 ghost use Rattle.std.specs.List.{list_all, list_any};
 ghost use Rattle.paw_author.specs.Tokens.{is_token, is_same};
 ghost use Rattle.paw_author.specs.PlainSources.{own_words, has_own_word, is_plain_table, is_plain_item, is_plain_token};
@@ -11,6 +11,7 @@ use crate::fragment::{Fragment, Line};
 use crate::sections::{EXITS, WORDS, has_texts, header_section, is_number, is_table_header};
 use crate::tokens::{
     begins_with_slash, is_same, is_token, leading_word, starts_with_byte, token_at, token_count,
+    without_first,
 };
 
 /// The words that only an author's source has at the head of a line.
@@ -45,16 +46,6 @@ fn is_plain_table(line: &[Fragment]) -> bool
 {
     let count = token_count(line);
     count == 1 || count == 2 && is_number(token_at(1, line))
-}
-
-// A word without its first byte.
-fn without_first(word: &[u8]) -> &[u8]
-    ensures value { result.now ≡ drop 1 word.now }
-{
-    match word {
-        [_, rest @ ..] => rest,
-        [] => word,
-    }
 }
 
 // Whether an item has a number and no name.

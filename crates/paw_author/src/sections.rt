@@ -32,13 +32,13 @@ pub(crate) const WORDS: usize = 5;
 pub(crate) const EXITS: usize = 10;
 
 /// The section of table 0; that of table n is n further on.
-const TABLES: usize = 12;
+pub(crate) const TABLES: usize = 12;
 
-/// The section of the tables that have no number yet, which is the last one.
+/// The section of the tables that have a name and no number yet. What stays there comes out elsewhere.
 pub(crate) const NAMED_TABLES: usize = 268;
 
-/// How many sections there are. What stands above the first header of a file is section 0.
-pub(crate) const SECTIONS: usize = 269;
+/// How many sections come out. What stands above the first header of a file is section 0.
+pub(crate) const SECTIONS: usize = 268;
 
 /// How many numbers a table may have.
 const TABLE_NUMBERS: usize = 256;

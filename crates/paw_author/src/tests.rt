@@ -104,7 +104,7 @@ fn sections_of_two_files_become_one(rt: HostRuntime) -> Result<(), Fail> {
     let bytes = bytes_of(alloc, plain.lines.as_slice())?;
     let wanted =
         b"; a game\n/voc\nX 30 verb\nY 31 verb\n/STX\n/MTX\n/OTX\n/LTX\n/CON\n/OBJ\n/PRO 0\nX _ DONE\n\
-        Y _ OK\n/pro 1\n/PRO 2\n/PRO 10\n_ _ OK\n/PRO mine\n_ _ OK\n/PRO theirs\n";
+        Y _ OK\n/pro 1\n/PRO 2\n/PRO 3\n_ _ OK\n/PRO 4\n/PRO 10\n_ _ OK\n";
     assert_eq!(rt; bytes.as_slice(), wanted.as_slice());
     let origin = Origin {
         file: 1,
@@ -127,6 +127,29 @@ fn entries_stand_at_the_places_for_them(rt: HostRuntime) -> Result<(), Fail> {
         b"/VOC\n/STX\n/MTX\n/OTX\n/LTX\n/CON\n/OBJ\n/PRO 0\nIN _ DESC\nRING _ AT 1\n MESSAGE 2\n\n DONE ; far\n\
         RING _ OK\nSING _ OK\nLAST _ OK\n/PRO 1\n/PRO 2\n";
     assert_eq!(rt; bytes.as_slice(), wanted.as_slice());
+    Ok(())
+}
+
+#[test]
+fn tables_have_numbers_in_the_place_of_names(rt: HostRuntime) -> Result<(), Fail> {
+    let alloc = rt.alloc();
+    let game =
+        b"/INCLUDE lib\n/PRO  Talk ; of it\nA _ PROCESS walk PROCESS @walk ; walk\n/PRO 4 ring ; once\n\
+        walk walk EQ ring + 1 walk OK\n process WALK\n/PRO talk\nB _ PROCESS none\n";
+    let lib = b"/PRO talk\nC _ OK\n/HOOK\nD _ PROCESS ring\n/PRO walk\nE _ OK\n";
+    let plain = source_of_two(alloc, game, lib).ok().ok_or("refused")?;
+    let bytes = bytes_of(alloc, plain.lines.as_slice())?;
+    let wanted =
+        b"/VOC\n/STX\n/MTX\n/OTX\n/LTX\n/CON\n/OBJ\n/PRO 0\n/PRO 1\n/PRO 2\n/PRO  3 ; of it\nC _ OK\n\
+        A _ PROCESS 5 PROCESS @walk ; walk\nB _ PROCESS none\nD _ PROCESS 4\n/PRO 4 ; once\n\
+        walk walk EQ ring + 1 5 OK\n process 5\n/PRO 5\nE _ OK\n";
+    assert_eq!(rt; bytes.as_slice(), wanted.as_slice());
+    let origin = Origin {
+        file: 0,
+        line: 3,
+        column: 13,
+    };
+    assert_eq!(rt; origin_of(plain.lines.as_slice(), 12, 6), Some(origin));
     Ok(())
 }
 
@@ -172,7 +195,8 @@ fn the_first_mistake_is_named(rt: HostRuntime) {
     let extra = MistakeKind::Line(SourceKind::Extra);
     let duplicate = MistakeKind::Line(SourceKind::Duplicate);
     let text = MistakeKind::Line(SourceKind::Text);
-    let faulty: [(&[u8], &[u8], usize, usize, usize, MistakeKind); 20] = [
+    let word = MistakeKind::Line(SourceKind::Word);
+    let faulty: [(&[u8], &[u8], usize, usize, usize, MistakeKind); 23] = [
         (b"/IF\n", b"", 0, 1, 1, section),
         (b"\n/ENDIF\n", b"", 0, 2, 1, section),
         (b"/IF a\n/ELSE\n/ELSE\n/ENDIF\n", b"", 0, 3, 1, section),
@@ -212,6 +236,9 @@ fn the_first_mistake_is_named(rt: HostRuntime) {
             duplicate,
         ),
         (b"/PRO 0\n/HOOK a\n/PRO A\n/HOOK b\n", b"", 0, 4, 1, section),
+        (b"/PRO 3 a\n/PRO 4 a\n", b"", 0, 2, 8, duplicate),
+        (b"/PRO 3 a-b\n", b"", 0, 1, 8, word),
+        (b"/PRO 2a\n", b"", 0, 1, 6, word),
         (b"/CON\nN 1\n/HOOK\n", b"", 0, 2, 1, section),
         (b"/VOC\n/one\n/HOOK\n", b"", 0, 2, 1, section),
     ];

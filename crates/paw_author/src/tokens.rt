@@ -1,6 +1,6 @@
 // The tokens of a line that is in its parts.
 
-ghost use Rattle.std.specs.Prelude.{◌≡◌, ◌==◌, true, IfOk, count_by, slice_get};
+ghost use Rattle.std.specs.Prelude.{◌≡◌, ◌==◌, true, drop, IfOk, count_by, slice_get};
 ghost use Rattle.std.specs.Option.{option_copied};
 ghost use Rattle.paw_read_error.specs.inner.Gives.{Gives};
 ghost use Rattle.paw_author.specs.Tokens.{starts_with_byte, is_token, tokens_of, bytes_of, token_at, token_count, is_same};
@@ -26,13 +26,30 @@ pub(crate) fn starts_with_byte(byte: u8, bytes: &[u8]) -> bool
     }
 }
 
+/// Whether the bytes of a part are a token.
+pub(crate) fn are_token(part: &[u8]) -> bool
+    ensures value { result ≡ is_token part.now }
+{
+    match part {
+        [first, ..] => !(is_gap(*first) || *first == b';'),
+        [] => false,
+    }
+}
+
 /// Whether a part is a token.
 pub(crate) fn is_token(part: &Fragment) -> bool
     ensures value { result ≡ is_token part.now.bytes }
 {
-    match part.bytes.as_slice() {
-        [first, ..] => !(is_gap(*first) || *first == b';'),
-        [] => false,
+    are_token(part.bytes.as_slice())
+}
+
+/// A token without its first byte.
+pub(crate) fn without_first(token: &[u8]) -> &[u8]
+    ensures value { result.now ≡ drop 1 token.now }
+{
+    match token {
+        [_, rest @ ..] => rest,
+        [] => token,
     }
 }
 

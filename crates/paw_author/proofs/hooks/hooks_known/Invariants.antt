@@ -3,4 +3,4 @@ use Rattle.paw_author.specs.Hooks.{hooks_known}
 use Rattle.paw_author.proofs.hooks.hooks_known.Given as goal
 
 abbrev pub invariant-loop-i : goal.invariant-loop-i
-invariant-loop-i l = hooks_known l.all (take l.i l.all) (drop l.i l.all) ≡ hooks_known l.all [] l.all
+invariant-loop-i l = hooks_known l.hooks (take l.i l.all) (drop l.i l.all) ≡ hooks_known l.hooks [] l.all

@@ -14,7 +14,7 @@ loop-u-preserved c =
     let i = c.loop-u.u-index in
     let u = c.u-item.result in
     let before = c.loop-u.out.items in
-    go_on before (if is_own all section file u then unit_lines all u else []) (own_lines all section file (drop (i + 1) units))
+    go_on before (if is_own section file u then unit_lines all u else []) (own_lines all section file (drop (i + 1) units))
     (c.args.out.now.items ++ own_lines all section file units) c.add_own_unit.new.out.items c.in_ok-add_own_unit.ensures.value
     (ap (λ (more : LinesInParts). before ++ more) (sym (one_own all section file units i u c.u-item.is c.loop-u-test.true))
     ∙ c.loop-u.invariant)

@@ -1,0 +1,9 @@
+use Rattle.std.proofs.Common.{◌≡◌, ◌++◌, length, map}
+use Rattle.paw_author.specs.NamedLines.{unit_named}
+use Rattle.paw_author.proofs.named_lines.units_named.Given as goal
+
+abbrev pub invariant-loop-u : goal.invariant-loop-u
+invariant-loop-u l = l.all.items ++ map (λ u. unit_named l.known u) l.left.items ≡ map (λ u. unit_named l.known u) l.fn.units.items
+
+abbrev pub decreases-loop-u : goal.decreases-loop-u
+decreases-loop-u l = length l.left.items

@@ -1,0 +1,61 @@
+-- Names, and the numbers that they stand for.
+use Rattle.std.specs.Prelude.{ℕ, ◌==◌, ◌&&◌, ◌||◌, Bool, false, not, List, [], ◌∷◌, find, Option}
+use Rattle.std.specs.List.{list_all, list_any, range_with_len}
+use Rattle.std.specs.Option.{option_map}
+use Rattle.std.specs.Char.{is_ascii_alphabetic, is_ascii_alphanumeric}
+use Rattle.paw_base.specs.Bytes.{Name, Token}
+use Rattle.paw_author.specs.declared.known.NameKind.{NameKind}
+use Rattle.paw_author.specs.declared.known.NameKind.TheVariants.{Flag, Number, Location, Object, Message, System, Table}
+use Rattle.paw_author.specs.Tokens.{is_same}
+
+-- A name: what it is the name of, and the number of that.
+pub record KnownName : Type 0 where
+  pub kind : NameKind
+  pub name : Name
+  pub number : ℕ
+
+abbrev pub KnownNames : Type 0
+KnownNames = List KnownName
+
+-- Each kind of name has a number of its own.
+abbrev pub kind_index : NameKind → ℕ
+kind_index Flag = 0
+kind_index Number = 1
+kind_index Location = 2
+kind_index Object = 3
+kind_index Message = 4
+kind_index System = 5
+kind_index Table = 6
+
+-- The number of the first name for which a test holds.
+abbrev pub number_where : (KnownName → Bool) → KnownNames → Option ℕ
+number_where test known = option_map (λ k. k.number) (find test known)
+
+-- Whether a name is this one, of this kind.
+abbrev pub is_known_as : NameKind → Token → KnownName → Bool
+is_known_as kind word k = kind_index k.kind == kind_index kind && is_same k.name word
+
+-- The number that a word stands for as a name of this kind.
+abbrev pub number_of : NameKind → Token → KnownNames → Option ℕ
+number_of kind word known = number_where (is_known_as kind word) known
+
+-- The number that a word stands for as a name of any kind.
+abbrev pub number_of_any : Token → KnownNames → Option ℕ
+number_of_any word known = number_where (λ k. is_same k.name word) known
+
+-- Whether a byte may stand in a name behind its first letter.
+abbrev pub is_name_byte : ℕ → Bool
+is_name_byte b = is_ascii_alphanumeric b || b == 95
+
+-- Whether a word may be a name: letters, digits and underscores, a letter first.
+abbrev pub is_name : Token → Bool
+is_name [] = false
+is_name (b ∷ bs) = is_ascii_alphabetic b && list_all is_name_byte bs
+
+-- Whether a number is one of these.
+abbrev pub is_among : List ℕ → ℕ → Bool
+is_among numbers n = list_any (λ m. m == n) numbers
+
+-- The least number from this one on that isn't taken, among so many.
+abbrev pub least_free : ℕ → ℕ → List ℕ → Option ℕ
+least_free from count taken = find (λ n. not (is_among taken n)) (range_with_len from count)

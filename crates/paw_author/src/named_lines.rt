@@ -1,0 +1,379 @@
+// Lines with numbers in the place of names.
+
+ghost use Rattle.std.specs.Prelude.{◌≡◌, ◌++◌, [], ◌∷◌, IfOk, decimal, map};
+ghost use Rattle.paw_author.specs.NamedLines.{number_meant, word_or_number, parameter_named, kind_list, kinds_of};
+ghost use Rattle.paw_author.specs.NamedLines.{kinds_left, part_named, line_named, two_words, entry_named, number_part, without_name, header_named};
+ghost use Rattle.paw_author.specs.NamedLines.{first_line_named, is_entry, unit_named};
+ghost use Rattle.paw_base.specs.Condacts.{code_named};
+
+use crate::fragment::{Fragment, Line};
+use crate::known::{Known, NameKind, number_of, number_of_any};
+use crate::sections::{is_number, is_table};
+use crate::table_numbers::{is_numbered, table_number};
+use crate::tokens::{are_token, is_token, starts_with_byte, without_first};
+use crate::units::{Unit, UnitKind};
+use itoa::Buffer;
+use paw_base::rows::{ParamKind, condact_named, condact_row};
+use std::alloc::{AllocError, Global};
+use std::collections::VecDeque;
+
+// ---- tokens ----
+
+// The number that a word stands for as a parameter of this kind.
+fn number_meant(kind: ParamKind, word: &[u8], known: &[Known]) -> Option<u16>
+    ensures value { result ≡ number_meant kind word.now known.now }
+{
+    match kind {
+        ParamKind::Location | ParamKind::Place => number_of(NameKind::Location, word, known),
+        ParamKind::Object => number_of(NameKind::Object, word, known),
+        ParamKind::Flag => number_of(NameKind::Flag, word, known),
+        ParamKind::Number => number_of_any(word, known),
+        ParamKind::Message => number_of(NameKind::Message, word, known),
+        ParamKind::System => number_of(NameKind::System, word, known),
+        ParamKind::Table => number_of(NameKind::Table, word, known),
+        _ => None,
+    }
+}
+
+// Puts a number in decimal behind bytes.
+fn put_number(number: u16, bytes: &mut Vec<u8>) -> Result<(), AllocError>
+    ensures value { IfOk result (λ _. bytes.new.items ≡ bytes.old.items ++ decimal number) }
+{
+    let mut digits = Buffer::new();
+    bytes.extend_from_slice(digits.format(number).as_bytes())
+}
+
+// A number in decimal behind these bytes; the word itself where it stands for none.
+fn word_or_number(
+    alloc: Global,
+    word: &[u8],
+    before: &[u8],
+    number: Option<u16>,
+) -> Result<Vec<u8>, AllocError>
+    ensures value { IfOk result (λ bytes. bytes.items ≡ word_or_number word.now before.now number) }
+{
+    match number {
+        None => Vec::from_slice(alloc, word),
+        Some(number) => {
+            let mut bytes = Vec::from_slice(alloc, before)?;
+            put_number(number, &mut bytes)?;
+            Ok(bytes)
+        }
+    }
+}
+
+// A parameter with its number in the place of a name.
+fn parameter_named(
+    alloc: Global,
+    known: &[Known],
+    kind: ParamKind,
+    word: &[u8],
+) -> Result<Vec<u8>, AllocError>
+    ensures value { IfOk result (λ bytes. bytes.items ≡ parameter_named known.now kind word.now) }
+{
+    if starts_with_byte(b'@', word) {
+        word_or_number(
+            alloc,
+            word,
+            b"@",
+            number_of(NameKind::Flag, without_first(word), known),
+        )
+    } else {
+        word_or_number(alloc, word, b"", number_meant(kind, word, known))
+    }
+}
+
+// ---- entries ----
+
+// Adds a kind of a parameter, where there is one.
+fn add_kind(kind: ParamKind, kinds: &mut VecDeque<ParamKind>) -> Result<(), AllocError>
+    ensures value { IfOk result (λ _. kinds.new.items ≡ kinds.old.items ++ kind_list kind) }
+{
+    if kind != ParamKind::Absent {
+        kinds.push_back(kind)?;
+    }
+    Ok(())
+}
+
+// Adds the kinds of the parameters of a condact.
+fn add_kinds(name: &[u8], kinds: &mut VecDeque<ParamKind>) -> Result<(), AllocError>
+    ensures value { IfOk result (λ _. kinds.new.items ≡ kinds.old.items ++ kinds_of (code_named name.now)) }
+{
+    let Some(code) = condact_named(name) else {
+        return Ok(());
+    };
+    let Some(row) = condact_row(code) else {
+        return Ok(());
+    };
+    add_kind(row.first, kinds)?;
+    add_kind(row.second, kinds)
+}
+
+// Takes a part from the parameters that are still to come.
+fn pass_part(part: &[u8], kinds: &mut VecDeque<ParamKind>) -> Result<(), AllocError>
+    ensures value { IfOk result (λ _. kinds.new.items ≡ kinds_left kinds.old.items part.now) }
+{
+    if !are_token(part) {
+        return Ok(());
+    }
+    if starts_with_byte(b'+', part) {
+        kinds.push_front(ParamKind::Number)?;
+        return Ok(());
+    }
+    match kinds.pop_front() {
+        Some(_) => Ok(()),
+        None => add_kinds(part, kinds),
+    }
+}
+
+// The bytes of a part where these parameters are still to come.
+fn part_named(
+    alloc: Global,
+    known: &[Known],
+    kinds: &VecDeque<ParamKind>,
+    part: &[u8],
+) -> Result<Vec<u8>, AllocError>
+    ensures value { IfOk result (λ bytes. bytes.items ≡ part_named known.now kinds.now.items part.now) }
+{
+    match kinds.front() {
+        None => Vec::from_slice(alloc, part),
+        Some(kind) => {
+            if are_token(part) {
+                parameter_named(alloc, known, *kind, part)
+            } else {
+                Vec::from_slice(alloc, part)
+            }
+        }
+    }
+}
+
+// A line of an entry, where these parameters are still to come.
+#[tactic(auto, unfolding(crate::specs::NamedLines::line_named))]
+fn line_named(
+    alloc: Global,
+    known: &[Known],
+    kinds: VecDeque<ParamKind>,
+    line: Line,
+) -> Result<Line, AllocError>
+    ensures value { IfOk result (λ named. named ≡ line_named known.now kinds.items line) }
+{
+    let mut to_come = kinds;
+    let Line { parts } = line;
+    let mut left = VecDeque::from(parts);
+    let mut named = Vec::new(alloc);
+    while let Some(part) = left.pop_front() {
+        let bytes = part_named(alloc, known, &to_come, part.bytes.as_slice())?;
+        pass_part(part.bytes.as_slice(), &mut to_come)?;
+        named.push(Fragment {
+            origin: part.origin,
+            bytes,
+        })?;
+    }
+    Ok(Line { parts: named })
+}
+
+// Two words.
+fn two_words(alloc: Global) -> Result<VecDeque<ParamKind>, AllocError>
+    ensures value { IfOk result (λ kinds. kinds.items ≡ two_words) }
+{
+    let mut kinds = VecDeque::new(alloc);
+    kinds.push_back(ParamKind::Noun)?;
+    kinds.push_back(ParamKind::Noun)?;
+    Ok(kinds)
+}
+
+// Lines of an entry below its first one, behind others.
+fn more_named(
+    alloc: Global,
+    known: &[Known],
+    lines: VecDeque<Line>,
+    before: Vec<Line>,
+) -> Result<Vec<Line>, AllocError>
+    ensures value { IfOk result (λ named. named.items ≡ before.items ++ map (λ line. line_named known.now [] line) lines.items) }
+{
+    let mut left = lines;
+    let mut named = before;
+    while let Some(line) = left.pop_front() {
+        named.push(line_named(alloc, known, VecDeque::new(alloc), line)?)?;
+    }
+    Ok(named)
+}
+
+// The lines of an entry.
+fn entry_named(alloc: Global, known: &[Known], lines: Vec<Line>) -> Result<Vec<Line>, AllocError>
+    ensures value { IfOk result (λ named. named.items ≡ entry_named known.now lines.items) }
+{
+    let mut left = VecDeque::from(lines);
+    let mut named = Vec::new(alloc);
+    match left.pop_front() {
+        None => Ok(named),
+        Some(line) => {
+            named.push(line_named(alloc, known, two_words(alloc)?, line)?)?;
+            more_named(alloc, known, left, named)
+        }
+    }
+}
+
+// ---- headers of tables ----
+
+// A number as it is written, or this one in the place of a name.
+fn number_part(alloc: Global, number: u16, part: Fragment) -> Result<Fragment, AllocError>
+    ensures value { IfOk result (λ numbered. numbered ≡ number_part number part) }
+{
+    if is_number(part.bytes.as_slice()) {
+        return Ok(part);
+    }
+    let mut bytes = Vec::new(alloc);
+    put_number(number, &mut bytes)?;
+    Ok(Fragment {
+        origin: part.origin,
+        bytes,
+    })
+}
+
+// What stands behind the number of a table, without its name and the blanks before that.
+fn without_name(parts: VecDeque<Fragment>) -> Result<VecDeque<Fragment>, AllocError>
+    ensures value { IfOk result (λ left. left.items ≡ without_name parts.items) }
+{
+    let mut left = parts;
+    let Some(gap) = left.pop_front() else {
+        return Ok(left);
+    };
+    let Some(name) = left.pop_front() else {
+        left.push_front(gap)?;
+        return Ok(left);
+    };
+    if is_token(&name) {
+        return Ok(left);
+    }
+    left.push_front(name)?;
+    left.push_front(gap)?;
+    Ok(left)
+}
+
+// The header of the table with this number.
+fn header_named(alloc: Global, number: u16, line: Line) -> Result<Line, AllocError>
+    ensures value { IfOk result (λ named. named ≡ header_named number line) }
+{
+    let Line { parts } = line;
+    let mut left = VecDeque::from(parts);
+    let Some(mark) = left.pop_front() else {
+        return Ok(Line {
+            parts: Vec::from(left),
+        });
+    };
+    let Some(gap) = left.pop_front() else {
+        left.push_front(mark)?;
+        return Ok(Line {
+            parts: Vec::from(left),
+        });
+    };
+    let Some(word) = left.pop_front() else {
+        left.push_front(gap)?;
+        left.push_front(mark)?;
+        return Ok(Line {
+            parts: Vec::from(left),
+        });
+    };
+    let mut named = without_name(left)?;
+    named.push_front(number_part(alloc, number, word)?)?;
+    named.push_front(gap)?;
+    named.push_front(mark)?;
+    Ok(Line {
+        parts: Vec::from(named),
+    })
+}
+
+// The lines of a header.
+fn first_line_named(alloc: Global, number: u16, lines: Vec<Line>) -> Result<Vec<Line>, AllocError>
+    ensures value { IfOk result (λ named. named.items ≡ first_line_named number lines.items) }
+{
+    let mut left = VecDeque::from(lines);
+    if let Some(line) = left.pop_front() {
+        left.push_front(header_named(alloc, number, line)?)?;
+    }
+    Ok(Vec::from(left))
+}
+
+// ---- units ----
+
+// Whether a unit is an entry.
+fn is_entry(u: &Unit) -> bool
+    ensures value { result ≡ is_entry u.now }
+{
+    is_table(u.section) && matches!(u.kind, UnitKind::Row)
+}
+
+// An entry with numbers in the place of names.
+fn entry_unit(alloc: Global, known: &[Known], u: Unit) -> Result<Unit, AllocError>
+    ensures value { IfOk result (λ named. named ≡ record u { lines = entry_named known.now u.lines }) }
+{
+    let Unit {
+        section,
+        table,
+        file,
+        kind,
+        lines,
+    } = u;
+    let lines = entry_named(alloc, known, lines)?;
+    Ok(Unit {
+        section,
+        table,
+        file,
+        kind,
+        lines,
+    })
+}
+
+// The header of the table with this number, without a name.
+fn header_unit(alloc: Global, number: u16, u: Unit) -> Result<Unit, AllocError>
+    ensures value { IfOk result (λ named. named ≡ record u { lines = first_line_named number u.lines }) }
+{
+    let Unit {
+        section,
+        table,
+        file,
+        kind,
+        lines,
+    } = u;
+    let lines = first_line_named(alloc, number, lines)?;
+    Ok(Unit {
+        section,
+        table,
+        file,
+        kind,
+        lines,
+    })
+}
+
+// A unit with numbers in the place of names.
+fn unit_named(alloc: Global, known: &[Known], u: Unit) -> Result<Unit, AllocError>
+    ensures value { IfOk result (λ named. named ≡ unit_named known.now u) }
+{
+    if is_entry(&u) {
+        return entry_unit(alloc, known, u);
+    }
+    if is_numbered(&u) {
+        return header_unit(alloc, table_number(&u), u);
+    }
+    Ok(u)
+}
+
+/// All units with numbers in the place of names.
+///
+/// # Errors
+/// Where there is no memory.
+pub(crate) fn units_named(
+    alloc: Global,
+    known: &[Known],
+    units: Vec<Unit>,
+) -> Result<Vec<Unit>, AllocError>
+    ensures value { IfOk result (λ all. all.items ≡ map (λ u. unit_named known.now u) units.items) }
+{
+    let mut left = VecDeque::from(units);
+    let mut all = Vec::new(alloc);
+    while let Some(u) = left.pop_front() {
+        all.push(unit_named(alloc, known, u)?)?;
+    }
+    Ok(all)
+}

@@ -1,0 +1,365 @@
+// The numbers of tables: a table has the one that is written, and otherwise the least that no table has.
+
+ghost use Rattle.std.specs.Prelude.{◌≡◌, ◌-◌, ◌++◌, ◌==◌, ◌&&◌, not, ◌∷◌, [], IfOk, IsTrue, Ok, if◌then◌else◌, map};
+ghost use Rattle.paw_read_error.specs.inner.Gives.{Gives};
+ghost use Rattle.paw_author.specs.declared.sections.TheConstants.{TABLES, NAMED_TABLES};
+ghost use Rattle.paw_author.specs.declared.known.NameKind.TheVariants.{Table};
+ghost use Rattle.paw_author.specs.Hooks.{is_for_hook};
+ghost use Rattle.paw_author.specs.Known.{number_of};
+ghost use Rattle.paw_author.specs.TableNumbers.{is_numbered, numbers_written, name_origin, table_named, known_once, name_written};
+ghost use Rattle.paw_author.specs.TableNumbers.{names_written, is_named_table, given, given_once, name_given, names_given};
+ghost use Rattle.paw_author.specs.TableNumbers.{tables_known, in_table, unit_numbered};
+
+use crate::fragment::Origin;
+use crate::hooks::{HookName, first_line, is_for_hook, is_header};
+use crate::known::{Known, NameKind, is_name, least_free, number_of};
+use crate::mistake::{AuthorError, wrong_line};
+use crate::sections::{NAMED_TABLES, TABLES};
+use crate::tokens::{origin_of, token, token_at, token_count};
+use crate::units::Unit;
+use paw_base::fault::SourceKind;
+use paw_read_error::read_error::ReadError;
+use std::alloc::{AllocError, Global};
+use std::collections::VecDeque;
+use std::marker::Model;
+
+/// The least number that is given.
+const FIRST_GIVEN: u16 = 3;
+
+/// How many numbers may be given.
+const GIVEN_COUNT: u16 = 253;
+
+// ---- written numbers ----
+
+/// Whether a unit is the header of a table with a number.
+pub(crate) fn is_numbered(u: &Unit) -> bool
+    ensures value { result ≡ is_numbered u.now }
+{
+    is_header(u) && TABLES <= u.section && u.section < NAMED_TABLES
+}
+
+/// The number of the table with this header.
+pub(crate) fn table_number(u: &Unit) -> u16
+    requires numbered { IsTrue (is_numbered u.now) }
+    ensures value { result ≡ u.now.section - TABLES }
+{
+    (u.section - TABLES) as u16
+}
+
+// Adds the number of a table, where a unit is a header with one.
+fn add_number(u: &Unit, numbers: &mut Vec<u16>) -> Result<(), AllocError>
+    ensures value { IfOk result (λ _. numbers.new.items ≡ numbers.old.items ++ (if is_numbered u.now then (u.now.section - TABLES) ∷ [] else [])) }
+{
+    if is_numbered(u) {
+        numbers.push(table_number(u))?;
+    }
+    Ok(())
+}
+
+// Adds the numbers that are written.
+fn add_numbers(all: &[Unit], numbers: &mut Vec<u16>) -> Result<(), AllocError>
+    ensures value { IfOk result (λ _. numbers.new.items ≡ numbers.old.items ++ numbers_written all.now) }
+{
+    for u in all {
+        add_number(u, numbers)?;
+    }
+    Ok(())
+}
+
+// The place of the token of a header with this index.
+fn name_origin(index: usize, u: &Unit) -> Origin
+    ensures value { result ≡ name_origin index u.now }
+{
+    origin_of(token(first_line(u), index))
+}
+
+// The name of a table with this number.
+fn table_named(alloc: Global, name: &[u8], number: u16) -> Result<Known, AllocError>
+    ensures value { IfOk result (λ known. known ≡ table_named name.now number) }
+{
+    Ok(Known {
+        kind: NameKind::Table,
+        name: Vec::from_slice(alloc, name)?,
+        number,
+    })
+}
+
+// A name is known for one number alone.
+fn known_once(
+    alloc: Global,
+    number: u16,
+    before: Option<u16>,
+    origin: Origin,
+    name: &[u8],
+    known: Vec<Known>,
+) -> Result<Vec<Known>, AuthorError>
+    ensures gives { Gives (λ more. more.items) result (known_once number before origin name.now known.items) }
+{
+    let mut more = known;
+    match before {
+        None => {
+            more.push(table_named(alloc, name, number)?)?;
+            Ok(more)
+        }
+        Some(other) => {
+            if other != number {
+                return Err(ReadError::Fault(wrong_line(origin, SourceKind::Duplicate)));
+            }
+            Ok(more)
+        }
+    }
+}
+
+// The names so far with the one that stands behind a number in a header.
+fn name_written(alloc: Global, u: &Unit, known: Vec<Known>) -> Result<Vec<Known>, AuthorError>
+    requires table { IsTrue (is_numbered u.now) }
+    ensures gives { Gives (λ more. more.items) result (name_written u.now known.items) }
+{
+    let line = first_line(u);
+    if token_count(line) <= 2 {
+        return Ok(known);
+    }
+    let name = token_at(2, line);
+    let origin = name_origin(2, u);
+    if !is_name(name) {
+        return Err(ReadError::Fault(wrong_line(origin, SourceKind::Word)));
+    }
+    let before = number_of(NameKind::Table, name, known.as_slice());
+    known_once(alloc, table_number(u), before, origin, name, known)
+}
+
+// The names so far with that of a unit, where it is the header of a table with a number.
+fn unit_written(alloc: Global, u: &Unit, known: Vec<Known>) -> Result<Vec<Known>, AuthorError>
+    ensures gives { Gives (λ more. more.items) result (if is_numbered u.now then name_written u.now known.items else Ok known.items) }
+{
+    if is_numbered(u) {
+        name_written(alloc, u, known)
+    } else {
+        Ok(known)
+    }
+}
+
+// The names that stand behind numbers.
+#[tactic(auto, unfolding(crate::specs::TableNumbers::names_written))]
+fn names_written(alloc: Global, all: &[Unit]) -> Result<Vec<Known>, AuthorError>
+    ensures gives { Gives (λ known. known.items) result (names_written [] all.now) }
+{
+    let mut known = Vec::new(alloc);
+    let mut left = all;
+    while let Some((u, below)) = left.split_first() {
+        known = unit_written(alloc, u, known)?;
+        left = below;
+    }
+    Ok(known)
+}
+
+// ---- given numbers ----
+
+/// The names so far, and the numbers that tables have.
+#[derive(Drop)]
+struct Tables {
+    known: Vec<Known>,
+    taken: Vec<u16>,
+}
+
+impl Model for Tables {
+    ghost use Rattle.paw_author.specs.TableNumbers.{TablesGiven};
+
+    ghost Value = { TablesGiven };
+
+    ghost view = { λ s. record { known = s.known.items; taken = s.taken.items } };
+}
+
+// Whether a unit is the header of a table with a name alone, which isn't that of a place.
+fn is_named_table(hooks: &[HookName], u: &Unit) -> bool
+    ensures value { result ≡ is_named_table hooks.now u.now }
+{
+    is_header(u) && u.section == NAMED_TABLES && !is_for_hook(hooks, u)
+}
+
+// A number for a name, if there is one left.
+fn given(
+    alloc: Global,
+    number: Option<u16>,
+    origin: Origin,
+    name: &[u8],
+    s: Tables,
+) -> Result<Tables, AuthorError>
+    ensures gives { Gives (λ next. next) result (given number origin name.now s) }
+{
+    match number {
+        None => Err(ReadError::Fault(wrong_line(origin, SourceKind::TooBig))),
+        Some(n) => {
+            let Tables {
+                mut known,
+                mut taken,
+            } = s;
+            known.push(table_named(alloc, name, n)?)?;
+            taken.push(n)?;
+            Ok(Tables { known, taken })
+        }
+    }
+}
+
+// The number of a name: the one that it has, or the least that no table has.
+fn given_once(
+    alloc: Global,
+    before: Option<u16>,
+    origin: Origin,
+    name: &[u8],
+    s: Tables,
+) -> Result<Tables, AuthorError>
+    ensures gives { Gives (λ next. next) result (given_once before origin name.now s) }
+{
+    match before {
+        Some(_) => Ok(s),
+        None => {
+            let number = least_free(FIRST_GIVEN, GIVEN_COUNT, s.taken.as_slice());
+            given(alloc, number, origin, name, s)
+        }
+    }
+}
+
+// What is given for the header of a table with a name alone.
+fn name_given(alloc: Global, u: &Unit, s: Tables) -> Result<Tables, AuthorError>
+    ensures gives { Gives (λ next. next) result (name_given u.now s) }
+{
+    let name = u.table.as_slice();
+    let origin = name_origin(1, u);
+    if !is_name(name) {
+        return Err(ReadError::Fault(wrong_line(origin, SourceKind::Word)));
+    }
+    let before = number_of(NameKind::Table, name, s.known.as_slice());
+    given_once(alloc, before, origin, name, s)
+}
+
+// What is given for a unit, where it is the header of a table with a name alone.
+fn unit_given(alloc: Global, hooks: &[HookName], u: &Unit, s: Tables) -> Result<Tables, AuthorError>
+    ensures gives { Gives (λ next. next) result (if is_named_table hooks.now u.now then name_given u.now s else Ok s) }
+{
+    if is_named_table(hooks, u) {
+        name_given(alloc, u, s)
+    } else {
+        Ok(s)
+    }
+}
+
+// What is given for all units.
+#[tactic(auto, unfolding(crate::specs::TableNumbers::names_given))]
+fn names_given(
+    alloc: Global,
+    hooks: &[HookName],
+    all: &[Unit],
+    s: Tables,
+) -> Result<Tables, AuthorError>
+    ensures gives { Gives (λ next. next) result (names_given hooks.now s all.now) }
+{
+    let mut next = s;
+    let mut left = all;
+    while let Some((u, below)) = left.split_first() {
+        next = unit_given(alloc, hooks, u, next)?;
+        left = below;
+    }
+    Ok(next)
+}
+
+// The numbers that tables have before any is given.
+fn first_taken(alloc: Global, all: &[Unit]) -> Result<Vec<u16>, AllocError>
+    ensures value { IfOk result (λ taken. taken.items ≡ 0 ∷ 1 ∷ 2 ∷ numbers_written all.now) }
+{
+    let mut taken = Vec::new(alloc);
+    taken.push(0)?;
+    taken.push(1)?;
+    taken.push(2)?;
+    add_numbers(all, &mut taken)?;
+    Ok(taken)
+}
+
+/// The names of all tables.
+///
+/// # Errors
+/// The first fault, or lack of memory.
+pub(crate) fn tables_known(
+    alloc: Global,
+    hooks: &[HookName],
+    all: &[Unit],
+) -> Result<Vec<Known>, AuthorError>
+    ensures gives { Gives (λ known. known.items) result (tables_known hooks.now all.now) }
+{
+    let known = names_written(alloc, all)?;
+    let taken = first_taken(alloc, all)?;
+    let s = names_given(alloc, hooks, all, Tables { known, taken })?;
+    let Tables { known, .. } = s;
+    Ok(known)
+}
+
+// ---- units ----
+
+// The unit of a table with this number.
+fn in_table(alloc: Global, number: Option<u16>, u: Unit) -> Unit
+    ensures value { result ≡ in_table number u }
+{
+    match number {
+        None => u,
+        Some(n) => {
+            let Unit {
+                file,
+                kind,
+                lines,
+                ..
+            } = u;
+            Unit {
+                section: TABLES + n as usize,
+                table: Vec::new(alloc),
+                file,
+                kind,
+                lines,
+            }
+        }
+    }
+}
+
+// A unit of a table with a name, in the table that has its number.
+fn unit_numbered(alloc: Global, hooks: &[HookName], known: &[Known], u: Unit) -> Unit
+    ensures value { result ≡ unit_numbered hooks.now known.now u }
+{
+    if !is_in_named_table(hooks, &u) {
+        return u;
+    }
+    let number = number_of_table(known, &u);
+    in_table(alloc, number, u)
+}
+
+// Whether a unit stands in a table with a name, and isn't for a place.
+fn is_in_named_table(hooks: &[HookName], u: &Unit) -> bool
+    ensures value { result ≡ (u.now.section == NAMED_TABLES && not (is_for_hook hooks.now u.now)) }
+{
+    u.section == NAMED_TABLES && !is_for_hook(hooks, u)
+}
+
+// The number of the table with a name in which a unit stands.
+fn number_of_table(known: &[Known], u: &Unit) -> Option<u16>
+    ensures value { result ≡ number_of Table u.now.table known.now }
+{
+    number_of(NameKind::Table, u.table.as_slice(), known)
+}
+
+/// All units, those of tables with names in the tables that have their numbers.
+///
+/// # Errors
+/// Where there is no memory.
+pub(crate) fn units_numbered(
+    alloc: Global,
+    hooks: &[HookName],
+    known: &[Known],
+    units: Vec<Unit>,
+) -> Result<Vec<Unit>, AllocError>
+    ensures value { IfOk result (λ all. all.items ≡ map (λ u. unit_numbered hooks.now known.now u) units.items) }
+{
+    let mut left = VecDeque::from(units);
+    let mut all = Vec::new(alloc);
+    while let Some(u) = left.pop_front() {
+        all.push(unit_numbered(alloc, hooks, known, u))?;
+    }
+    Ok(all)
+}
