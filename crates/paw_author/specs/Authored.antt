@@ -15,6 +15,7 @@ use Rattle.paw_author.specs.Joining.{files_chosen, row_joined}
 use Rattle.paw_author.specs.Order.{in_order}
 use Rattle.paw_author.specs.Known.{KnownNames}
 use Rattle.paw_author.specs.NamedLines.{unit_named}
+use Rattle.paw_author.specs.NameRows.{names_known}
 use Rattle.paw_author.specs.PlainSources.{is_plain_source}
 use Rattle.paw_author.specs.TableNumbers.{tables_known, unit_numbered}
 use Rattle.paw_author.specs.Units.{UnitLines}
@@ -34,7 +35,8 @@ numbered_lines files hooks known units = named_lines files hooks known (map (λ 
 
 -- The lines of units, where places have these names.
 abbrev pub hooked_lines : ℕ → Names → List UnitLines → Result LinesInParts Mistake
-hooked_lines files hooks units = tables_known hooks units >>= λ known. numbered_lines files hooks known units
+hooked_lines files hooks units =
+    names_known units >>= λ names. tables_known hooks names units >>= λ known. numbered_lines files hooks known units
 
 -- The lines of these units of a number of files.
 abbrev pub lines_of_units : ℕ → List UnitLines → Result LinesInParts Mistake

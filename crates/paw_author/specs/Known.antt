@@ -1,11 +1,15 @@
 -- Names, and the numbers that they stand for.
-use Rattle.std.specs.Prelude.{ℕ, ◌==◌, ◌&&◌, ◌||◌, Bool, false, not, List, [], ◌∷◌, find, Option}
+use Rattle.std.specs.Prelude.{ℕ, ◌==◌, ◌&&◌, ◌||◌, Bool, false, not, List, [], ◌∷◌, ◌++◌, find, Option, Some, None, Result, Ok, Err}
 use Rattle.std.specs.List.{list_all, list_any, range_with_len}
 use Rattle.std.specs.Option.{option_map}
 use Rattle.std.specs.Char.{is_ascii_alphabetic, is_ascii_alphanumeric}
 use Rattle.paw_base.specs.Bytes.{Name, Token}
+use Rattle.paw_base.specs.declared.fault.SourceKind.TheVariants.{TooBig}
+use Rattle.paw_author.specs.declared.fragment.Origin.{Origin}
 use Rattle.paw_author.specs.declared.known.NameKind.{NameKind}
 use Rattle.paw_author.specs.declared.known.NameKind.TheVariants.{Flag, Number, Location, Object, Message, System, Table}
+use Rattle.paw_author.specs.declared.mistake.Mistake.{Mistake}
+use Rattle.paw_author.specs.Mistakes.{wrong_line}
 use Rattle.paw_author.specs.Tokens.{is_same}
 
 -- A name: what it is the name of, and the number of that.
@@ -59,3 +63,29 @@ is_among numbers n = list_any (λ m. m == n) numbers
 -- The least number from this one on that isn't taken, among so many.
 abbrev pub least_free : ℕ → ℕ → List ℕ → Option ℕ
 least_free from count taken = find (λ n. not (is_among taken n)) (range_with_len from count)
+
+-- A name of this kind for a number.
+abbrev pub named : NameKind → Name → ℕ → KnownName
+named kind name number = record { kind = kind; name = name; number = number }
+
+-- ---- numbers that are given ----
+
+-- The names so far, and the numbers that are taken.
+pub record NumbersGiven : Type 0 where
+  pub known : KnownNames
+  pub taken : List ℕ
+
+-- A number for a name, if there is one left.
+abbrev pub given : Option ℕ → NameKind → Origin → Name → NumbersGiven → Result NumbersGiven Mistake
+given None kind origin name s = Err (wrong_line origin TooBig)
+given (Some n) kind origin name s = Ok (record { known = s.known ++ named kind name n ∷ []; taken = s.taken ++ n ∷ [] })
+
+-- The number of a name: the one that it has, or else a new one.
+abbrev pub given_unless : Option ℕ → Option ℕ → NameKind → Origin → Name → NumbersGiven → Result NumbersGiven Mistake
+given_unless (Some n) free kind origin name s = Ok s
+given_unless None free kind origin name s = given free kind origin name s
+
+-- The number of a name: the one that it has, or the least from this one on that isn't taken, among so many.
+abbrev pub given_once : ℕ → ℕ → NameKind → Origin → Name → NumbersGiven → Result NumbersGiven Mistake
+given_once from count kind origin name s =
+    given_unless (number_of kind name s.known) (least_free from count s.taken) kind origin name s

@@ -13,6 +13,7 @@ pub mod Hooks
 pub mod Known
 pub mod TableNumbers
 pub mod NamedLines
+pub mod NameRows
 pub mod Order
 pub mod PlainSources
 pub mod Authored

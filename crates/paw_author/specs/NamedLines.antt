@@ -1,12 +1,14 @@
 -- Lines with numbers in the place of names.
-use Rattle.std.specs.Prelude.{ℕ, ◌-◌, ◌&&◌, Bool, not, List, [], ◌∷◌, ◌++◌, drop, map}
+use Rattle.std.specs.Prelude.{ℕ, ◌-◌, ◌==◌, ◌&&◌, ◌||◌, Bool, true, false, not, List, [], ◌∷◌, ◌++◌, drop, map}
 use Rattle.std.specs.Prelude.{if◌then◌else◌, Option, Some, None, decimal}
 use Rattle.paw_base.specs.Bytes.{Bytes, Token}
 use Rattle.paw_base.specs.Condacts.{code_named, first_kind, second_kind}
 use Rattle.paw_base.specs.declared.rows.ParamKind.{ParamKind}
 use Rattle.paw_base.specs.declared.rows.ParamKind.TheVariants as param
 use Rattle.paw_author.specs.declared.known.NameKind.TheVariants as name
-use Rattle.paw_author.specs.declared.sections.TheConstants.{TABLES}
+use Rattle.paw_author.specs.declared.sections.TheConstants.{WORDS, EXITS, OBJECTS, TABLES}
+use Rattle.paw_author.specs.declared.units.UnitKind.{UnitKind}
+use Rattle.paw_author.specs.declared.units.UnitKind.TheVariants.{Item}
 use Rattle.paw_author.specs.Fragments.{WithOrigin, Fragments, LinesInParts}
 use Rattle.paw_author.specs.Known.{KnownNames, number_of, number_of_any}
 use Rattle.paw_author.specs.Sections.{is_number, is_table}
@@ -78,6 +80,15 @@ line_named known kinds (part ∷ parts) =
 abbrev pub two_words : List ParamKind
 two_words = param.Noun ∷ param.Noun ∷ []
 
+-- The words that a row may have behind its numbers, and more.
+abbrev pub some_words : List ParamKind
+some_words = param.Noun ∷ param.Noun ∷ param.Noun ∷ param.Noun ∷ param.Noun ∷ param.Noun ∷ []
+
+-- Whether a unit is an item.
+abbrev pub is_item : UnitKind → Bool
+is_item Item = true
+is_item _ = false
+
 -- The lines of an entry.
 abbrev pub entry_named : KnownNames → LinesInParts → LinesInParts
 entry_named known [] = []
@@ -113,12 +124,55 @@ first_line_named number (line ∷ lines) = header_named number line ∷ lines
 abbrev pub is_entry : UnitLines → Bool
 is_entry u = is_table u.section && is_row u.kind
 
+-- What the tokens of a row name, by its section. Where no numbers stand, all are words.
+abbrev pub row_kinds : ℕ → List ParamKind
+row_kinds section =
+    if section == WORDS then param.Noun ∷ param.Number ∷ some_words
+    else if section == EXITS then param.Noun ∷ param.Location ∷ some_words
+    else if section == OBJECTS then param.Object ∷ param.Place ∷ param.Number ∷ some_words
+    else some_words
+
+-- The lines of a row: its first line has its tokens.
+abbrev pub row_named : KnownNames → List ParamKind → LinesInParts → LinesInParts
+row_named known kinds [] = []
+row_named known kinds (line ∷ lines) = line_named known kinds line ∷ lines
+
+-- Whether a unit is a row of words, exits or objects.
+abbrev pub is_plain_row : UnitLines → Bool
+is_plain_row u = is_row u.kind && (u.section == WORDS || u.section == EXITS || u.section == OBJECTS)
+
+-- Whether a unit is an item of exits, which has the name of a location.
+abbrev pub is_exits_item : UnitLines → Bool
+is_exits_item u = is_item u.kind && u.section == EXITS
+
+-- The number of a location in the place of its name, behind `/`.
+abbrev pub mark_named : KnownNames → WithOrigin → WithOrigin
+mark_named known part =
+    record part { bytes = word_or_number part.bytes (47 ∷ []) (number_of name.Location (drop 1 part.bytes) known) }
+
+-- The first line of an item of exits, which begins with such a name.
+abbrev pub mark_line : KnownNames → Fragments → Fragments
+mark_line known [] = []
+mark_line known (part ∷ parts) = mark_named known part ∷ parts
+
+-- The lines of an item of exits.
+abbrev pub item_named : KnownNames → LinesInParts → LinesInParts
+item_named known [] = []
+item_named known (line ∷ lines) = mark_line known line ∷ lines
+
+-- The lines of a unit outside of tables.
+abbrev pub other_lines : KnownNames → UnitLines → LinesInParts
+other_lines known u =
+    if is_plain_row u then row_named known (row_kinds u.section) u.lines
+    else if is_exits_item u then item_named known u.lines
+    else u.lines
+
 -- The lines of a unit with numbers in the place of names.
 abbrev pub lines_named : KnownNames → UnitLines → LinesInParts
 lines_named known u =
     if is_entry u then entry_named known u.lines
     else if is_numbered u then first_line_named (u.section - TABLES) u.lines
-    else u.lines
+    else other_lines known u
 
 -- A unit with these lines.
 abbrev pub unit_named : KnownNames → UnitLines → UnitLines

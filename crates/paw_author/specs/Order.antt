@@ -3,7 +3,7 @@ use Rattle.std.specs.Prelude.{ℕ, zero, suc, ◌==◌, ◌&&◌, Bool, false, n
 use Rattle.std.specs.Prelude.{if◌then◌else◌, Option, Some, None, slice_get, codes}
 use Rattle.std.specs.List.{position, flat_map}
 use Rattle.paw_base.specs.Bytes.{Bytes, Lines}
-use Rattle.paw_author.specs.declared.sections.TheConstants.{SECTIONS, WORDS}
+use Rattle.paw_author.specs.declared.sections.TheConstants.{NAMES, SECTIONS, WORDS}
 use Rattle.paw_author.specs.Fragments.{Fragments, LinesInParts}
 use Rattle.paw_author.specs.Hooks.{is_header, is_hook_kind, hook_name, unit_lines}
 use Rattle.paw_author.specs.Tokens.{bytes_of, line_origin}
@@ -70,9 +70,10 @@ files_of files section = if section == 0 then 1 else files
 abbrev pub header_lines : List UnitLines → ℕ → LinesInParts
 header_lines all section = header_or_made section (find (λ u. is_header_of section u) all)
 
--- The lines of a section: its header, and then the units of all files.
+-- The lines of a section: its header, and then the units of all files. Rows of names are left out.
 abbrev pub section_lines : ℕ → List UnitLines → ℕ → LinesInParts
-section_lines files all section = header_lines all section ++ lines_in_files all section (files_of files section)
+section_lines files all section =
+    if section == NAMES then [] else header_lines all section ++ lines_in_files all section (files_of files section)
 
 -- The lines of n sections from this one on, one section after another.
 unfoldable pub sections : ℕ → ℕ → ℕ → List UnitLines → LinesInParts

@@ -21,6 +21,10 @@ number_after n (b ∷ bs) =
 abbrev pub is_number : Token → Bool
 is_number token = not (length token == 0) && is_some (number_after 0 token)
 
+-- The number that a word is; 256 stands for any number from there on.
+abbrev pub written_number : Token → Option ℕ
+written_number word = if is_number word then number_after 0 word else None
+
 -- The section of the table with this number.
 abbrev pub numbered_table : Option ℕ → ℕ
 numbered_table None = NAMED_TABLES

@@ -58,6 +58,10 @@ origin_of (Some part) = part.origin
 abbrev pub line_origin : Fragments → Origin
 line_origin line = origin_of (slice_get line 0)
 
+-- Where the token of a line with this index stands.
+abbrev pub token_origin : ℕ → Fragments → Origin
+token_origin index line = origin_of (slice_get (tokens_of line) index)
+
 -- The token that a line begins with; no byte where a blank stands first.
 abbrev pub leading_word : Fragments → Token
 leading_word line = if is_token (first_bytes line) then first_bytes line else []

@@ -13,6 +13,7 @@ use crate::joining::{files_chosen, row_joined};
 use crate::known::Known;
 use crate::lines::file_lines;
 use crate::mistake::AuthorError;
+use crate::name_rows::names_known;
 use crate::named_lines::units_named;
 use crate::order::in_order;
 use crate::plain_sources::is_plain_source;
@@ -91,7 +92,8 @@ fn hooked_lines(
 ) -> Result<Vec<Line>, AuthorError>
     ensures gives { Gives (λ lines. lines.items) result (hooked_lines files hooks.now units.items) }
 {
-    let known = tables_known(alloc, hooks, units.as_slice())?;
+    let names = names_known(alloc, units.as_slice())?;
+    let known = tables_known(alloc, hooks, names, units.as_slice())?;
     numbered_lines(alloc, files, hooks, known.as_slice(), units)
 }
 

@@ -1,12 +1,18 @@
 // Names, and the numbers that they stand for.
 
-ghost use Rattle.std.specs.Prelude.{◌≡◌, ◌+◌, ◌<◌, ◌^◌};
+ghost use Rattle.std.specs.Prelude.{◌≡◌, ◌+◌, ◌<◌, ◌^◌, ◌==◌, IfOk};
 ghost use Rattle.std.specs.List.{list_all, list_any};
 ghost use Rattle.paw_author.specs.Tokens.{is_same};
 ghost use Rattle.paw_author.specs.Known.{KnownName, kind_index, is_known_as, number_of, number_of_any, is_name_byte, is_name};
-ghost use Rattle.paw_author.specs.Known.{is_among, least_free};
+ghost use Rattle.paw_author.specs.Known.{is_among, least_free, named, given, given_unless, given_once};
+ghost use Rattle.paw_read_error.specs.inner.Gives.{Gives};
 
+use crate::fragment::Origin;
+use crate::mistake::{AuthorError, wrong_line};
 use crate::tokens::is_same;
+use paw_base::fault::SourceKind;
+use paw_read_error::read_error::ReadError;
+use std::alloc::{AllocError, Global};
 use std::marker::Model;
 
 /// What a name is the name of.
@@ -37,8 +43,8 @@ impl Model for Known {
     ghost view = { λ k. record { kind = k.kind; name = k.name.items; number = k.number } };
 }
 
-// The number of a kind.
-fn kind_index(kind: NameKind) -> u8
+/// The number of a kind.
+pub(crate) fn kind_index(kind: NameKind) -> u8
     ensures value { result ≡ kind_index kind }
 {
     match kind {
@@ -128,4 +134,119 @@ pub(crate) fn least_free(from: u16, count: u16, taken: &[u16]) -> Option<u16>
         }
     }
     None
+}
+
+/// A name of this kind for a number.
+///
+/// # Errors
+/// Where there is no memory.
+pub(crate) fn named(
+    alloc: Global,
+    kind: NameKind,
+    name: &[u8],
+    number: u16,
+) -> Result<Known, AllocError>
+    ensures value { IfOk result (λ known. known ≡ named kind name.now number) }
+{
+    Ok(Known {
+        kind,
+        name: Vec::from_slice(alloc, name)?,
+        number,
+    })
+}
+
+// ---- numbers that are given ----
+
+/// The names so far, and the numbers that are taken.
+#[derive(Drop)]
+pub(crate) struct Numbers {
+    pub(crate) known: Vec<Known>,
+    pub(crate) taken: Vec<u16>,
+}
+
+impl Model for Numbers {
+    ghost use Rattle.paw_author.specs.Known.{NumbersGiven};
+
+    ghost Value = { NumbersGiven };
+
+    ghost view = { λ s. record { known = s.known.items; taken = s.taken.items } };
+}
+
+// A number for a name, if there is one left.
+fn make_given(
+    alloc: Global,
+    number: Option<u16>,
+    kind: NameKind,
+    origin: Origin,
+    name: &[u8],
+    s: Numbers,
+) -> Result<Numbers, AuthorError>
+    ensures gives { Gives (λ next. next) result (given number kind origin name.now s) }
+{
+    match number {
+        None => Err(ReadError::Fault(wrong_line(origin, SourceKind::TooBig))),
+        Some(n) => {
+            let Numbers {
+                mut known,
+                mut taken,
+            } = s;
+            known.push(named(alloc, kind, name, n)?)?;
+            taken.push(n)?;
+            Ok(Numbers { known, taken })
+        }
+    }
+}
+
+// The number of a name: the one that it has, or else a new one.
+fn given_unless(
+    alloc: Global,
+    before: Option<u16>,
+    free: Option<u16>,
+    kind: NameKind,
+    origin: Origin,
+    name: &[u8],
+    s: Numbers,
+) -> Result<Numbers, AuthorError>
+    ensures gives { Gives (λ next. next) result (given_unless before free kind origin name.now s) }
+{
+    match before {
+        Some(_) => Ok(s),
+        None => make_given(alloc, free, kind, origin, name, s),
+    }
+}
+
+// The number that a word stands for among the names so far.
+fn number_so_far(kind: NameKind, name: &[u8], s: &Numbers) -> Option<u16>
+    ensures value { result ≡ number_of kind name.now s.now.known }
+{
+    number_of(kind, name, s.known.as_slice())
+}
+
+// The least number from this one on that isn't taken so far, among so many.
+fn free_so_far(from: u16, count: u16, s: &Numbers) -> Option<u16>
+    requires within { from + count < 2 ^ 16 }
+    ensures value { result ≡ least_free from count s.now.taken }
+{
+    least_free(from, count, s.taken.as_slice())
+}
+
+/// The number of a name: the one that it has, or the least from `from` on that isn't taken, among so many.
+///
+/// # Errors
+/// Fault where none is left, or lack of memory.
+pub(crate) fn given_once(
+    alloc: Global,
+    from: u16,
+    count: u16,
+    kind: NameKind,
+    origin: Origin,
+    name: &[u8],
+    s: Numbers,
+) -> Result<Numbers, AuthorError>
+    requires within { from + count < 2 ^ 16 }
+    ensures gives { Gives (λ next. next) result (given_once from count kind origin name.now s) }
+{
+    let before = number_so_far(kind, name, &s);
+    let free = free_so_far(from, count, &s);
+    given_unless(alloc, before, free, kind, origin, name, s)
 }

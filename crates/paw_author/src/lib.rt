@@ -12,6 +12,7 @@ mod known;
 pub mod laws;
 mod lines;
 pub mod mistake;
+mod name_rows;
 mod named_lines;
 mod order;
 mod parts;

@@ -3,12 +3,13 @@
 ghost use Rattle.std.specs.Prelude.{◌≡◌, ◌++◌, [], ◌∷◌, IfOk, decimal, map};
 ghost use Rattle.paw_author.specs.NamedLines.{number_meant, word_or_number, parameter_named, kind_list, kinds_of};
 ghost use Rattle.paw_author.specs.NamedLines.{kinds_left, part_named, line_named, two_words, entry_named, number_part, without_name, header_named};
-ghost use Rattle.paw_author.specs.NamedLines.{first_line_named, is_entry, unit_named};
+ghost use Rattle.paw_author.specs.NamedLines.{first_line_named, is_entry, unit_named, some_words, row_kinds, row_named, is_plain_row, is_exits_item};
+ghost use Rattle.paw_author.specs.NamedLines.{mark_named, mark_line, item_named, other_lines};
 ghost use Rattle.paw_base.specs.Condacts.{code_named};
 
 use crate::fragment::{Fragment, Line};
 use crate::known::{Known, NameKind, number_of, number_of_any};
-use crate::sections::{is_number, is_table};
+use crate::sections::{EXITS, OBJECTS, WORDS, is_number, is_table};
 use crate::table_numbers::{is_numbered, table_number};
 use crate::tokens::{are_token, is_token, starts_with_byte, without_first};
 use crate::units::{Unit, UnitKind};
@@ -109,8 +110,11 @@ fn add_kinds(name: &[u8], kinds: &mut VecDeque<ParamKind>) -> Result<(), AllocEr
     add_kind(row.second, kinds)
 }
 
-// Takes a part from the parameters that are still to come.
-fn pass_part(part: &[u8], kinds: &mut VecDeque<ParamKind>) -> Result<(), AllocError>
+/// Takes a part from the parameters that are still to come.
+///
+/// # Errors
+/// Where there is no memory.
+pub(crate) fn pass_part(part: &[u8], kinds: &mut VecDeque<ParamKind>) -> Result<(), AllocError>
     ensures value { IfOk result (λ _. kinds.new.items ≡ kinds_left kinds.old.items part.now) }
 {
     if !are_token(part) {
@@ -172,8 +176,11 @@ fn line_named(
     Ok(Line { parts: named })
 }
 
-// Two words.
-fn two_words(alloc: Global) -> Result<VecDeque<ParamKind>, AllocError>
+/// Two words, which stand before the condacts of an entry.
+///
+/// # Errors
+/// Where there is no memory.
+pub(crate) fn two_words(alloc: Global) -> Result<VecDeque<ParamKind>, AllocError>
     ensures value { IfOk result (λ kinds. kinds.items ≡ two_words) }
 {
     let mut kinds = VecDeque::new(alloc);
@@ -297,8 +304,8 @@ fn first_line_named(alloc: Global, number: u16, lines: Vec<Line>) -> Result<Vec<
 
 // ---- units ----
 
-// Whether a unit is an entry.
-fn is_entry(u: &Unit) -> bool
+/// Whether a unit is an entry.
+pub(crate) fn is_entry(u: &Unit) -> bool
     ensures value { result ≡ is_entry u.now }
 {
     is_table(u.section) && matches!(u.kind, UnitKind::Row)
@@ -346,17 +353,174 @@ fn header_unit(alloc: Global, number: u16, u: Unit) -> Result<Unit, AllocError>
     })
 }
 
+// Adds the words that a row may have behind its numbers.
+fn add_words(kinds: &mut VecDeque<ParamKind>) -> Result<(), AllocError>
+    ensures value { IfOk result (λ _. kinds.new.items ≡ kinds.old.items ++ some_words) }
+{
+    kinds.push_back(ParamKind::Noun)?;
+    kinds.push_back(ParamKind::Noun)?;
+    kinds.push_back(ParamKind::Noun)?;
+    kinds.push_back(ParamKind::Noun)?;
+    kinds.push_back(ParamKind::Noun)?;
+    kinds.push_back(ParamKind::Noun)?;
+    Ok(())
+}
+
+// What the tokens of a row name, by its section.
+fn row_kinds(alloc: Global, section: usize) -> Result<VecDeque<ParamKind>, AllocError>
+    ensures value { IfOk result (λ kinds. kinds.items ≡ row_kinds section) }
+{
+    let mut kinds = VecDeque::new(alloc);
+    if section == WORDS {
+        kinds.push_back(ParamKind::Noun)?;
+        kinds.push_back(ParamKind::Number)?;
+    } else if section == EXITS {
+        kinds.push_back(ParamKind::Noun)?;
+        kinds.push_back(ParamKind::Location)?;
+    } else if section == OBJECTS {
+        kinds.push_back(ParamKind::Object)?;
+        kinds.push_back(ParamKind::Place)?;
+        kinds.push_back(ParamKind::Number)?;
+    }
+    add_words(&mut kinds)?;
+    Ok(kinds)
+}
+
+// The lines of a row.
+fn row_named(
+    alloc: Global,
+    known: &[Known],
+    kinds: VecDeque<ParamKind>,
+    lines: Vec<Line>,
+) -> Result<Vec<Line>, AllocError>
+    ensures value { IfOk result (λ named. named.items ≡ row_named known.now kinds.items lines.items) }
+{
+    let mut left = VecDeque::from(lines);
+    if let Some(line) = left.pop_front() {
+        left.push_front(line_named(alloc, known, kinds, line)?)?;
+    }
+    Ok(Vec::from(left))
+}
+
+// Whether a unit is a row of words, exits or objects.
+fn is_plain_row(u: &Unit) -> bool
+    ensures value { result ≡ is_plain_row u.now }
+{
+    matches!(u.kind, UnitKind::Row)
+        && (u.section == WORDS || u.section == EXITS || u.section == OBJECTS)
+}
+
+// A row with numbers in the place of names.
+fn row_unit(alloc: Global, known: &[Known], u: Unit) -> Result<Unit, AllocError>
+    ensures value { IfOk result (λ named. named ≡ record u { lines = row_named known.now (row_kinds u.section) u.lines }) }
+{
+    let Unit {
+        section,
+        table,
+        file,
+        kind,
+        lines,
+    } = u;
+    let kinds = row_kinds(alloc, section)?;
+    let lines = row_named(alloc, known, kinds, lines)?;
+    Ok(Unit {
+        section,
+        table,
+        file,
+        kind,
+        lines,
+    })
+}
+
+// Whether a unit is an item of exits.
+fn is_exits_item(u: &Unit) -> bool
+    ensures value { result ≡ is_exits_item u.now }
+{
+    matches!(u.kind, UnitKind::Item) && u.section == EXITS
+}
+
+// The first part of an item of exits, with the number of a location in the place of its name.
+fn mark_named(alloc: Global, known: &[Known], part: Fragment) -> Result<Fragment, AllocError>
+    ensures value { IfOk result (λ named. named ≡ mark_named known.now part) }
+{
+    let word = part.bytes.as_slice();
+    let number = number_of(NameKind::Location, without_first(word), known);
+    Ok(Fragment {
+        origin: part.origin,
+        bytes: word_or_number(alloc, word, b"/", number)?,
+    })
+}
+
+// The first line of an item of exits.
+fn mark_line(alloc: Global, known: &[Known], line: Line) -> Result<Line, AllocError>
+    ensures value { IfOk result (λ named. named ≡ mark_line known.now line) }
+{
+    let Line { parts } = line;
+    let mut left = VecDeque::from(parts);
+    if let Some(part) = left.pop_front() {
+        left.push_front(mark_named(alloc, known, part)?)?;
+    }
+    Ok(Line {
+        parts: Vec::from(left),
+    })
+}
+
+// The lines of an item of exits.
+fn item_named(alloc: Global, known: &[Known], lines: Vec<Line>) -> Result<Vec<Line>, AllocError>
+    ensures value { IfOk result (λ named. named.items ≡ item_named known.now lines.items) }
+{
+    let mut left = VecDeque::from(lines);
+    if let Some(line) = left.pop_front() {
+        left.push_front(mark_line(alloc, known, line)?)?;
+    }
+    Ok(Vec::from(left))
+}
+
+// An item of exits with the number of a location.
+fn item_unit(alloc: Global, known: &[Known], u: Unit) -> Result<Unit, AllocError>
+    ensures value { IfOk result (λ named. named ≡ record u { lines = item_named known.now u.lines }) }
+{
+    let Unit {
+        section,
+        table,
+        file,
+        kind,
+        lines,
+    } = u;
+    let lines = item_named(alloc, known, lines)?;
+    Ok(Unit {
+        section,
+        table,
+        file,
+        kind,
+        lines,
+    })
+}
+
+// A unit outside of tables with numbers in the place of names.
+fn other_named(alloc: Global, known: &[Known], u: Unit) -> Result<Unit, AllocError>
+    ensures value { IfOk result (λ named. named ≡ record u { lines = other_lines known.now u }) }
+{
+    if is_plain_row(&u) {
+        row_unit(alloc, known, u)
+    } else if is_exits_item(&u) {
+        item_unit(alloc, known, u)
+    } else {
+        Ok(u)
+    }
+}
+
 // A unit with numbers in the place of names.
 fn unit_named(alloc: Global, known: &[Known], u: Unit) -> Result<Unit, AllocError>
     ensures value { IfOk result (λ named. named ≡ unit_named known.now u) }
 {
     if is_entry(&u) {
-        return entry_unit(alloc, known, u);
+        entry_unit(alloc, known, u)
+    } else if is_numbered(&u) {
+        header_unit(alloc, table_number(&u), u)
+    } else {
+        other_named(alloc, known, u)
     }
-    if is_numbered(&u) {
-        return header_unit(alloc, table_number(&u), u);
-    }
-    Ok(u)
 }
 
 /// All units with numbers in the place of names.

@@ -11,7 +11,7 @@ ghost use Rattle.paw_author.specs.declared.sections.TheConstants.{SECTIONS, WORD
 
 use crate::fragment::{Fragment, Line, Origin};
 use crate::hooks::{add_lines, add_unit, has_no_name, is_header, is_hook};
-use crate::sections::{SECTIONS, WORDS};
+use crate::sections::{NAMES, SECTIONS, WORDS};
 use crate::tokens::line_origin;
 use crate::units::Unit;
 use std::alloc::{AllocError, Global};
@@ -225,6 +225,9 @@ fn add_section(
 ) -> Result<(), AllocError>
     ensures value { IfOk result (λ _. out.new.items ≡ out.old.items ++ section_lines files all.now section) }
 {
+    if section == NAMES {
+        return Ok(());
+    }
     add_header(alloc, all, section, out)?;
     let mut lines = lines_in_files(alloc, all, section, files_of(files, section))?;
     out.append(&mut lines)?;

@@ -4,7 +4,7 @@ ghost use Rattle.std.specs.Prelude.{◌≡◌, ◌≤◌, ◌+◌};
 ghost use Rattle.std.specs.List.{position};
 ghost use Rattle.std.specs.Option.{option_map};
 ghost use Rattle.paw_author.specs.Tokens.{is_same};
-ghost use Rattle.paw_author.specs.Sections.{number_after, is_number, table_section, index_of_name, headers};
+ghost use Rattle.paw_author.specs.Sections.{number_after, is_number, written_number, table_section, index_of_name, headers};
 ghost use Rattle.paw_author.specs.Sections.{is_table_header, header_section, has_texts, has_items, has_facts, is_table};
 
 use crate::fragment::Fragment;
@@ -15,6 +15,9 @@ static HEADERS: [&[u8]; 11] = [
     b"/NAMES", b"/KINDS", b"/THINGS", b"/LNG", b"/VOC", b"/STX", b"/MTX", b"/OTX", b"/LTX",
     b"/CON", b"/OBJ",
 ];
+
+/// The section of names, which doesn't come out.
+pub(crate) const NAMES: usize = 1;
 
 /// The section of kinds.
 const KINDS: usize = 2;
@@ -31,6 +34,9 @@ pub(crate) const WORDS: usize = 5;
 /// The section of exits, the first behind those with texts.
 pub(crate) const EXITS: usize = 10;
 
+/// The section of objects.
+pub(crate) const OBJECTS: usize = 11;
+
 /// The section of table 0; that of table n is n further on.
 pub(crate) const TABLES: usize = 12;
 
@@ -41,19 +47,19 @@ pub(crate) const NAMED_TABLES: usize = 268;
 pub(crate) const SECTIONS: usize = 268;
 
 /// How many numbers a table may have.
-const TABLE_NUMBERS: usize = 256;
+const TABLE_NUMBERS: u16 = 256;
 
 // The number that decimal digits are; 256 stands for any number from there on.
 #[tactic(auto, using(crate::proofs::Digits::one_digit, crate::proofs::Digits::no_digit))]
-fn number_of(word: &[u8]) -> Option<usize>
+fn number_of(word: &[u8]) -> Option<u16>
     ensures value { result ≡ number_after 0 word.now }
 {
-    let mut number: usize = 0;
+    let mut number: u16 = 0;
     for byte in word {
         if !byte.is_ascii_digit() {
             return None;
         }
-        number = (10 * number + usize::from(*byte - b'0')).min(TABLE_NUMBERS);
+        number = (10 * number + u16::from(*byte - b'0')).min(TABLE_NUMBERS);
     }
     Some(number)
 }
@@ -63,6 +69,17 @@ pub(crate) fn is_number(token: &[u8]) -> bool
     ensures value { result ≡ is_number token.now }
 {
     !token.is_empty() && number_of(token).is_some()
+}
+
+/// The number that a word is; 256 stands for any number from there on.
+pub(crate) fn written_number(word: &[u8]) -> Option<u16>
+    ensures value { result ≡ written_number word.now }
+{
+    if is_number(word) {
+        number_of(word)
+    } else {
+        None
+    }
 }
 
 // The section of the table that a word names.
@@ -76,7 +93,7 @@ fn table_section(word: &[u8]) -> usize
         None => NAMED_TABLES,
         Some(number) => {
             if number < TABLE_NUMBERS {
-                TABLES + number
+                TABLES + number as usize
             } else {
                 NAMED_TABLES
             }

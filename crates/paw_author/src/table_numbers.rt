@@ -6,22 +6,21 @@ ghost use Rattle.paw_author.specs.declared.sections.TheConstants.{TABLES, NAMED_
 ghost use Rattle.paw_author.specs.declared.known.NameKind.TheVariants.{Table};
 ghost use Rattle.paw_author.specs.Hooks.{is_for_hook};
 ghost use Rattle.paw_author.specs.Known.{number_of};
-ghost use Rattle.paw_author.specs.TableNumbers.{is_numbered, numbers_written, name_origin, table_named, known_once, name_written};
-ghost use Rattle.paw_author.specs.TableNumbers.{names_written, is_named_table, given, given_once, name_given, names_given};
+ghost use Rattle.paw_author.specs.TableNumbers.{is_numbered, numbers_written, is_table_name, numbers_known, first_taken, known_once, name_written};
+ghost use Rattle.paw_author.specs.TableNumbers.{names_written, is_named_table, name_given, names_given};
 ghost use Rattle.paw_author.specs.TableNumbers.{tables_known, in_table, unit_numbered};
 
 use crate::fragment::Origin;
 use crate::hooks::{HookName, first_line, is_for_hook, is_header};
-use crate::known::{Known, NameKind, is_name, least_free, number_of};
+use crate::known::{Known, NameKind, Numbers, given_once, is_name, kind_index, named, number_of};
 use crate::mistake::{AuthorError, wrong_line};
 use crate::sections::{NAMED_TABLES, TABLES};
-use crate::tokens::{origin_of, token, token_at, token_count};
+use crate::tokens::{token_at, token_count, token_origin};
 use crate::units::Unit;
 use paw_base::fault::SourceKind;
 use paw_read_error::read_error::ReadError;
 use std::alloc::{AllocError, Global};
 use std::collections::VecDeque;
-use std::marker::Model;
 
 /// The least number that is given.
 const FIRST_GIVEN: u16 = 3;
@@ -66,24 +65,6 @@ fn add_numbers(all: &[Unit], numbers: &mut Vec<u16>) -> Result<(), AllocError>
     Ok(())
 }
 
-// The place of the token of a header with this index.
-fn name_origin(index: usize, u: &Unit) -> Origin
-    ensures value { result ≡ name_origin index u.now }
-{
-    origin_of(token(first_line(u), index))
-}
-
-// The name of a table with this number.
-fn table_named(alloc: Global, name: &[u8], number: u16) -> Result<Known, AllocError>
-    ensures value { IfOk result (λ known. known ≡ table_named name.now number) }
-{
-    Ok(Known {
-        kind: NameKind::Table,
-        name: Vec::from_slice(alloc, name)?,
-        number,
-    })
-}
-
 // A name is known for one number alone.
 fn known_once(
     alloc: Global,
@@ -98,7 +79,7 @@ fn known_once(
     let mut more = known;
     match before {
         None => {
-            more.push(table_named(alloc, name, number)?)?;
+            more.push(named(alloc, NameKind::Table, name, number)?)?;
             Ok(more)
         }
         Some(other) => {
@@ -120,7 +101,7 @@ fn name_written(alloc: Global, u: &Unit, known: Vec<Known>) -> Result<Vec<Known>
         return Ok(known);
     }
     let name = token_at(2, line);
-    let origin = name_origin(2, u);
+    let origin = token_origin(2, line);
     if !is_name(name) {
         return Err(ReadError::Fault(wrong_line(origin, SourceKind::Word)));
     }
@@ -139,36 +120,21 @@ fn unit_written(alloc: Global, u: &Unit, known: Vec<Known>) -> Result<Vec<Known>
     }
 }
 
-// The names that stand behind numbers.
+// The names so far with all that stand behind numbers.
 #[tactic(auto, unfolding(crate::specs::TableNumbers::names_written))]
-fn names_written(alloc: Global, all: &[Unit]) -> Result<Vec<Known>, AuthorError>
-    ensures gives { Gives (λ known. known.items) result (names_written [] all.now) }
+fn names_written(alloc: Global, known: Vec<Known>, all: &[Unit]) -> Result<Vec<Known>, AuthorError>
+    ensures gives { Gives (λ more. more.items) result (names_written known.items all.now) }
 {
-    let mut known = Vec::new(alloc);
+    let mut more = known;
     let mut left = all;
     while let Some((u, below)) = left.split_first() {
-        known = unit_written(alloc, u, known)?;
+        more = unit_written(alloc, u, more)?;
         left = below;
     }
-    Ok(known)
+    Ok(more)
 }
 
 // ---- given numbers ----
-
-/// The names so far, and the numbers that tables have.
-#[derive(Drop)]
-struct Tables {
-    known: Vec<Known>,
-    taken: Vec<u16>,
-}
-
-impl Model for Tables {
-    ghost use Rattle.paw_author.specs.TableNumbers.{TablesGiven};
-
-    ghost Value = { TablesGiven };
-
-    ghost view = { λ s. record { known = s.known.items; taken = s.taken.items } };
-}
 
 // Whether a unit is the header of a table with a name alone, which isn't that of a place.
 fn is_named_table(hooks: &[HookName], u: &Unit) -> bool
@@ -177,64 +143,33 @@ fn is_named_table(hooks: &[HookName], u: &Unit) -> bool
     is_header(u) && u.section == NAMED_TABLES && !is_for_hook(hooks, u)
 }
 
-// A number for a name, if there is one left.
-fn given(
-    alloc: Global,
-    number: Option<u16>,
-    origin: Origin,
-    name: &[u8],
-    s: Tables,
-) -> Result<Tables, AuthorError>
-    ensures gives { Gives (λ next. next) result (given number origin name.now s) }
-{
-    match number {
-        None => Err(ReadError::Fault(wrong_line(origin, SourceKind::TooBig))),
-        Some(n) => {
-            let Tables {
-                mut known,
-                mut taken,
-            } = s;
-            known.push(table_named(alloc, name, n)?)?;
-            taken.push(n)?;
-            Ok(Tables { known, taken })
-        }
-    }
-}
-
-// The number of a name: the one that it has, or the least that no table has.
-fn given_once(
-    alloc: Global,
-    before: Option<u16>,
-    origin: Origin,
-    name: &[u8],
-    s: Tables,
-) -> Result<Tables, AuthorError>
-    ensures gives { Gives (λ next. next) result (given_once before origin name.now s) }
-{
-    match before {
-        Some(_) => Ok(s),
-        None => {
-            let number = least_free(FIRST_GIVEN, GIVEN_COUNT, s.taken.as_slice());
-            given(alloc, number, origin, name, s)
-        }
-    }
-}
-
 // What is given for the header of a table with a name alone.
-fn name_given(alloc: Global, u: &Unit, s: Tables) -> Result<Tables, AuthorError>
+fn name_given(alloc: Global, u: &Unit, s: Numbers) -> Result<Numbers, AuthorError>
     ensures gives { Gives (λ next. next) result (name_given u.now s) }
 {
     let name = u.table.as_slice();
-    let origin = name_origin(1, u);
+    let origin = token_origin(1, first_line(u));
     if !is_name(name) {
         return Err(ReadError::Fault(wrong_line(origin, SourceKind::Word)));
     }
-    let before = number_of(NameKind::Table, name, s.known.as_slice());
-    given_once(alloc, before, origin, name, s)
+    given_once(
+        alloc,
+        FIRST_GIVEN,
+        GIVEN_COUNT,
+        NameKind::Table,
+        origin,
+        name,
+        s,
+    )
 }
 
 // What is given for a unit, where it is the header of a table with a name alone.
-fn unit_given(alloc: Global, hooks: &[HookName], u: &Unit, s: Tables) -> Result<Tables, AuthorError>
+fn unit_given(
+    alloc: Global,
+    hooks: &[HookName],
+    u: &Unit,
+    s: Numbers,
+) -> Result<Numbers, AuthorError>
     ensures gives { Gives (λ next. next) result (if is_named_table hooks.now u.now then name_given u.now s else Ok s) }
 {
     if is_named_table(hooks, u) {
@@ -250,8 +185,8 @@ fn names_given(
     alloc: Global,
     hooks: &[HookName],
     all: &[Unit],
-    s: Tables,
-) -> Result<Tables, AuthorError>
+    s: Numbers,
+) -> Result<Numbers, AuthorError>
     ensures gives { Gives (λ next. next) result (names_given hooks.now s all.now) }
 {
     let mut next = s;
@@ -263,33 +198,62 @@ fn names_given(
     Ok(next)
 }
 
+// Whether a name is that of a table.
+fn is_table_name(known: &Known) -> bool
+    ensures value { result ≡ is_table_name known.now }
+{
+    kind_index(known.kind) == kind_index(NameKind::Table)
+}
+
+// Adds the number of a name, where it is that of a table.
+fn add_known(known: &Known, numbers: &mut Vec<u16>) -> Result<(), AllocError>
+    ensures value { IfOk result (λ _. numbers.new.items ≡ numbers.old.items ++ (if is_table_name known.now then known.now.number ∷ [] else [])) }
+{
+    if is_table_name(known) {
+        numbers.push(known.number)?;
+    }
+    Ok(())
+}
+
+// Adds the numbers of tables that are known by a name.
+fn add_numbers_known(known: &[Known], numbers: &mut Vec<u16>) -> Result<(), AllocError>
+    ensures value { IfOk result (λ _. numbers.new.items ≡ numbers.old.items ++ numbers_known known.now) }
+{
+    for k in known {
+        add_known(k, numbers)?;
+    }
+    Ok(())
+}
+
 // The numbers that tables have before any is given.
-fn first_taken(alloc: Global, all: &[Unit]) -> Result<Vec<u16>, AllocError>
-    ensures value { IfOk result (λ taken. taken.items ≡ 0 ∷ 1 ∷ 2 ∷ numbers_written all.now) }
+fn first_taken(known: &[Known], alloc: Global, all: &[Unit]) -> Result<Vec<u16>, AllocError>
+    ensures value { IfOk result (λ taken. taken.items ≡ first_taken known.now all.now) }
 {
     let mut taken = Vec::new(alloc);
     taken.push(0)?;
     taken.push(1)?;
     taken.push(2)?;
+    add_numbers_known(known, &mut taken)?;
     add_numbers(all, &mut taken)?;
     Ok(taken)
 }
 
-/// The names of all tables.
+/// The names so far with those of all tables.
 ///
 /// # Errors
 /// The first fault, or lack of memory.
 pub(crate) fn tables_known(
     alloc: Global,
     hooks: &[HookName],
+    known: Vec<Known>,
     all: &[Unit],
 ) -> Result<Vec<Known>, AuthorError>
-    ensures gives { Gives (λ known. known.items) result (tables_known hooks.now all.now) }
+    ensures gives { Gives (λ more. more.items) result (tables_known hooks.now known.items all.now) }
 {
-    let known = names_written(alloc, all)?;
-    let taken = first_taken(alloc, all)?;
-    let s = names_given(alloc, hooks, all, Tables { known, taken })?;
-    let Tables { known, .. } = s;
+    let taken = first_taken(known.as_slice(), alloc, all)?;
+    let known = names_written(alloc, known, all)?;
+    let s = names_given(alloc, hooks, all, Numbers { known, taken })?;
+    let Numbers { known, .. } = s;
     Ok(known)
 }
 

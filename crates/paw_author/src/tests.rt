@@ -154,6 +154,29 @@ fn tables_have_numbers_in_the_place_of_names(rt: HostRuntime) -> Result<(), Fail
 }
 
 #[test]
+fn names_of_rows_stand_for_their_numbers(rt: HostRuntime) -> Result<(), Fail> {
+    let alloc = rt.alloc();
+    let game =
+        b"/INCLUDE lib\n/NAMES\nlamp 2 object\nhall 1 location\ncoins flag\nscore 30 flag\nbest 5 number\n\
+        bye 4 message\nwalk 9 table\n/CON\n/hall ; here\nN hall\nEAST 0 ; x\n/OBJ\nlamp hall best - LAMP _\n\
+        1 WORN 1 C hall lamp\n/VOC\nN 1 verb\nX best verb\nhall 60 noun\n/PRO walk\n\
+        hall lamp AT hall PRESENT lamp PLACE lamp HERE EQ score best\n\
+        \x20LET coins 3 SET @score MESSAGE bye SET 60 PROCESS walk GT 61 best + hall\n\
+        /PRO other\n_ _ MES @coins TIME best lamp\n";
+    let lib =
+        b"/NAMES\nlamp 7 object\nextra flag\nothers flag\n/PRO 0\n_ _ SET extra SET 62 SET others\n";
+    let plain = source_of_two(alloc, game, lib).ok().ok_or("refused")?;
+    let bytes = bytes_of(alloc, plain.lines.as_slice())?;
+    let wanted =
+        b"/VOC\nN 1 verb\nX 5 verb\nhall 60 noun\n/STX\n/MTX\n/OTX\n/LTX\n/CON\n/1 ; here\nN 1\nEAST 0 ; x\n\
+        /OBJ\n2 1 5 - LAMP _\n1 WORN 1 C hall lamp\n/PRO 0\n_ _ SET 64 SET 62 SET 65\n/PRO 1\n/PRO 2\n/PRO 3\n\
+        _ _ MES @63 TIME 5 2\n/PRO 9\nhall lamp AT 1 PRESENT 2 PLACE 2 HERE EQ 30 5\n\
+        \x20LET 63 3 SET @30 MESSAGE 4 SET 60 PROCESS 9 GT 61 5 + 1\n";
+    assert_eq!(rt; bytes.as_slice(), wanted.as_slice());
+    Ok(())
+}
+
+#[test]
 fn each_file_stands_before_all_that_it_includes(rt: HostRuntime) -> Result<(), Fail> {
     let alloc = rt.alloc();
     let mut files = Vec::new(alloc);
@@ -196,7 +219,9 @@ fn the_first_mistake_is_named(rt: HostRuntime) {
     let duplicate = MistakeKind::Line(SourceKind::Duplicate);
     let text = MistakeKind::Line(SourceKind::Text);
     let word = MistakeKind::Line(SourceKind::Word);
-    let faulty: [(&[u8], &[u8], usize, usize, usize, MistakeKind); 23] = [
+    let number = MistakeKind::Line(SourceKind::Number);
+    let range = MistakeKind::Line(SourceKind::Range);
+    let faulty: [(&[u8], &[u8], usize, usize, usize, MistakeKind); 31] = [
         (b"/IF\n", b"", 0, 1, 1, section),
         (b"\n/ENDIF\n", b"", 0, 2, 1, section),
         (b"/IF a\n/ELSE\n/ELSE\n/ENDIF\n", b"", 0, 3, 1, section),
@@ -236,6 +261,14 @@ fn the_first_mistake_is_named(rt: HostRuntime) {
             duplicate,
         ),
         (b"/PRO 0\n/HOOK a\n/PRO A\n/HOOK b\n", b"", 0, 4, 1, section),
+        (b"/NAMES\na 3 thing\n", b"", 0, 2, 5, word),
+        (b"/NAMES\na 3 flag x\n", b"", 0, 2, 10, extra),
+        (b"/NAMES\n3 3 flag\n", b"", 0, 2, 1, word),
+        (b"/NAMES\nhere 3 location\n", b"", 0, 2, 1, word),
+        (b"/NAMES\na object\n", b"", 0, 2, 3, missing),
+        (b"/NAMES\na b flag\n", b"", 0, 2, 3, number),
+        (b"/NAMES\na 256 flag\n", b"", 0, 2, 3, range),
+        (b"/NAMES\na 25 flag\nA flag\n", b"", 0, 3, 1, duplicate),
         (b"/PRO 3 a\n/PRO 4 a\n", b"", 0, 2, 8, duplicate),
         (b"/PRO 3 a-b\n", b"", 0, 1, 8, word),
         (b"/PRO 2a\n", b"", 0, 1, 6, word),

@@ -4,7 +4,7 @@ ghost use Rattle.std.specs.Prelude.{◌≡◌, ◌==◌, true, drop, IfOk, count
 ghost use Rattle.std.specs.Option.{option_copied};
 ghost use Rattle.paw_read_error.specs.inner.Gives.{Gives};
 ghost use Rattle.paw_author.specs.Tokens.{starts_with_byte, is_token, tokens_of, bytes_of, token_at, token_count, is_same};
-ghost use Rattle.paw_author.specs.Tokens.{first_bytes, origin_of, line_origin, leading_word, begins_with_slash};
+ghost use Rattle.paw_author.specs.Tokens.{first_bytes, origin_of, line_origin, token_origin, leading_word, begins_with_slash};
 ghost use Rattle.paw_author.specs.Tokens.{is_quoted, unquoted, unquoted_from, is_closed, nothing_behind, text_ends, texts_end};
 
 use crate::fragment::{Fragment, Origin};
@@ -128,6 +128,13 @@ pub(crate) fn line_origin(line: &[Fragment]) -> Origin
     ensures value { result ≡ line_origin line.now }
 {
     origin_of(line.first())
+}
+
+/// Where the token of a line with this index stands.
+pub(crate) fn token_origin(index: usize, line: &[Fragment]) -> Origin
+    ensures value { result ≡ token_origin index line.now }
+{
+    origin_of(token(line, index))
 }
 
 // Whether the first part of a line is a token.
