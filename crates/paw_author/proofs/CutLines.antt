@@ -21,7 +21,7 @@ some_part b bs =
     positive (is_gap b) (b == 59) (b == 43) (b == 34) (prefix_len is_gap bs) (length bs) (quoted_len true bs)
     (position_or_len stops_token bs)
 
--- What is left behind a part is shorter.
+-- What is left after a part is shorter.
 pub rest_is_shorter : (b : ℕ) (bs : Bytes) → length (drop (part_len (b ∷ bs)) (b ∷ bs)) ≤ length bs
 rest_is_shorter b bs =
     let some : 1 ≤ part_len (b ∷ bs) = some_part b bs in

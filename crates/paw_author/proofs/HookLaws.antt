@@ -5,7 +5,7 @@ use Rattle.paw_base.specs.Bytes.{Names}
 use Rattle.paw_read_error.specs.Bind.{◌>>=◌}
 use Rattle.paw_author.specs.Hooks.{hook_known, hooks_known}
 use Rattle.paw_author.specs.Known.{NumbersGiven}
-use Rattle.paw_author.specs.NameRows.{is_name_row, row_known, rows_known}
+use Rattle.paw_author.specs.NameRows.{is_naming, naming_known, namings_known}
 use Rattle.paw_author.specs.Units.{UnitLines}
 use Rattle.paw_author.proofs.Rows.{from_unit}
 
@@ -25,14 +25,14 @@ no_hook hooks all i h = rw (drop_all i all h) refl
 -- ---- rows of names ----
 
 pub one_name_row : (all : List UnitLines) (i : ℕ) (u : UnitLines) (s : NumbersGiven) → u ≡ get_or all i u → i < length all
-    → rows_known (take i all) s (drop i all)
-    ≡ ((if is_name_row u then row_known (take i all) u s else Ok s) >>= λ next. rows_known (take (i + 1) all) next (drop (i + 1) all))
-unfolding rows_known
+    → namings_known (take i all) s (drop i all)
+    ≡ ((if is_naming u then naming_known (take i all) u s else Ok s) >>= λ next. namings_known (take (i + 1) all) next (drop (i + 1) all))
+unfolding namings_known
 one_name_row all i u s e h =
-    ap (λ (us : List UnitLines). rows_known (take i all) s us) (from_unit all i u e h)
-    ∙ ap (λ (before : List UnitLines). (if is_name_row u then row_known (take i all) u s else Ok s) >>= λ next. rows_known before next (drop (i + 1) all))
+    ap (λ (us : List UnitLines). namings_known (take i all) s us) (from_unit all i u e h)
+    ∙ ap (λ (before : List UnitLines). (if is_naming u then naming_known (take i all) u s else Ok s) >>= λ next. namings_known before next (drop (i + 1) all))
     (sym (take_more all i u h ∙ ap (λ (x : UnitLines). take i all ++ x ∷ []) (sym e)))
 
-pub no_name_row : (all : List UnitLines) (i : ℕ) (s : NumbersGiven) → length all ≤ i → rows_known (take i all) s (drop i all) ≡ Ok s
-unfolding rows_known
+pub no_name_row : (all : List UnitLines) (i : ℕ) (s : NumbersGiven) → length all ≤ i → namings_known (take i all) s (drop i all) ≡ Ok s
+unfolding namings_known
 no_name_row all i s h = rw (drop_all i all h) refl

@@ -10,7 +10,7 @@ use Rattle.paw_author.specs.declared.mistake.Mistake.{Mistake}
 use Rattle.paw_author.specs.Authored.{joined_lines}
 use Rattle.paw_author.specs.FileLines.{whole_lines, with_numbers, file_lines}
 use Rattle.paw_author.specs.Fragments.{LinesInParts}
-use Rattle.paw_author.specs.Laws.{line_bytes, all_bytes, PlainStays, LinesAreTheFile}
+use Rattle.paw_author.specs.Laws.{bytes_of_parts, all_bytes, PlainStays, LinesAreTheFile}
 use Rattle.paw_author.specs.Parts.{part_len, further, parts_from}
 use Rattle.paw_author.specs.PlainSources.{is_plain_source}
 use Rattle.paw_author.proofs.CutLines.{rest_is_shorter}
@@ -28,7 +28,7 @@ plain_stays switches file files short h =
 -- ---- bytes ----
 
 -- The parts of a line are its bytes.
-parts_bytes : (n : ℕ) (origin : Origin) (s : Bytes) → length s ≤ n → line_bytes (parts_from n origin s) ≡ s
+parts_bytes : (n : ℕ) (origin : Origin) (s : Bytes) → length s ≤ n → bytes_of_parts (parts_from n origin s) ≡ s
 unfolding parts_from
 parts_bytes zero origin [] h = refl
 parts_bytes zero origin (b ∷ bs) h = absurd (omega arith)

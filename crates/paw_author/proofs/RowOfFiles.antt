@@ -1,4 +1,4 @@
--- The row of files, one line after another from behind.
+-- The row of files, one line after another from after.
 use Rattle.std.proofs.Common.{◌≡◌, ℕ, zero, suc, ◌<◌, ◌-◌, ◌==◌, ◌++◌, false, [], ◌∷◌, length, get_or, slice_get, Some, Result, Ok, Err}
 use Rattle.std.proofs.Common.{refl, sym, ap, ◌∙◌, arith}
 use Rattle.std.specs.List.{list_any}
@@ -10,7 +10,7 @@ use Rattle.paw_read_error.specs.declared.read_error.ReadError.TheVariants.{Memor
 use Rattle.paw_read_error.specs.inner.Gives.{Fails}
 use Rattle.paw_author.specs.declared.mistake.Mistake.{Mistake}
 use Rattle.paw_author.specs.Fragments.{Fragments, LinesInParts}
-use Rattle.paw_author.specs.Includes.{ReadFile, ReadFiles, Row, line_before, lines_before, file_before}
+use Rattle.paw_author.specs.Includes.{ReadFile, ReadFiles, FileOrder, line_before, lines_before, file_before}
 
 regrouped : {A B C : Type 0} (r : Result A Mistake) (f : A → Result B Mistake) (g : B → Result C Mistake)
     → ((r >>= f) >>= g) ≡ (r >>= λ x. f x >>= g)
@@ -26,13 +26,13 @@ alone (Ok x) = refl
 alone (Err e) = refl
 
 -- The last of the lines comes first.
-pub last_first : (before : ℕ → Row → Result Row Mistake) (files : ReadFiles) (name : Name) (above : LinesInParts) (line : Fragments) (row : Row)
+pub last_first : (before : ℕ → FileOrder → Result FileOrder Mistake) (files : ReadFiles) (name : Name) (above : LinesInParts) (line : Fragments) (row : FileOrder)
     → lines_before before files name (above ++ line ∷ []) row
     ≡ (line_before before files name line row >>= λ more. lines_before before files name above more)
 unfolding lines_before
 last_first before files name [] line row = sym (alone (line_before before files name line row))
 last_first before files name (first ∷ above) line row =
-    ap (λ (r : Result Row Mistake). r >>= λ more. line_before before files name first more) (last_first before files name above line row)
+    ap (λ (r : Result FileOrder Mistake). r >>= λ more. line_before before files name first more) (last_first before files name above line row)
     ∙ regrouped (line_before before files name line row) (λ more. lines_before before files name above more)
     (λ more. line_before before files name first more)
 
@@ -51,13 +51,13 @@ bound_goes_on x r go all h f = h ∙ rw f refl
 
 -- ---- lines and files ----
 
-pub last_of_left : (before : ℕ → Row → Result Row Mistake) (files : ReadFiles) (name : Name) (left above : LinesInParts) (line : Fragments) (row : Row)
+pub last_of_left : (before : ℕ → FileOrder → Result FileOrder Mistake) (files : ReadFiles) (name : Name) (left above : LinesInParts) (line : Fragments) (row : FileOrder)
     → left ≡ above ++ line ∷ []
     → lines_before before files name left row
     ≡ (line_before before files name line row >>= λ more. lines_before before files name above more)
 last_of_left before files name left above line row e = rw e (last_first before files name above line row)
 
-pub file_goes_on : (depth : ℕ) (files : ReadFiles) (file : ℕ) (own : ReadFile) (row : Row) → (depth ≡ 0 → ⊥)
+pub file_goes_on : (depth : ℕ) (files : ReadFiles) (file : ℕ) (own : ReadFile) (row : FileOrder) → (depth ≡ 0 → ⊥)
     → list_any (λ other. other == file) row ≡ false → own ≡ get_or files file own → file < length files
     → file_before depth files file row
     ≡ (lines_before (file_before (depth - 1) files) files own.name own.lines row >>= λ more. Ok (file ∷ more))

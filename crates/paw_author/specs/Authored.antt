@@ -10,8 +10,8 @@ use Rattle.paw_author.specs.FileLines.{file_lines}
 use Rattle.paw_author.specs.Files.{NamedFile, NamedFiles}
 use Rattle.paw_author.specs.Fragments.{LinesInParts}
 use Rattle.paw_author.specs.Hooks.{hook_names, hooks_known}
-use Rattle.paw_author.specs.Includes.{row_of}
-use Rattle.paw_author.specs.Joining.{files_chosen, row_joined}
+use Rattle.paw_author.specs.Includes.{order_of_files}
+use Rattle.paw_author.specs.Joining.{files_chosen, order_joined}
 use Rattle.paw_author.specs.Order.{in_order}
 use Rattle.paw_author.specs.Known.{KnownNames}
 use Rattle.paw_author.specs.NamedLines.{unit_named}
@@ -30,13 +30,13 @@ named_lines files hooks known units =
     hooks_known hooks [] units >>= λ _. Ok (in_order files (map (λ u. unit_named known u) units))
 
 -- The lines of units, where tables have these names.
-abbrev pub numbered_lines : ℕ → Names → KnownNames → List UnitLines → Result LinesInParts Mistake
-numbered_lines files hooks known units = named_lines files hooks known (map (λ u. unit_numbered hooks known u) units)
+abbrev pub lines_with_tables : ℕ → Names → KnownNames → List UnitLines → Result LinesInParts Mistake
+lines_with_tables files hooks known units = named_lines files hooks known (map (λ u. unit_numbered hooks known u) units)
 
 -- The lines of units, where places have these names.
 abbrev pub hooked_lines : ℕ → Names → List UnitLines → Result LinesInParts Mistake
 hooked_lines files hooks units =
-    names_known units >>= λ names. tables_known hooks names units >>= λ known. numbered_lines files hooks known units
+    names_known units >>= λ names. tables_known hooks names units >>= λ known. lines_with_tables files hooks known units
 
 -- The lines of these units of a number of files.
 abbrev pub lines_of_units : ℕ → List UnitLines → Result LinesInParts Mistake
@@ -45,7 +45,7 @@ lines_of_units files units = hooked_lines files (hook_names units) units
 -- The lines of these files by sections, or the first mistake.
 abbrev pub joined_lines : Names → NamedFiles → Result LinesInParts Mistake
 joined_lines switches files =
-    files_chosen switches 0 [] files >>= λ chosen. row_of chosen >>= λ row. row_joined chosen 0 [] row
+    files_chosen switches 0 [] files >>= λ chosen. order_of_files chosen >>= λ row. order_joined chosen 0 [] row
     >>= λ units. lines_of_units (length row) units
 
 -- The lines of the plain source, or the first mistake. A first file that is a plain source comes out as it is.

@@ -16,15 +16,15 @@ use Rattle.paw_author.specs.Tokens.{leading_word, line_origin, token_at, token_c
 -- ---- what a line says ----
 
 -- The kind of a line that has to have this number of tokens.
-abbrev pub with_tokens : ℕ → IfLine → Fragments → IfLine
-with_tokens count kind line = if token_count line == count then kind else Wrong
+abbrev pub with_token_count : ℕ → IfLine → Fragments → IfLine
+with_token_count count kind line = if token_count line == count then kind else Wrong
 
 -- What a line says: `/IF` has one token after it, `/ELSE` and `/ENDIF` have none.
 abbrev pub if_line : Fragments → IfLine
 if_line line =
-    if is_same (leading_word line) (codes "/IF") then with_tokens 2 If line
-    else if is_same (leading_word line) (codes "/ELSE") then with_tokens 1 Else line
-    else if is_same (leading_word line) (codes "/ENDIF") then with_tokens 1 EndIf line
+    if is_same (leading_word line) (codes "/IF") then with_token_count 2 If line
+    else if is_same (leading_word line) (codes "/ELSE") then with_token_count 1 Else line
+    else if is_same (leading_word line) (codes "/ENDIF") then with_token_count 1 EndIf line
     else Other
 
 -- Whether one of the switches has this name, in any case of letters.

@@ -1,4 +1,4 @@
--- Places that are marked in tables: entries of other files come to stand there.
+-- Places that are marked in tables: entries of other files stand there.
 use Rattle.std.specs.Prelude.{◌==◌, ◌&&◌, ◌||◌, Bool, true, false, not, List, [], ◌∷◌, ◌++◌, filter, length, map, slice_get}
 use Rattle.std.specs.Prelude.{if◌then◌else◌, Option, Some, None, Result, Ok, Err}
 use Rattle.std.specs.List.{list_any, flat_map}
@@ -16,19 +16,22 @@ use Rattle.paw_author.specs.Units.{UnitLines}
 
 -- ---- what a unit is ----
 
+-- Whether a unit begins with a header.
 abbrev pub is_header : UnitKind → Bool
 is_header Header = true
 is_header _ = false
 
+-- Whether a unit marks a place.
 abbrev pub is_hook_kind : UnitKind → Bool
 is_hook_kind Hook = true
 is_hook_kind _ = false
 
--- The line that a unit begins with.
+-- A line, if there is one.
 abbrev pub line_or_none : Option Fragments → Fragments
 line_or_none None = []
 line_or_none (Some line) = line
 
+-- The line that a unit begins with.
 abbrev pub first_line : UnitLines → Fragments
 first_line u = line_or_none (slice_get u.lines 0)
 
@@ -51,8 +54,8 @@ abbrev pub stand_together : UnitLines → UnitLines → Bool
 stand_together u v = u.file == v.file && u.section == v.section && is_same u.table v.table
 
 -- Whether two units mark one place: they have the same name, or no name and stand in the same table of a file.
-abbrev pub mark_one_place : UnitLines → UnitLines → Bool
-mark_one_place u v =
+abbrev pub mark_the_same : UnitLines → UnitLines → Bool
+mark_the_same u v =
     is_hook_kind v.kind && is_same (hook_name u) (hook_name v)
     && (not (length (hook_name u) == 0) || stand_together u v)
 
@@ -61,7 +64,7 @@ abbrev pub hook_known : Names → List UnitLines → UnitLines → Result (Unit 
 hook_known hooks before u =
     if not (is_hook_kind u.kind) then Ok tt
     else if is_for_hook hooks u then Err (wrong_line (line_origin (first_line u)) Section)
-    else if list_any (λ v. mark_one_place u v) before then Err (wrong_line (line_origin (first_line u)) Duplicate)
+    else if list_any (λ v. mark_the_same u v) before then Err (wrong_line (line_origin (first_line u)) Duplicate)
     else Ok tt
 
 -- Each of these units, where those before them were looked at.

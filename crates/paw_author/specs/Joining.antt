@@ -9,7 +9,7 @@ use Rattle.paw_author.specs.declared.joining.TheConstants.{FILE_LIMIT}
 use Rattle.paw_author.specs.Choices.{chosen_lines}
 use Rattle.paw_author.specs.FileLines.{file_lines}
 use Rattle.paw_author.specs.Files.{NamedFile, NamedFiles}
-use Rattle.paw_author.specs.Includes.{ReadFile, ReadFiles, Row, lines_of}
+use Rattle.paw_author.specs.Includes.{ReadFile, ReadFiles, FileOrder, lines_or_none}
 use Rattle.paw_author.specs.Mistakes.{wrong_line}
 use Rattle.paw_author.specs.Units.{UnitLines, file_read}
 
@@ -27,7 +27,7 @@ files_chosen switches number chosen (file ∷ files) =
     file_chosen switches number file >>= λ one. files_chosen switches (suc number) (chosen ++ one ∷ []) files
 
 -- The units so far with those of the files that stand in the row from this place on.
-unfoldable pub row_joined : ReadFiles → ℕ → List UnitLines → Row → Result (List UnitLines) Mistake
-row_joined files place units [] = Ok units
-row_joined files place units (file ∷ row) =
-    file_read place units (lines_of (slice_get files file)) >>= λ more. row_joined files (suc place) more row
+unfoldable pub order_joined : ReadFiles → ℕ → List UnitLines → FileOrder → Result (List UnitLines) Mistake
+order_joined files place units [] = Ok units
+order_joined files place units (file ∷ row) =
+    file_read place units (lines_or_none (slice_get files file)) >>= λ more. order_joined files (suc place) more row

@@ -18,6 +18,7 @@ pub record KnownName : Type 0 where
   pub name : Name
   pub number : ℕ
 
+-- Names that are known, of which the first counts.
 abbrev pub KnownNames : Type 0
 KnownNames = List KnownName
 
@@ -40,33 +41,33 @@ abbrev pub is_known_as : NameKind → Token → KnownName → Bool
 is_known_as kind word k = kind_index k.kind == kind_index kind && is_same k.name word
 
 -- The number that a word stands for as a name of this kind.
-abbrev pub number_of : NameKind → Token → KnownNames → Option ℕ
-number_of kind word known = number_where (is_known_as kind word) known
+abbrev pub number_for : NameKind → Token → KnownNames → Option ℕ
+number_for kind word known = number_where (is_known_as kind word) known
 
 -- The number that a word stands for as a name of any kind.
 abbrev pub number_of_any : Token → KnownNames → Option ℕ
 number_of_any word known = number_where (λ k. is_same k.name word) known
 
--- Whether a byte may stand in a name behind its first letter.
-abbrev pub is_name_byte : ℕ → Bool
-is_name_byte b = is_ascii_alphanumeric b || b == 95
+-- Whether a byte may stand in a name after its first letter.
+abbrev pub may_be_in_name : ℕ → Bool
+may_be_in_name b = is_ascii_alphanumeric b || b == 95
 
 -- Whether a word may be a name: letters, digits and underscores, a letter first.
-abbrev pub is_name : Token → Bool
-is_name [] = false
-is_name (b ∷ bs) = is_ascii_alphabetic b && list_all is_name_byte bs
+abbrev pub may_be_name : Token → Bool
+may_be_name [] = false
+may_be_name (b ∷ bs) = is_ascii_alphabetic b && list_all may_be_in_name bs
 
 -- Whether a number is one of these.
-abbrev pub is_among : List ℕ → ℕ → Bool
-is_among numbers n = list_any (λ m. m == n) numbers
+abbrev pub is_in_use : List ℕ → ℕ → Bool
+is_in_use numbers n = list_any (λ m. m == n) numbers
 
--- The least number from this one on that isn't taken, among so many.
+-- The least number from this one on that isn't taken, of this count.
 abbrev pub least_free : ℕ → ℕ → List ℕ → Option ℕ
-least_free from count taken = find (λ n. not (is_among taken n)) (range_with_len from count)
+least_free from count taken = find (λ n. not (is_in_use taken n)) (range_with_len from count)
 
 -- A name of this kind for a number.
-abbrev pub named : NameKind → Name → ℕ → KnownName
-named kind name number = record { kind = kind; name = name; number = number }
+abbrev pub name_for : NameKind → Name → ℕ → KnownName
+name_for kind name number = record { kind = kind; name = name; number = number }
 
 -- ---- numbers that are given ----
 
@@ -76,16 +77,16 @@ pub record NumbersGiven : Type 0 where
   pub taken : List ℕ
 
 -- A number for a name, if there is one left.
-abbrev pub given : Option ℕ → NameKind → Origin → Name → NumbersGiven → Result NumbersGiven Mistake
-given None kind origin name s = Err (wrong_line origin TooBig)
-given (Some n) kind origin name s = Ok (record { known = s.known ++ named kind name n ∷ []; taken = s.taken ++ n ∷ [] })
+abbrev pub with_given : Option ℕ → NameKind → Origin → Name → NumbersGiven → Result NumbersGiven Mistake
+with_given None kind origin name s = Err (wrong_line origin TooBig)
+with_given (Some n) kind origin name s = Ok (record { known = s.known ++ name_for kind name n ∷ []; taken = s.taken ++ n ∷ [] })
 
 -- The number of a name: the one that it has, or else a new one.
 abbrev pub given_unless : Option ℕ → Option ℕ → NameKind → Origin → Name → NumbersGiven → Result NumbersGiven Mistake
 given_unless (Some n) free kind origin name s = Ok s
-given_unless None free kind origin name s = given free kind origin name s
+given_unless None free kind origin name s = with_given free kind origin name s
 
--- The number of a name: the one that it has, or the least from this one on that isn't taken, among so many.
+-- The number of a name: the one that it has, or the least from this one on that isn't taken, of this count.
 abbrev pub given_once : ℕ → ℕ → NameKind → Origin → Name → NumbersGiven → Result NumbersGiven Mistake
 given_once from count kind origin name s =
-    given_unless (number_of kind name s.known) (least_free from count s.taken) kind origin name s
+    given_unless (number_for kind name s.known) (least_free from count s.taken) kind origin name s

@@ -9,12 +9,13 @@ use Rattle.paw_author.specs.Files.{NamedFile, NamedFiles}
 use Rattle.paw_author.specs.Fragments.{Fragments, LinesInParts}
 use Rattle.paw_author.specs.PlainSources.{is_plain_source}
 
--- The bytes of a line, and of lines.
-abbrev pub line_bytes : Fragments → Bytes
-line_bytes line = flat_map (λ part. part.bytes) line
+-- The bytes of a line.
+abbrev pub bytes_of_parts : Fragments → Bytes
+bytes_of_parts line = flat_map (λ part. part.bytes) line
 
+-- The bytes of lines.
 abbrev pub all_bytes : LinesInParts → Bytes
-all_bytes lines = flat_map (λ line. line_bytes line) lines
+all_bytes lines = flat_map (λ line. bytes_of_parts line) lines
 
 -- A plain source comes out as it is, whatever switches are on and whatever other files there are.
 abbrev pub PlainStays : Type 0

@@ -10,35 +10,35 @@ use Rattle.paw_author.specs.declared.sections.TheConstants.{WORDS, EXITS, OBJECT
 use Rattle.paw_author.specs.declared.units.UnitKind.{UnitKind}
 use Rattle.paw_author.specs.declared.units.UnitKind.TheVariants.{Item}
 use Rattle.paw_author.specs.Fragments.{WithOrigin, Fragments, LinesInParts}
-use Rattle.paw_author.specs.Known.{KnownNames, number_of, number_of_any}
-use Rattle.paw_author.specs.Sections.{is_number, is_table}
+use Rattle.paw_author.specs.Known.{KnownNames, number_for, number_of_any}
+use Rattle.paw_author.specs.Sections.{is_number, is_table_section}
 use Rattle.paw_author.specs.TableNumbers.{is_numbered}
 use Rattle.paw_author.specs.Tokens.{is_token, starts_with_byte}
-use Rattle.paw_author.specs.Units.{UnitLines, is_row}
+use Rattle.paw_author.specs.Units.{UnitLines, is_data_unit}
 
 -- ---- tokens ----
 
 -- The number that a word stands for as a parameter of this kind. Words of the vocabulary stand for none.
 abbrev pub number_meant : ParamKind → Token → KnownNames → Option ℕ
-number_meant param.Location word known = number_of name.Location word known
-number_meant param.Place word known = number_of name.Location word known
-number_meant param.Object word known = number_of name.Object word known
-number_meant param.Flag word known = number_of name.Flag word known
+number_meant param.Location word known = number_for name.Location word known
+number_meant param.Place word known = number_for name.Location word known
+number_meant param.Object word known = number_for name.Object word known
+number_meant param.Flag word known = number_for name.Flag word known
 number_meant param.Number word known = number_of_any word known
-number_meant param.Message word known = number_of name.Message word known
-number_meant param.System word known = number_of name.System word known
-number_meant param.Table word known = number_of name.Table word known
+number_meant param.Message word known = number_for name.Message word known
+number_meant param.System word known = number_for name.System word known
+number_meant param.Table word known = number_for name.Table word known
 number_meant _ word known = None
 
--- A number in decimal behind these bytes; the word itself where it stands for none.
+-- A number in decimal after these bytes; the word itself where it stands for none.
 abbrev pub word_or_number : Token → Bytes → Option ℕ → Token
 word_or_number word before None = word
 word_or_number word before (Some n) = before ++ decimal n
 
--- A parameter with its number in the place of a name; behind `@` stands the name of a flag.
+-- A parameter with its number in the place of a name; after `@` stands the name of a flag.
 abbrev pub parameter_named : KnownNames → ParamKind → Token → Token
 parameter_named known kind word =
-    if starts_with_byte 64 word then word_or_number word (64 ∷ []) (number_of name.Flag (drop 1 word) known)
+    if starts_with_byte 64 word then word_or_number word (64 ∷ []) (number_for name.Flag (drop 1 word) known)
     else word_or_number word [] (number_meant kind word known)
 
 -- ---- entries ----
@@ -53,12 +53,12 @@ abbrev pub kinds_of : Option ℕ → List ParamKind
 kinds_of None = []
 kinds_of (Some code) = kind_list (first_kind code) ++ kind_list (second_kind code)
 
--- The parameters that are still to come behind a word: where none are, the word is the name of a condact.
+-- The parameters that are still to come after a word: where none are, the word is the name of a condact.
 abbrev pub kinds_behind : List ParamKind → Token → List ParamKind
 kinds_behind [] word = kinds_of (code_named word)
 kinds_behind (kind ∷ kinds) word = kinds
 
--- The parameters that are still to come behind a part; `+` has a number behind it.
+-- The parameters that are still to come after a part; `+` has a number after it.
 abbrev pub kinds_left : List ParamKind → Bytes → List ParamKind
 kinds_left kinds part =
     if not (is_token part) then kinds
@@ -80,7 +80,7 @@ line_named known kinds (part ∷ parts) =
 abbrev pub two_words : List ParamKind
 two_words = param.Noun ∷ param.Noun ∷ []
 
--- The words that a row may have behind its numbers, and more.
+-- The words that a row may have after its numbers, and more.
 abbrev pub some_words : List ParamKind
 some_words = param.Noun ∷ param.Noun ∷ param.Noun ∷ param.Noun ∷ param.Noun ∷ param.Noun ∷ []
 
@@ -100,13 +100,13 @@ entry_named known (line ∷ lines) = line_named known two_words line ∷ map (λ
 abbrev pub number_part : ℕ → WithOrigin → WithOrigin
 number_part number part = if is_number part.bytes then part else record part { bytes = decimal number }
 
--- What stands behind the number of a table, without its name and the blanks before that.
+-- What stands after the number of a table, without its name and the blanks before that.
 abbrev pub without_name : Fragments → Fragments
 without_name [] = []
 without_name (gap ∷ []) = gap ∷ []
 without_name (gap ∷ name ∷ rest) = if is_token name.bytes then rest else gap ∷ name ∷ rest
 
--- The header of the table with this number: `/PRO`, blanks, the number or name, and what stands behind it.
+-- The header of the table with this number: `/PRO`, blanks, the number or name, and what stands after it.
 abbrev pub header_named : ℕ → Fragments → Fragments
 header_named number [] = []
 header_named number (mark ∷ []) = mark ∷ []
@@ -121,34 +121,34 @@ first_line_named number (line ∷ lines) = header_named number line ∷ lines
 -- ---- units ----
 
 -- Whether a unit is an entry: a row of a table.
-abbrev pub is_entry : UnitLines → Bool
-is_entry u = is_table u.section && is_row u.kind
+abbrev pub is_table_entry : UnitLines → Bool
+is_table_entry u = is_table_section u.section && is_data_unit u.kind
 
 -- What the tokens of a row name, by its section. Where no numbers stand, all are words.
-abbrev pub row_kinds : ℕ → List ParamKind
-row_kinds section =
+abbrev pub data_kinds : ℕ → List ParamKind
+data_kinds section =
     if section == WORDS then param.Noun ∷ param.Number ∷ some_words
     else if section == EXITS then param.Noun ∷ param.Location ∷ some_words
     else if section == OBJECTS then param.Object ∷ param.Place ∷ param.Number ∷ some_words
     else some_words
 
 -- The lines of a row: its first line has its tokens.
-abbrev pub row_named : KnownNames → List ParamKind → LinesInParts → LinesInParts
-row_named known kinds [] = []
-row_named known kinds (line ∷ lines) = line_named known kinds line ∷ lines
+abbrev pub data_named : KnownNames → List ParamKind → LinesInParts → LinesInParts
+data_named known kinds [] = []
+data_named known kinds (line ∷ lines) = line_named known kinds line ∷ lines
 
 -- Whether a unit is a row of words, exits or objects.
-abbrev pub is_plain_row : UnitLines → Bool
-is_plain_row u = is_row u.kind && (u.section == WORDS || u.section == EXITS || u.section == OBJECTS)
+abbrev pub has_numbers : UnitLines → Bool
+has_numbers u = is_data_unit u.kind && (u.section == WORDS || u.section == EXITS || u.section == OBJECTS)
 
 -- Whether a unit is an item of exits, which has the name of a location.
 abbrev pub is_exits_item : UnitLines → Bool
 is_exits_item u = is_item u.kind && u.section == EXITS
 
--- The number of a location in the place of its name, behind `/`.
+-- The number of a location in the place of its name, after `/`.
 abbrev pub mark_named : KnownNames → WithOrigin → WithOrigin
 mark_named known part =
-    record part { bytes = word_or_number part.bytes (47 ∷ []) (number_of name.Location (drop 1 part.bytes) known) }
+    record part { bytes = word_or_number part.bytes (47 ∷ []) (number_for name.Location (drop 1 part.bytes) known) }
 
 -- The first line of an item of exits, which begins with such a name.
 abbrev pub mark_line : KnownNames → Fragments → Fragments
@@ -163,14 +163,14 @@ item_named known (line ∷ lines) = mark_line known line ∷ lines
 -- The lines of a unit outside of tables.
 abbrev pub other_lines : KnownNames → UnitLines → LinesInParts
 other_lines known u =
-    if is_plain_row u then row_named known (row_kinds u.section) u.lines
+    if has_numbers u then data_named known (data_kinds u.section) u.lines
     else if is_exits_item u then item_named known u.lines
     else u.lines
 
 -- The lines of a unit with numbers in the place of names.
 abbrev pub lines_named : KnownNames → UnitLines → LinesInParts
 lines_named known u =
-    if is_entry u then entry_named known u.lines
+    if is_table_entry u then entry_named known u.lines
     else if is_numbered u then first_line_named (u.section - TABLES) u.lines
     else other_lines known u
 

@@ -6,7 +6,7 @@ use Rattle.paw_base.specs.Bytes.{Bytes, Lines}
 use Rattle.paw_author.specs.declared.sections.TheConstants.{NAMES, SECTIONS, WORDS}
 use Rattle.paw_author.specs.Fragments.{Fragments, LinesInParts}
 use Rattle.paw_author.specs.Hooks.{is_header, is_hook_kind, hook_name, unit_lines}
-use Rattle.paw_author.specs.Tokens.{bytes_of, line_origin}
+use Rattle.paw_author.specs.Tokens.{bytes_if_any, line_origin}
 use Rattle.paw_author.specs.Units.{UnitLines}
 
 -- ---- headers ----
@@ -42,25 +42,25 @@ abbrev pub is_own : ℕ → ℕ → UnitLines → Bool
 is_own section file u = u.section == section && u.file == file && not (is_header u.kind)
 
 -- Whether a unit marks the place for the entries of the files above its own.
-abbrev pub is_place : ℕ → ℕ → UnitLines → Bool
-is_place section file u = is_own section file u && is_hook_kind u.kind && length (hook_name u) == 0
+abbrev pub is_open_hook : ℕ → ℕ → UnitLines → Bool
+is_open_hook section file u = is_own section file u && is_hook_kind u.kind && length (hook_name u) == 0
 
 -- The lines that come out in a section for these units of a file.
 abbrev pub own_lines : List UnitLines → ℕ → ℕ → List UnitLines → LinesInParts
 own_lines all section file units = flat_map (λ u. unit_lines all u) (filter (λ u. is_own section file u) units)
 
 -- The lines of a section with those of one file more: around the lines of the files above it where a place is marked
--- for them, and behind them where none is.
-abbrev pub with_file : List UnitLines → ℕ → ℕ → LinesInParts → Option ℕ → LinesInParts
-with_file all section file above None = above ++ own_lines all section file all
-with_file all section file above (Some i) =
+-- for them, and after them where none is.
+abbrev pub lines_with_file : List UnitLines → ℕ → ℕ → LinesInParts → Option ℕ → LinesInParts
+lines_with_file all section file above None = above ++ own_lines all section file all
+lines_with_file all section file above (Some i) =
     own_lines all section file (take i all) ++ above ++ own_lines all section file (drop (suc i) all)
 
 -- The lines of a section in the first files, without its header.
 unfoldable pub lines_in_files : List UnitLines → ℕ → ℕ → LinesInParts
 lines_in_files all section zero = []
 lines_in_files all section (suc file) =
-    with_file all section file (lines_in_files all section file) (position (λ u. is_place section file u) all)
+    lines_with_file all section file (lines_in_files all section file) (position (λ u. is_open_hook section file u) all)
 
 -- How many files have lines in a section: above the headers only the first has.
 abbrev pub files_of : ℕ → ℕ → ℕ
@@ -93,7 +93,7 @@ ends_with_lf bytes = is_lf (slice_get bytes (length bytes - 1))
 
 -- Whether a line has its line end: only the last one of a file may lack it.
 abbrev pub has_line_end : Fragments → Bool
-has_line_end line = ends_with_lf (bytes_of (slice_get line (length line - 1)))
+has_line_end line = ends_with_lf (bytes_if_any (slice_get line (length line - 1)))
 
 -- A line with a line end.
 abbrev pub ended_line : Fragments → Fragments

@@ -6,7 +6,7 @@ use Rattle.paw_base.specs.Bytes.{Bytes, Names}
 use Rattle.paw_author.specs.declared.sections.TheConstants.{WORDS, EXITS}
 use Rattle.paw_author.specs.Fragments.{Fragments, LinesInParts}
 use Rattle.paw_author.specs.Sections.{is_number, is_table_header, header_section, has_texts}
-use Rattle.paw_author.specs.Tokens.{is_token, leading_word, token_at, token_count, is_same, starts_with_byte, begins_with_slash}
+use Rattle.paw_author.specs.Tokens.{is_token, leading_word, token_at, token_count, is_same, starts_with_byte, starts_with_slash}
 
 -- The words that only an author's source has at the head of a line.
 abbrev pub own_words : Names
@@ -34,8 +34,8 @@ is_plain_token token =
     not (starts_with_byte 34 token || starts_with_byte 39 token || starts_with_byte 43 token || starts_with_byte 60 token)
 
 -- Whether a row has only such tokens; one of words has three of them.
-abbrev pub is_plain_row : ℕ → Fragments → Bool
-is_plain_row section line =
+abbrev pub is_plain_data : ℕ → Fragments → Bool
+is_plain_data section line =
     list_all (λ part. not (is_token part.bytes) || is_plain_token part.bytes) line
     && (not (section == WORDS) || token_count line == 0 || token_count line == 3)
 
@@ -49,20 +49,21 @@ is_plain_mark section line =
 -- Whether a line is plain in this section; `text` says whether it stands below an item with a text.
 abbrev pub is_plain_line : ℕ → Bool → Fragments → Bool
 is_plain_line section text line =
-    if begins_with_slash line then is_plain_mark section line else text || is_plain_row section line
+    if starts_with_slash line then is_plain_mark section line else text || is_plain_data section line
 
--- The section after a line.
+-- The section that a line begins, or that of the line above.
 abbrev pub section_or : ℕ → Option ℕ → ℕ
 section_or section None = section
 section_or section (Some begun) = begun
 
+-- The section after a line.
 abbrev pub section_behind : ℕ → Fragments → ℕ
-section_behind section line = if begins_with_slash line then section_or section (header_section line) else section
+section_behind section line = if starts_with_slash line then section_or section (header_section line) else section
 
 -- Whether what stands below a line is a text, where no other line begins with `/`.
 abbrev pub text_behind : ℕ → Bool → Fragments → Bool
 text_behind section text line =
-    if begins_with_slash line then not (is_some (header_section line)) && has_texts section else text
+    if starts_with_slash line then not (is_some (header_section line)) && has_texts section else text
 
 -- Whether these lines are plain in a section.
 unfoldable pub are_plain : ℕ → Bool → LinesInParts → Bool

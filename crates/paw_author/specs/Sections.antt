@@ -71,5 +71,5 @@ abbrev pub has_facts : ℕ → Bool
 has_facts section = section == KINDS || section == THINGS
 
 -- Whether a section is a table.
-abbrev pub is_table : ℕ → Bool
-is_table section = nat_le TABLES section
+abbrev pub is_table_section : ℕ → Bool
+is_table_section section = nat_le TABLES section

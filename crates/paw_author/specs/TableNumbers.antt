@@ -10,7 +10,7 @@ use Rattle.paw_author.specs.declared.mistake.Mistake.{Mistake}
 use Rattle.paw_author.specs.declared.sections.TheConstants.{TABLES, NAMED_TABLES}
 use Rattle.paw_author.specs.declared.table_numbers.TheConstants.{FIRST_GIVEN, GIVEN_COUNT}
 use Rattle.paw_author.specs.Hooks.{is_header, is_for_hook, first_line}
-use Rattle.paw_author.specs.Known.{KnownName, KnownNames, NumbersGiven, kind_index, number_of, is_name, named, given_once}
+use Rattle.paw_author.specs.Known.{KnownName, KnownNames, NumbersGiven, kind_index, number_for, may_be_name, name_for, given_once}
 use Rattle.paw_author.specs.Mistakes.{wrong_line}
 use Rattle.paw_author.specs.Tokens.{token_origin, token_at, token_count}
 use Rattle.paw_author.specs.Units.{UnitLines}
@@ -31,19 +31,19 @@ numbers_written all = map (λ u. u.section - TABLES) (filter (λ u. is_numbered 
 
 -- A name is known for one number alone.
 abbrev pub known_once : ℕ → Option ℕ → Origin → Name → KnownNames → Result KnownNames Mistake
-known_once number None origin name known = Ok (known ++ named Table name number ∷ [])
+known_once number None origin name known = Ok (known ++ name_for Table name number ∷ [])
 known_once number (Some other) origin name known =
     if other == number then Ok known else Err (wrong_line origin Duplicate)
 
--- The names so far with the one that stands behind a number in a header.
+-- The names so far with the one that stands after a number in a header.
 abbrev pub name_written : UnitLines → KnownNames → Result KnownNames Mistake
 name_written u known =
     if not (nat_lt 2 (token_count (first_line u))) then Ok known
-    else if not (is_name (token_at 2 (first_line u))) then Err (wrong_line (token_origin 2 (first_line u)) Word)
-    else known_once (u.section - TABLES) (number_of Table (token_at 2 (first_line u)) known) (token_origin 2 (first_line u))
+    else if not (may_be_name (token_at 2 (first_line u))) then Err (wrong_line (token_origin 2 (first_line u)) Word)
+    else known_once (u.section - TABLES) (number_for Table (token_at 2 (first_line u)) known) (token_origin 2 (first_line u))
     (token_at 2 (first_line u)) known
 
--- The names so far with all that stand behind numbers.
+-- The names so far with all that stand after numbers.
 unfoldable pub names_written : KnownNames → List UnitLines → Result KnownNames Mistake
 names_written known [] = Ok known
 names_written known (u ∷ us) =
@@ -58,7 +58,7 @@ is_named_table hooks u = is_header u.kind && u.section == NAMED_TABLES && not (i
 -- What is given for the header of a table with a name alone.
 abbrev pub name_given : UnitLines → NumbersGiven → Result NumbersGiven Mistake
 name_given u s =
-    if is_name u.table then given_once FIRST_GIVEN GIVEN_COUNT Table (token_origin 1 (first_line u)) u.table s
+    if may_be_name u.table then given_once FIRST_GIVEN GIVEN_COUNT Table (token_origin 1 (first_line u)) u.table s
     else Err (wrong_line (token_origin 1 (first_line u)) Word)
 
 -- What is given for all these units.
@@ -84,11 +84,11 @@ tables_known hooks known all =
 -- ---- units ----
 
 -- The unit of a table with this number.
-abbrev pub in_table : Option ℕ → UnitLines → UnitLines
-in_table None u = u
-in_table (Some n) u = record u { section = TABLES + n; table = [] }
+abbrev pub moved_to_table : Option ℕ → UnitLines → UnitLines
+moved_to_table None u = u
+moved_to_table (Some n) u = record u { section = TABLES + n; table = [] }
 
 -- A unit of a table with a name, in the table that has its number. What is for a place stays where it is.
 abbrev pub unit_numbered : Names → KnownNames → UnitLines → UnitLines
 unit_numbered hooks known u =
-    if u.section == NAMED_TABLES && not (is_for_hook hooks u) then in_table (number_of Table u.table known) u else u
+    if u.section == NAMED_TABLES && not (is_for_hook hooks u) then moved_to_table (number_for Table u.table known) u else u

@@ -24,21 +24,21 @@ is_token [] = false
 is_token (b ∷ bs) = not (is_gap b || b == 59)
 
 -- The tokens of a line.
-abbrev pub tokens_of : Fragments → Fragments
-tokens_of line = filter (λ part. is_token part.bytes) line
+abbrev pub line_tokens : Fragments → Fragments
+line_tokens line = filter (λ part. is_token part.bytes) line
 
 -- The bytes of a part, if there is one.
-abbrev pub bytes_of : Option WithOrigin → Bytes
-bytes_of None = []
-bytes_of (Some part) = part.bytes
+abbrev pub bytes_if_any : Option WithOrigin → Bytes
+bytes_if_any None = []
+bytes_if_any (Some part) = part.bytes
 
 -- The token of a line with this index; no byte where there is none.
 abbrev pub token_at : ℕ → Fragments → Token
-token_at index line = bytes_of (slice_get (tokens_of line) index)
+token_at index line = bytes_if_any (slice_get (line_tokens line) index)
 
 -- How many tokens a line has.
 abbrev pub token_count : Fragments → ℕ
-token_count line = length (tokens_of line)
+token_count line = length (line_tokens line)
 
 -- Whether a word is this name, in any case of letters.
 abbrev pub is_same : Token → Name → Bool
@@ -48,31 +48,32 @@ is_same word name = str_eq_ignore_ascii_case word name
 
 -- The bytes of the first part of a line.
 abbrev pub first_bytes : Fragments → Bytes
-first_bytes line = bytes_of (slice_get line 0)
+first_bytes line = bytes_if_any (slice_get line 0)
 
--- Where a line begins. A line without parts begins nowhere.
+-- Where a part begins. What isn't there begins nowhere.
 abbrev pub origin_of : Option WithOrigin → Origin
 origin_of None = record { file = 0; line = 0; column = 0 }
 origin_of (Some part) = part.origin
 
+-- Where a line begins.
 abbrev pub line_origin : Fragments → Origin
 line_origin line = origin_of (slice_get line 0)
 
 -- Where the token of a line with this index stands.
 abbrev pub token_origin : ℕ → Fragments → Origin
-token_origin index line = origin_of (slice_get (tokens_of line) index)
+token_origin index line = origin_of (slice_get (line_tokens line) index)
 
 -- The token that a line begins with; no byte where a blank stands first.
 abbrev pub leading_word : Fragments → Token
 leading_word line = if is_token (first_bytes line) then first_bytes line else []
 
 -- Whether a line is a comment: it begins with `;`.
-abbrev pub is_comment : Fragments → Bool
-is_comment line = starts_with_byte 59 (first_bytes line)
+abbrev pub is_comment_line : Fragments → Bool
+is_comment_line line = starts_with_byte 59 (first_bytes line)
 
 -- Whether a line begins with `/`.
-abbrev pub begins_with_slash : Fragments → Bool
-begins_with_slash line = starts_with_byte 47 (first_bytes line)
+abbrev pub starts_with_slash : Fragments → Bool
+starts_with_slash line = starts_with_byte 47 (first_bytes line)
 
 -- ---- texts in quotes ----
 
@@ -80,7 +81,7 @@ begins_with_slash line = starts_with_byte 47 (first_bytes line)
 abbrev pub is_quoted : Bytes → Bool
 is_quoted part = starts_with_byte 34 part
 
--- What a text says behind a quote, by whether its last quote is still to come: a quote stands for itself where it is
+-- What a text says after a quote, by whether its last quote is still to come: a quote stands for itself where it is
 -- written twice.
 unfoldable pub unquoted_from : Bool → Bytes → Bytes
 unquoted_from inside [] = []
@@ -90,19 +91,19 @@ unquoted_from inside (b ∷ bs) =
     else b ∷ unquoted_from true bs
 
 -- What a text in quotes says.
-abbrev pub unquoted : Bytes → Bytes
-unquoted text = unquoted_from true (drop 1 text)
+abbrev pub without_quotes : Bytes → Bytes
+without_quotes text = unquoted_from true (drop 1 text)
 
 -- Whether a text has its last quote: the number of its quotes is even.
 abbrev pub is_closed : Bytes → Bool
 is_closed text = count_by (λ b. b == 34) text % 2 == 0
 
--- Behind a text stands no token.
+-- After a text stands no token.
 abbrev pub nothing_behind : Fragments → Result (Unit {0}) Mistake
 nothing_behind [] = Ok tt
 nothing_behind (part ∷ parts) = if is_token part.bytes then Err (wrong_line part.origin Text) else Ok tt
 
--- A text has its last quote, and no token right behind it.
+-- A text has its last quote, and no token right after it.
 abbrev pub text_ends : WithOrigin → Fragments → Result (Unit {0}) Mistake
 text_ends part parts =
     if not (is_quoted part.bytes) then Ok tt

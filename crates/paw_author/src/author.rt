@@ -2,14 +2,14 @@
 
 ghost use Rattle.std.specs.Prelude.{◌≡◌, ◌<◌, true, false, length, IfOk, MatchOption};
 ghost use Rattle.paw_read_error.specs.inner.Gives.{Gives};
-ghost use Rattle.paw_author.specs.Authored.{is_plain_file, named_lines, numbered_lines, hooked_lines, lines_of_units, joined_lines, plain_lines, IsAnswered};
+ghost use Rattle.paw_author.specs.Authored.{is_plain_file, named_lines, lines_with_tables, hooked_lines, lines_of_units, joined_lines, plain_lines, IsAnswered};
 ghost use Rattle.paw_author.specs.FileLines.{file_lines};
 
 use crate::file::{File, Switch};
-use crate::fragment::Line;
+use crate::fragment::LineInParts;
 use crate::hooks::{HookName, hook_names, hooks_known};
-use crate::includes::row_of;
-use crate::joining::{files_chosen, row_joined};
+use crate::includes::order_of_files;
+use crate::joining::{files_chosen, order_joined};
 use crate::known::Known;
 use crate::lines::file_lines;
 use crate::mistake::AuthorError;
@@ -26,7 +26,7 @@ use std::marker::Model;
 /// A plain source, line by line.
 #[derive(Drop)]
 pub struct PlainSource {
-    pub lines: Vec<Line>,
+    pub lines: Vec<LineInParts>,
 }
 
 impl Model for PlainSource {
@@ -38,7 +38,7 @@ impl Model for PlainSource {
 }
 
 // The lines of a file where it is a plain source.
-fn plain_file(alloc: Global, file: &File) -> Result<Option<Vec<Line>>, AllocError>
+fn plain_file(alloc: Global, file: &File) -> Result<Option<Vec<LineInParts>>, AllocError>
     ensures value { IfOk result (λ plain. MatchOption plain (is_plain_file file.now ≡ false)
         (λ lines. (is_plain_file file.now ≡ true) × (lines.items ≡ file_lines 0 file.now.bytes))) }
 {
@@ -61,7 +61,7 @@ fn named_lines(
     hooks: &[HookName],
     known: &[Known],
     units: Vec<Unit>,
-) -> Result<Vec<Line>, AuthorError>
+) -> Result<Vec<LineInParts>, AuthorError>
     ensures gives { Gives (λ lines. lines.items) result (named_lines files hooks.now known.now units.items) }
 {
     hooks_known(hooks, units.as_slice())?;
@@ -70,14 +70,14 @@ fn named_lines(
 }
 
 // The lines of units, where tables have these names.
-fn numbered_lines(
+fn lines_with_tables(
     alloc: Global,
     files: usize,
     hooks: &[HookName],
     known: &[Known],
     units: Vec<Unit>,
-) -> Result<Vec<Line>, AuthorError>
-    ensures gives { Gives (λ lines. lines.items) result (numbered_lines files hooks.now known.now units.items) }
+) -> Result<Vec<LineInParts>, AuthorError>
+    ensures gives { Gives (λ lines. lines.items) result (lines_with_tables files hooks.now known.now units.items) }
 {
     let numbered = units_numbered(alloc, hooks, known, units)?;
     named_lines(alloc, files, hooks, known, numbered)
@@ -89,16 +89,20 @@ fn hooked_lines(
     files: usize,
     hooks: &[HookName],
     units: Vec<Unit>,
-) -> Result<Vec<Line>, AuthorError>
+) -> Result<Vec<LineInParts>, AuthorError>
     ensures gives { Gives (λ lines. lines.items) result (hooked_lines files hooks.now units.items) }
 {
     let names = names_known(alloc, units.as_slice())?;
     let known = tables_known(alloc, hooks, names, units.as_slice())?;
-    numbered_lines(alloc, files, hooks, known.as_slice(), units)
+    lines_with_tables(alloc, files, hooks, known.as_slice(), units)
 }
 
 // The lines of these units of a number of files.
-fn lines_of_units(alloc: Global, files: usize, units: Vec<Unit>) -> Result<Vec<Line>, AuthorError>
+fn lines_of_units(
+    alloc: Global,
+    files: usize,
+    units: Vec<Unit>,
+) -> Result<Vec<LineInParts>, AuthorError>
     ensures gives { Gives (λ lines. lines.items) result (lines_of_units files units.items) }
 {
     let hooks = hook_names(alloc, units.as_slice())?;
@@ -110,18 +114,22 @@ fn joined_lines(
     alloc: Global,
     switches: &[Switch],
     files: &[File],
-) -> Result<Vec<Line>, AuthorError>
+) -> Result<Vec<LineInParts>, AuthorError>
     requires some { 0 < length files.now }
     ensures gives { Gives (λ lines. lines.items) result (joined_lines switches.now files.now) }
 {
     let chosen = files_chosen(alloc, switches, files)?;
-    let row = row_of(alloc, chosen.as_slice())?;
-    let units = row_joined(alloc, chosen.as_slice(), row.as_slice())?;
+    let row = order_of_files(alloc, chosen.as_slice())?;
+    let units = order_joined(alloc, chosen.as_slice(), row.as_slice())?;
     lines_of_units(alloc, row.len(), units)
 }
 
 // The lines of the plain source of these files.
-fn lines_of(alloc: Global, switches: &[Switch], files: &[File]) -> Result<Vec<Line>, AuthorError>
+fn lines_of(
+    alloc: Global,
+    switches: &[Switch],
+    files: &[File],
+) -> Result<Vec<LineInParts>, AuthorError>
     ensures gives { Gives (λ lines. lines.items) result (plain_lines switches.now files.now) }
 {
     match files {

@@ -3,11 +3,11 @@
 ghost use Rattle.std.specs.Prelude.{◌≡◌, ◌==◌};
 ghost use Rattle.paw_read_error.specs.inner.Gives.{Gives};
 ghost use Rattle.paw_author.specs.Tokens.{is_same};
-ghost use Rattle.paw_author.specs.Choices.{if_line, with_tokens, is_on, after_if, after_else, after_endif, after_change, chosen_with};
+ghost use Rattle.paw_author.specs.Choices.{if_line, with_token_count, is_on, after_if, after_else, after_endif, after_change, chosen_with};
 ghost use Rattle.paw_author.specs.Choices.{all_taken, chosen_lines, chosen_from, no_line_yet, at_end};
 
 use crate::file::Switch;
-use crate::fragment::{Fragment, Line, Origin};
+use crate::fragment::{Fragment, LineInParts, Origin};
 use crate::mistake::{AuthorError, wrong_line};
 use crate::tokens::{is_same, leading_word, line_origin, token_at, token_count};
 use paw_base::fault::SourceKind;
@@ -35,8 +35,8 @@ pub(crate) struct OpenIf {
 }
 
 // The kind of a line that has to have this number of tokens.
-fn with_tokens(count: usize, kind: IfLine, line: &[Fragment]) -> IfLine
-    ensures value { result ≡ with_tokens count kind line.now }
+fn with_token_count(count: usize, kind: IfLine, line: &[Fragment]) -> IfLine
+    ensures value { result ≡ with_token_count count kind line.now }
 {
     if token_count(line) == count {
         kind
@@ -51,11 +51,11 @@ fn if_line(line: &[Fragment]) -> IfLine
 {
     let word = leading_word(line);
     if is_same(word, b"/IF") {
-        with_tokens(2, IfLine::If, line)
+        with_token_count(2, IfLine::If, line)
     } else if is_same(word, b"/ELSE") {
-        with_tokens(1, IfLine::Else, line)
+        with_token_count(1, IfLine::Else, line)
     } else if is_same(word, b"/ENDIF") {
-        with_tokens(1, IfLine::EndIf, line)
+        with_token_count(1, IfLine::EndIf, line)
     } else {
         IfLine::Other
     }
@@ -146,9 +146,9 @@ fn change(
 // Takes a line of a file after those above it.
 fn take_line(
     switches: &[Switch],
-    line: Line,
+    line: LineInParts,
     parts: &mut VecDeque<OpenIf>,
-    lines: &mut Vec<Line>,
+    lines: &mut Vec<LineInParts>,
 ) -> Result<(), AuthorError>
     ensures gives { Gives (λ _. record { parts = parts.new.items; lines = lines.new.items }) result
         (chosen_with switches.now (record { parts = parts.old.items; lines = lines.old.items }) line) }
@@ -181,8 +181,8 @@ fn at_end(parts: &VecDeque<OpenIf>) -> Result<(), AuthorError>
 pub(crate) fn chosen_lines(
     alloc: Global,
     switches: &[Switch],
-    file: Vec<Line>,
-) -> Result<Vec<Line>, AuthorError>
+    file: Vec<LineInParts>,
+) -> Result<Vec<LineInParts>, AuthorError>
     ensures gives { Gives (λ lines. lines.items) result (chosen_lines switches.now file.items) }
 {
     let mut left = VecDeque::from(file);

@@ -27,11 +27,11 @@ impl Model for Fragment {
 
 /// A line in its parts: its tokens, and what stands before, between and after them, with the line end.
 #[derive(Drop)]
-pub struct Line {
+pub struct LineInParts {
     pub parts: Vec<Fragment>,
 }
 
-impl Model for Line {
+impl Model for LineInParts {
     ghost use Rattle.paw_author.specs.Fragments.{Fragments};
 
     ghost Value = { Fragments };

@@ -1,14 +1,14 @@
-// Places that are marked in tables: entries of other files come to stand there.
+// Places that are marked in tables: entries of other files stand there.
 
 ghost use Rattle.std.specs.Prelude.{◌≡◌, ◌++◌, ◌==◌, ◌∷◌, [], IfOk, length, if◌then◌else◌};
 ghost use Rattle.std.specs.List.{list_any};
 ghost use Rattle.paw_read_error.specs.inner.Gives.{Gives};
 ghost use Rattle.paw_author.specs.Tokens.{is_same};
 ghost use Rattle.paw_author.specs.Hooks.{is_header, is_hook_kind, first_line, hook_name, hook_names, is_for_hook};
-ghost use Rattle.paw_author.specs.Hooks.{stand_together, mark_one_place, hook_known, hooks_known};
+ghost use Rattle.paw_author.specs.Hooks.{stand_together, mark_the_same, hook_known, hooks_known};
 ghost use Rattle.paw_author.specs.Hooks.{is_entry_for, lines_for, unit_lines};
 
-use crate::fragment::{Fragment, Line};
+use crate::fragment::{Fragment, LineInParts};
 use crate::mistake::{AuthorError, wrong_line};
 use crate::sections::NAMED_TABLES;
 use crate::tokens::{is_same, line_origin, token_at};
@@ -129,17 +129,17 @@ fn stand_together(u: &Unit, v: &Unit) -> bool
 }
 
 // Whether two units mark one place.
-fn mark_one_place(u: &Unit, v: &Unit) -> bool
-    ensures value { result ≡ mark_one_place u.now v.now }
+fn mark_the_same(u: &Unit, v: &Unit) -> bool
+    ensures value { result ≡ mark_the_same u.now v.now }
 {
     is_hook(v) && is_same(hook_name(u), hook_name(v)) && (!has_no_name(u) || stand_together(u, v))
 }
 
 // Whether one of the units before marks the same place.
 fn is_marked(before: &[Unit], u: &Unit) -> bool
-    ensures value { result ≡ list_any (λ v. mark_one_place u.now v) before.now }
+    ensures value { result ≡ list_any (λ v. mark_the_same u.now v) before.now }
 {
-    before.iter().any(|v| mark_one_place(u, v))
+    before.iter().any(|v| mark_the_same(u, v))
 }
 
 // Looks whether a unit marks no place that is marked already, and stands among no entries for one.
@@ -184,14 +184,14 @@ fn copy_of_part(alloc: Global, part: &Fragment) -> Result<Fragment, AllocError>
 }
 
 // A line with the same parts.
-fn copy_of_line(alloc: Global, line: &[Fragment]) -> Result<Line, AllocError>
+fn copy_of_line(alloc: Global, line: &[Fragment]) -> Result<LineInParts, AllocError>
     ensures value { IfOk result (λ copy. copy ≡ line.now) }
 {
     let mut parts = Vec::new(alloc);
     for part in line {
         parts.push(copy_of_part(alloc, part)?)?;
     }
-    Ok(Line { parts })
+    Ok(LineInParts { parts })
 }
 
 /// Adds copies of lines.
@@ -200,8 +200,8 @@ fn copy_of_line(alloc: Global, line: &[Fragment]) -> Result<Line, AllocError>
 /// Where there is no memory.
 pub(crate) fn add_lines(
     alloc: Global,
-    lines: &[Line],
-    out: &mut Vec<Line>,
+    lines: &[LineInParts],
+    out: &mut Vec<LineInParts>,
 ) -> Result<(), AllocError>
     ensures value { IfOk result (λ _. out.new.items ≡ out.old.items ++ lines.now) }
 {
@@ -223,7 +223,7 @@ fn add_entry_for(
     alloc: Global,
     name: &[u8],
     u: &Unit,
-    out: &mut Vec<Line>,
+    out: &mut Vec<LineInParts>,
 ) -> Result<(), AllocError>
     ensures value { IfOk result (λ _. out.new.items ≡ out.old.items ++ (if is_entry_for name.now u.now then u.now.lines else [])) }
 {
@@ -238,7 +238,7 @@ fn add_lines_for(
     alloc: Global,
     name: &[u8],
     all: &[Unit],
-    out: &mut Vec<Line>,
+    out: &mut Vec<LineInParts>,
 ) -> Result<(), AllocError>
     ensures value { IfOk result (λ _. out.new.items ≡ out.old.items ++ lines_for name.now all.now) }
 {
@@ -256,7 +256,7 @@ pub(crate) fn add_unit(
     alloc: Global,
     all: &[Unit],
     u: &Unit,
-    out: &mut Vec<Line>,
+    out: &mut Vec<LineInParts>,
 ) -> Result<(), AllocError>
     ensures value { IfOk result (λ _. out.new.items ≡ out.old.items ++ unit_lines all.now u.now) }
 {

@@ -3,15 +3,15 @@
 ghost use Rattle.std.specs.Prelude.{◌≡◌, ◌<◌, ◌≤◌, ◌==◌, not, IfOk, IfSome, bytes_eq, length};
 ghost use Rattle.std.specs.List.{list_any, position, suffix_len};
 ghost use Rattle.paw_read_error.specs.inner.Gives.{Gives};
-ghost use Rattle.paw_author.specs.Includes.{is_include, written_path, folder_of, included_path, index_of_path, path_of};
-ghost use Rattle.paw_author.specs.Includes.{path_origin, file_of, line_before, lines_before, file_before, row_of};
+ghost use Rattle.paw_author.specs.Includes.{is_include, written_path, path_folder, included_path, index_of_path, path_of};
+ghost use Rattle.paw_author.specs.Includes.{path_origin, file_of, line_before, lines_before, file_before, order_of_files};
 ghost use Rattle.paw_author.specs.Includes.{leads_to_itself};
 
-use crate::fragment::{Fragment, Line, Origin};
+use crate::fragment::{Fragment, LineInParts, Origin};
 use crate::mistake::{AuthorError, Mistake, lost_file, wrong_line};
 use crate::tokens::{
     is_quoted, is_same, leading_word, line_origin, origin_of, starts_with_byte, token, token_at,
-    token_count, unquoted,
+    token_count, without_quotes,
 };
 use paw_base::fault::SourceKind;
 use paw_read_error::read_error::ReadError;
@@ -23,7 +23,7 @@ use std::marker::Model;
 #[derive(Drop)]
 pub(crate) struct TakenFile {
     pub(crate) name: Vec<u8>,
-    pub(crate) lines: Vec<Line>,
+    pub(crate) lines: Vec<LineInParts>,
 }
 
 impl Model for TakenFile {
@@ -49,13 +49,13 @@ fn written_path(alloc: Global, line: &[Fragment]) -> Result<Vec<u8>, AllocError>
 {
     let word = token_at(1, line);
     if is_quoted(word) {
-        unquoted(alloc, word)
+        without_quotes(alloc, word)
     } else {
         Vec::from_slice(alloc, word)
     }
 }
 
-// How many bytes stand behind the last `/` of a path.
+// How many bytes stand after the last `/` of a path.
 fn name_len(path: &[u8]) -> usize
     ensures value { result ≡ suffix_len (λ b. not (b == 47)) path.now }
     ensures within { result ≤ length path.now }
@@ -64,8 +64,8 @@ fn name_len(path: &[u8]) -> usize
 }
 
 // The folder of a path.
-fn folder_of(path: &[u8]) -> &[u8]
-    ensures value { result.now ≡ folder_of path.now }
+fn path_folder(path: &[u8]) -> &[u8]
+    ensures value { result.now ≡ path_folder path.now }
 {
     &path[..path.len() - name_len(path)]
 }
@@ -78,7 +78,7 @@ fn included_path(alloc: Global, name: &[u8], line: &[Fragment]) -> Result<Vec<u8
     if starts_with_byte(b'/', written.as_slice()) {
         return Ok(written);
     }
-    let mut path = Vec::from_slice(alloc, folder_of(name))?;
+    let mut path = Vec::from_slice(alloc, path_folder(name))?;
     path.extend_from_slice(written.as_slice())?;
     Ok(path)
 }
@@ -180,7 +180,7 @@ fn lines_before(
     files: &[TakenFile],
     depth: usize,
     name: &[u8],
-    lines: &[Line],
+    lines: &[LineInParts],
     row: VecDeque<usize>,
 ) -> Result<VecDeque<usize>, AuthorError>
     ensures gives { Gives (λ more. more.items) result
@@ -195,7 +195,7 @@ fn lines_before(
     Ok(more)
 }
 
-// The row with a file before it, and behind that file all that it includes.
+// The row with a file before it, and after that file all that it includes.
 #[cycle(row)]
 #[tactic(auto, unfolding(crate::specs::Includes::file_before))]
 fn file_before(
@@ -231,9 +231,9 @@ fn file_before(
 ///
 /// # Errors
 /// Fault where a file is lost or leads to itself, or lack of memory.
-pub(crate) fn row_of(alloc: Global, files: &[TakenFile]) -> Result<Vec<usize>, AuthorError>
+pub(crate) fn order_of_files(alloc: Global, files: &[TakenFile]) -> Result<Vec<usize>, AuthorError>
     requires some { 0 < length files.now }
-    ensures gives { Gives (λ row. row.items) result (row_of files.now) }
+    ensures gives { Gives (λ row. row.items) result (order_of_files files.now) }
 {
     let row = file_before(alloc, files, files.len(), 0, VecDeque::new(alloc))?;
     Ok(Vec::from(row))

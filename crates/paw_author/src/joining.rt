@@ -2,14 +2,14 @@
 
 ghost use Rattle.std.specs.Prelude.{◌≡◌, ◌<◌, ◌≤◌, ◌+◌, ◌&&◌, [], IfOk, length, nat_lt, nat_le, slice_get};
 ghost use Rattle.paw_read_error.specs.inner.Gives.{Gives};
-ghost use Rattle.paw_author.specs.Includes.{lines_of};
-ghost use Rattle.paw_author.specs.Joining.{file_chosen, files_chosen, row_joined};
+ghost use Rattle.paw_author.specs.Includes.{lines_or_none};
+ghost use Rattle.paw_author.specs.Joining.{file_chosen, files_chosen, order_joined};
 ghost use Rattle.paw_author.specs.declared.joining.TheConstants.{FILE_LIMIT};
 ghost use Rattle.paw_base.specs.declared.limits.TheConstants.{SOURCE_LIMIT};
 
 use crate::choices::chosen_lines;
 use crate::file::{File, Switch};
-use crate::fragment::{Line, Origin};
+use crate::fragment::{LineInParts, Origin};
 use crate::hooks::add_lines;
 use crate::includes::TakenFile;
 use crate::lines::file_lines;
@@ -84,8 +84,12 @@ pub(crate) fn files_chosen(
 }
 
 // A copy of the lines of a file.
-fn lines_of(alloc: Global, files: &[TakenFile], file: usize) -> Result<Vec<Line>, AllocError>
-    ensures value { IfOk result (λ lines. lines.items ≡ lines_of (slice_get files.now file)) }
+fn lines_or_none(
+    alloc: Global,
+    files: &[TakenFile],
+    file: usize,
+) -> Result<Vec<LineInParts>, AllocError>
+    ensures value { IfOk result (λ lines. lines.items ≡ lines_or_none (slice_get files.now file)) }
 {
     let mut lines = Vec::new(alloc);
     if file < files.len() {
@@ -99,19 +103,19 @@ fn lines_of(alloc: Global, files: &[TakenFile], file: usize) -> Result<Vec<Line>
 ///
 /// # Errors
 /// The first fault, or lack of memory.
-#[tactic(auto, unfolding(crate::specs::Joining::row_joined))]
-pub(crate) fn row_joined(
+#[tactic(auto, unfolding(crate::specs::Joining::order_joined))]
+pub(crate) fn order_joined(
     alloc: Global,
     files: &[TakenFile],
     row: &[usize],
 ) -> Result<Vec<Unit>, AuthorError>
-    ensures gives { Gives (λ units. units.items) result (row_joined files.now 0 [] row.now) }
+    ensures gives { Gives (λ units. units.items) result (order_joined files.now 0 [] row.now) }
 {
     let mut units = Vec::new(alloc);
     let mut left = row;
     let mut place: usize = 0;
     while let Some((file, below)) = left.split_first() {
-        let lines = lines_of(alloc, files, *file)?;
+        let lines = lines_or_none(alloc, files, *file)?;
         units = file_read(alloc, place, units, lines)?;
         place += 1;
         left = below;

@@ -3,8 +3,8 @@
 ghost use Rattle.std.specs.Prelude.{◌≡◌, ◌+◌, ◌<◌, ◌^◌, ◌==◌, IfOk};
 ghost use Rattle.std.specs.List.{list_all, list_any};
 ghost use Rattle.paw_author.specs.Tokens.{is_same};
-ghost use Rattle.paw_author.specs.Known.{KnownName, kind_index, is_known_as, number_of, number_of_any, is_name_byte, is_name};
-ghost use Rattle.paw_author.specs.Known.{is_among, least_free, named, given, given_unless, given_once};
+ghost use Rattle.paw_author.specs.Known.{KnownName, kind_index, is_known_as, number_for, number_of_any, may_be_in_name, may_be_name};
+ghost use Rattle.paw_author.specs.Known.{is_in_use, least_free, name_for, with_given, given_unless, given_once};
 ghost use Rattle.paw_read_error.specs.inner.Gives.{Gives};
 
 use crate::fragment::Origin;
@@ -73,8 +73,8 @@ fn is_known_as(kind: NameKind, word: &[u8], known: &Known) -> bool
 }
 
 /// The number that a word stands for as a name of this kind.
-pub(crate) fn number_of(kind: NameKind, word: &[u8], known: &[Known]) -> Option<u16>
-    ensures value { result ≡ number_of kind word.now known.now }
+pub(crate) fn number_for(kind: NameKind, word: &[u8], known: &[Known]) -> Option<u16>
+    ensures value { result ≡ number_for kind word.now known.now }
 {
     match known.iter().find(|k| is_known_as(kind, word, *k)) {
         Some(k) => Some(k.number),
@@ -92,23 +92,23 @@ pub(crate) fn number_of_any(word: &[u8], known: &[Known]) -> Option<u16>
     }
 }
 
-// Whether a byte may stand in a name behind its first letter.
-fn is_name_byte(byte: u8) -> bool
-    ensures value { result ≡ is_name_byte byte }
+// Whether a byte may stand in a name after its first letter.
+fn may_be_in_name(byte: u8) -> bool
+    ensures value { result ≡ may_be_in_name byte }
 {
     byte.is_ascii_alphanumeric() || byte == b'_'
 }
 
-// Whether all of these bytes may stand in a name behind its first letter.
+// Whether all of these bytes may stand in a name after its first letter.
 fn are_name_bytes(bytes: &[u8]) -> bool
-    ensures value { result ≡ list_all is_name_byte bytes.now }
+    ensures value { result ≡ list_all may_be_in_name bytes.now }
 {
-    bytes.iter().all(|byte| is_name_byte(*byte))
+    bytes.iter().all(|byte| may_be_in_name(*byte))
 }
 
 /// Whether a word may be a name.
-pub(crate) fn is_name(word: &[u8]) -> bool
-    ensures value { result ≡ is_name word.now }
+pub(crate) fn may_be_name(word: &[u8]) -> bool
+    ensures value { result ≡ may_be_name word.now }
 {
     match word {
         [first, rest @ ..] => first.is_ascii_alphabetic() && are_name_bytes(rest),
@@ -117,19 +117,19 @@ pub(crate) fn is_name(word: &[u8]) -> bool
 }
 
 // Whether a number is one of these.
-fn is_among(numbers: &[u16], number: u16) -> bool
-    ensures value { result ≡ is_among numbers.now number }
+fn is_in_use(numbers: &[u16], number: u16) -> bool
+    ensures value { result ≡ is_in_use numbers.now number }
 {
     numbers.iter().any(|other| *other == number)
 }
 
-/// The least number from this one on that isn't taken, among so many.
+/// The least number from this one on that isn't taken, of this count.
 pub(crate) fn least_free(from: u16, count: u16, taken: &[u16]) -> Option<u16>
     requires within { from + count < 2 ^ 16 }
     ensures value { result ≡ least_free from count taken.now }
 {
     for number in from..from + count {
-        if !is_among(taken, number) {
+        if !is_in_use(taken, number) {
             return Some(number);
         }
     }
@@ -140,13 +140,13 @@ pub(crate) fn least_free(from: u16, count: u16, taken: &[u16]) -> Option<u16>
 ///
 /// # Errors
 /// Where there is no memory.
-pub(crate) fn named(
+pub(crate) fn name_for(
     alloc: Global,
     kind: NameKind,
     name: &[u8],
     number: u16,
 ) -> Result<Known, AllocError>
-    ensures value { IfOk result (λ known. known ≡ named kind name.now number) }
+    ensures value { IfOk result (λ known. known ≡ name_for kind name.now number) }
 {
     Ok(Known {
         kind,
@@ -181,7 +181,7 @@ fn make_given(
     name: &[u8],
     s: Numbers,
 ) -> Result<Numbers, AuthorError>
-    ensures gives { Gives (λ next. next) result (given number kind origin name.now s) }
+    ensures gives { Gives (λ next. next) result (with_given number kind origin name.now s) }
 {
     match number {
         None => Err(ReadError::Fault(wrong_line(origin, SourceKind::TooBig))),
@@ -190,7 +190,7 @@ fn make_given(
                 mut known,
                 mut taken,
             } = s;
-            known.push(named(alloc, kind, name, n)?)?;
+            known.push(name_for(alloc, kind, name, n)?)?;
             taken.push(n)?;
             Ok(Numbers { known, taken })
         }
@@ -217,12 +217,12 @@ fn given_unless(
 
 // The number that a word stands for among the names so far.
 fn number_so_far(kind: NameKind, name: &[u8], s: &Numbers) -> Option<u16>
-    ensures value { result ≡ number_of kind name.now s.now.known }
+    ensures value { result ≡ number_for kind name.now s.now.known }
 {
-    number_of(kind, name, s.known.as_slice())
+    number_for(kind, name, s.known.as_slice())
 }
 
-// The least number from this one on that isn't taken so far, among so many.
+// The least number from this one on that isn't taken so far, of this count.
 fn free_so_far(from: u16, count: u16, s: &Numbers) -> Option<u16>
     requires within { from + count < 2 ^ 16 }
     ensures value { result ≡ least_free from count s.now.taken }
@@ -230,7 +230,7 @@ fn free_so_far(from: u16, count: u16, s: &Numbers) -> Option<u16>
     least_free(from, count, s.taken.as_slice())
 }
 
-/// The number of a name: the one that it has, or the least from `from` on that isn't taken, among so many.
+/// The number of a name: the one that it has, or the least from `from` on that isn't taken, of this count.
 ///
 /// # Errors
 /// Fault where none is left, or lack of memory.

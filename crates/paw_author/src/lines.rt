@@ -4,7 +4,7 @@ ghost use Rattle.std.specs.Prelude.{◌≡◌, ◌<◌, ◌≤◌, ◌==◌, ◌
 ghost use Rattle.std.specs.List.{position_or_len};
 ghost use Rattle.paw_author.specs.FileLines.{whole_lines, file_lines};
 
-use crate::fragment::Line;
+use crate::fragment::LineInParts;
 use crate::parts::line_parts;
 use std::alloc::{AllocError, Global};
 
@@ -38,7 +38,11 @@ fn first_line_len(bytes: &[u8]) -> usize
 ///
 /// # Errors
 /// Where there is no memory.
-pub(crate) fn file_lines(alloc: Global, file: usize, bytes: &[u8]) -> Result<Vec<Line>, AllocError>
+pub(crate) fn file_lines(
+    alloc: Global,
+    file: usize,
+    bytes: &[u8],
+) -> Result<Vec<LineInParts>, AllocError>
     ensures value { IfOk result (λ lines. lines.items ≡ file_lines file bytes.now) }
 {
     let mut lines = Vec::new(alloc);

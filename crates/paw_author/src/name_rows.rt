@@ -4,18 +4,18 @@ ghost use Rattle.std.specs.Prelude.{◌≡◌, ◌++◌, ◌-◌, ◌&&◌, [], 
 ghost use Rattle.std.specs.List.{list_any, flat_map};
 ghost use Rattle.paw_read_error.specs.inner.Gives.{Gives};
 ghost use Rattle.paw_author.specs.Hooks.{first_line};
-ghost use Rattle.paw_author.specs.Known.{named};
+ghost use Rattle.paw_author.specs.Known.{name_for};
 ghost use Rattle.paw_author.specs.Tokens.{token_origin};
-ghost use Rattle.paw_author.specs.NameRows.{kind_named, is_flag, is_location, is_place_name, may_name, is_name_row};
-ghost use Rattle.paw_author.specs.NameRows.{word_of, word_count, is_flag_row, flag_in_word, flag_in_part, flags_in_line, flags_in_entry};
-ghost use Rattle.paw_author.specs.NameRows.{flags_in_unit, flags_written, are_same_rows, row_numbered, row_given, row_valued};
-ghost use Rattle.paw_author.specs.NameRows.{row_of_kind, row_known, rows_known, names_known};
+ghost use Rattle.paw_author.specs.NameRows.{kind_of_word, is_flag, is_location, is_reserved_name, may_name, is_naming};
+ghost use Rattle.paw_author.specs.NameRows.{nth_word, word_count, gives_flag_number, flag_in_word, flag_in_part, flags_in_line, flags_in_entry};
+ghost use Rattle.paw_author.specs.NameRows.{flags_in_unit, flags_written, name_the_same, naming_numbered, naming_given, naming_valued};
+ghost use Rattle.paw_author.specs.NameRows.{naming_of_kind, naming_known, namings_known, names_known};
 
-use crate::fragment::{Fragment, Line, Origin};
+use crate::fragment::{Fragment, LineInParts, Origin};
 use crate::hooks::first_line;
-use crate::known::{Known, NameKind, Numbers, given_once, is_name, kind_index, named};
+use crate::known::{Known, NameKind, Numbers, given_once, kind_index, may_be_name, name_for};
 use crate::mistake::{AuthorError, wrong_line};
-use crate::named_lines::{is_entry, pass_part, two_words};
+use crate::named_lines::{is_table_entry, pass_part, two_words};
 use crate::sections::{NAMES, written_number};
 use crate::tokens::{
     is_same, starts_with_byte, token_at, token_count, token_origin, without_first,
@@ -39,8 +39,8 @@ const NUMBERS: u16 = 256;
 // ---- kinds ----
 
 // What a word says that a name is the name of.
-fn kind_named(word: &[u8]) -> Option<NameKind>
-    ensures value { result ≡ kind_named word.now }
+fn kind_of_word(word: &[u8]) -> Option<NameKind>
+    ensures value { result ≡ kind_of_word word.now }
 {
     if is_same(word, b"flag") {
         Some(NameKind::Flag)
@@ -76,8 +76,8 @@ fn is_location(kind: NameKind) -> bool
 }
 
 // Whether a word is the name of a place.
-fn is_place_name(word: &[u8]) -> bool
-    ensures value { result ≡ is_place_name word.now }
+fn is_reserved_name(word: &[u8]) -> bool
+    ensures value { result ≡ is_reserved_name word.now }
 {
     is_same(word, b"HERE")
         || is_same(word, b"WORN")
@@ -89,21 +89,21 @@ fn is_place_name(word: &[u8]) -> bool
 fn may_name(kind: NameKind, word: &[u8]) -> bool
     ensures value { result ≡ may_name kind word.now }
 {
-    is_name(word) && !(is_location(kind) && is_place_name(word))
+    may_be_name(word) && !(is_location(kind) && is_reserved_name(word))
 }
 
 // ---- written numbers ----
 
 // Whether a unit is a row of `/NAMES`.
-fn is_name_row(u: &Unit) -> bool
-    ensures value { result ≡ is_name_row u.now }
+fn is_naming(u: &Unit) -> bool
+    ensures value { result ≡ is_naming u.now }
 {
     u.section == NAMES && matches!(u.kind, UnitKind::Row)
 }
 
 // The token of a row with this index.
-fn word_of(index: usize, u: &Unit) -> &[u8]
-    ensures value { result.now ≡ word_of index u.now }
+fn nth_word(index: usize, u: &Unit) -> &[u8]
+    ensures value { result.now ≡ nth_word index u.now }
 {
     token_at(index, first_line(u))
 }
@@ -116,10 +116,10 @@ fn word_count(u: &Unit) -> usize
 }
 
 // Whether a row gives a flag a number.
-fn is_flag_row(u: &Unit) -> bool
-    ensures value { result ≡ is_flag_row u.now }
+fn gives_flag_number(u: &Unit) -> bool
+    ensures value { result ≡ gives_flag_number u.now }
 {
-    word_count(u) == 3 && is_same(word_of(2, u), b"flag")
+    word_count(u) == 3 && is_same(nth_word(2, u), b"flag")
 }
 
 // The flag that a word writes, where these parameters are still to come.
@@ -174,7 +174,11 @@ fn add_line_flags(
 }
 
 // Adds the flags that lines of an entry write below its first one.
-fn add_more_flags(alloc: Global, lines: &[Line], flags: &mut Vec<u16>) -> Result<(), AllocError>
+fn add_more_flags(
+    alloc: Global,
+    lines: &[LineInParts],
+    flags: &mut Vec<u16>,
+) -> Result<(), AllocError>
     ensures value { IfOk result (λ _. flags.new.items ≡ flags.old.items ++ flat_map (λ more. flags_in_line [] more) lines.now) }
 {
     for line in lines {
@@ -184,7 +188,11 @@ fn add_more_flags(alloc: Global, lines: &[Line], flags: &mut Vec<u16>) -> Result
 }
 
 // Adds the flags that an entry writes.
-fn add_entry_flags(alloc: Global, lines: &[Line], flags: &mut Vec<u16>) -> Result<(), AllocError>
+fn add_entry_flags(
+    alloc: Global,
+    lines: &[LineInParts],
+    flags: &mut Vec<u16>,
+) -> Result<(), AllocError>
     ensures value { IfOk result (λ _. flags.new.items ≡ flags.old.items ++ flags_in_entry lines.now) }
 {
     match lines {
@@ -197,19 +205,19 @@ fn add_entry_flags(alloc: Global, lines: &[Line], flags: &mut Vec<u16>) -> Resul
 }
 
 // Whether a unit is a row that gives a flag a number.
-fn is_row_of_flag(u: &Unit) -> bool
-    ensures value { result ≡ (is_name_row u.now && is_flag_row u.now) }
+fn is_flag_naming(u: &Unit) -> bool
+    ensures value { result ≡ (is_naming u.now && gives_flag_number u.now) }
 {
-    is_name_row(u) && is_flag_row(u)
+    is_naming(u) && gives_flag_number(u)
 }
 
 // Adds the flags that a unit writes.
 fn add_unit_flags(alloc: Global, u: &Unit, flags: &mut Vec<u16>) -> Result<(), AllocError>
     ensures value { IfOk result (λ _. flags.new.items ≡ flags.old.items ++ flags_in_unit u.now) }
 {
-    if is_row_of_flag(u) {
-        add_flag(written_number(word_of(1, u)), flags)
-    } else if is_entry(u) {
+    if is_flag_naming(u) {
+        add_flag(written_number(nth_word(1, u)), flags)
+    } else if is_table_entry(u) {
         add_entry_flags(alloc, u.lines.as_slice(), flags)
     } else {
         Ok(())
@@ -231,26 +239,26 @@ fn flags_written(alloc: Global, all: &[Unit]) -> Result<Vec<u16>, AllocError>
 
 // The token of a row that says what its name is the name of.
 fn kind_word(u: &Unit) -> &[u8]
-    ensures value { result.now ≡ word_of (word_count u.now - 1) u.now }
+    ensures value { result.now ≡ nth_word (word_count u.now - 1) u.now }
 {
-    word_of(word_count(u).saturating_sub(1), u)
+    nth_word(word_count(u).saturating_sub(1), u)
 }
 
 // Whether two rows of a file are of one name and kind.
-fn are_same_rows(u: &Unit, v: &Unit) -> bool
-    ensures value { result ≡ are_same_rows u.now v.now }
+fn name_the_same(u: &Unit, v: &Unit) -> bool
+    ensures value { result ≡ name_the_same u.now v.now }
 {
-    is_name_row(v)
+    is_naming(v)
         && u.file == v.file
-        && is_same(word_of(0, u), word_of(0, v))
+        && is_same(nth_word(0, u), nth_word(0, v))
         && is_same(kind_word(u), kind_word(v))
 }
 
 // Whether one of the units before is a row of the same name and kind.
 fn is_written(before: &[Unit], u: &Unit) -> bool
-    ensures value { result ≡ list_any (λ v. are_same_rows u.now v) before.now }
+    ensures value { result ≡ list_any (λ v. name_the_same u.now v) before.now }
 {
-    before.iter().any(|v| are_same_rows(u, v))
+    before.iter().any(|v| name_the_same(u, v))
 }
 
 // The names so far with one more.
@@ -261,22 +269,22 @@ fn with_name(
     number: u16,
     s: Numbers,
 ) -> Result<Numbers, AllocError>
-    ensures value { IfOk result (λ next. next ≡ record s { known = s.known ++ named kind name.now number ∷ [] }) }
+    ensures value { IfOk result (λ next. next ≡ record s { known = s.known ++ name_for kind name.now number ∷ [] }) }
 {
     let Numbers { mut known, taken } = s;
-    known.push(named(alloc, kind, name, number)?)?;
+    known.push(name_for(alloc, kind, name, number)?)?;
     Ok(Numbers { known, taken })
 }
 
 // The names with that of a row that has a number.
-fn row_numbered(
+fn naming_numbered(
     alloc: Global,
     number: Option<u16>,
     kind: NameKind,
     u: &Unit,
     s: Numbers,
 ) -> Result<Numbers, AuthorError>
-    ensures gives { Gives (λ next. next) result (row_numbered number kind u.now s) }
+    ensures gives { Gives (λ next. next) result (naming_numbered number kind u.now s) }
 {
     let origin = token_origin(1, first_line(u));
     match number {
@@ -285,14 +293,14 @@ fn row_numbered(
             if n >= NUMBERS {
                 return Err(ReadError::Fault(wrong_line(origin, SourceKind::Range)));
             }
-            Ok(with_name(alloc, kind, word_of(0, u), n, s)?)
+            Ok(with_name(alloc, kind, nth_word(0, u), n, s)?)
         }
     }
 }
 
 // The names with that of a row that has none.
-fn row_given(alloc: Global, kind: NameKind, u: &Unit, s: Numbers) -> Result<Numbers, AuthorError>
-    ensures gives { Gives (λ next. next) result (row_given kind u.now s) }
+fn naming_given(alloc: Global, kind: NameKind, u: &Unit, s: Numbers) -> Result<Numbers, AuthorError>
+    ensures gives { Gives (λ next. next) result (naming_given kind u.now s) }
 {
     if !is_flag(kind) {
         return Err(ReadError::Fault(wrong_line(
@@ -307,19 +315,24 @@ fn row_given(alloc: Global, kind: NameKind, u: &Unit, s: Numbers) -> Result<Numb
         FLAGS_GIVEN,
         NameKind::Flag,
         origin,
-        word_of(0, u),
+        nth_word(0, u),
         s,
     )
 }
 
 // The names with that of a row, which has two tokens or three.
-fn row_valued(alloc: Global, kind: NameKind, u: &Unit, s: Numbers) -> Result<Numbers, AuthorError>
-    ensures gives { Gives (λ next. next) result (row_valued kind u.now s) }
+fn naming_valued(
+    alloc: Global,
+    kind: NameKind,
+    u: &Unit,
+    s: Numbers,
+) -> Result<Numbers, AuthorError>
+    ensures gives { Gives (λ next. next) result (naming_valued kind u.now s) }
 {
     if word_count(u) == 2 {
-        row_given(alloc, kind, u, s)
+        naming_given(alloc, kind, u, s)
     } else {
-        row_numbered(alloc, written_number(word_of(1, u)), kind, u, s)
+        naming_numbered(alloc, written_number(nth_word(1, u)), kind, u, s)
     }
 }
 
@@ -331,33 +344,38 @@ fn kind_origin(u: &Unit) -> Origin
 }
 
 // The names with that of a row of this kind.
-fn row_of_kind(
+fn naming_of_kind(
     alloc: Global,
     before: &[Unit],
     kind: Option<NameKind>,
     u: &Unit,
     s: Numbers,
 ) -> Result<Numbers, AuthorError>
-    ensures gives { Gives (λ next. next) result (row_of_kind before.now kind u.now s) }
+    ensures gives { Gives (λ next. next) result (naming_of_kind before.now kind u.now s) }
 {
     match kind {
         None => Err(ReadError::Fault(wrong_line(kind_origin(u), SourceKind::Word))),
         Some(kind) => {
             let origin = token_origin(0, first_line(u));
-            if !may_name(kind, word_of(0, u)) {
+            if !may_name(kind, nth_word(0, u)) {
                 return Err(ReadError::Fault(wrong_line(origin, SourceKind::Word)));
             }
             if is_written(before, u) {
                 return Err(ReadError::Fault(wrong_line(origin, SourceKind::Duplicate)));
             }
-            row_valued(alloc, kind, u, s)
+            naming_valued(alloc, kind, u, s)
         }
     }
 }
 
 // The names with that of a row.
-fn row_known(alloc: Global, before: &[Unit], u: &Unit, s: Numbers) -> Result<Numbers, AuthorError>
-    ensures gives { Gives (λ next. next) result (row_known before.now u.now s) }
+fn naming_known(
+    alloc: Global,
+    before: &[Unit],
+    u: &Unit,
+    s: Numbers,
+) -> Result<Numbers, AuthorError>
+    ensures gives { Gives (λ next. next) result (naming_known before.now u.now s) }
 {
     let count = word_count(u);
     if 3 < count {
@@ -366,23 +384,23 @@ fn row_known(alloc: Global, before: &[Unit], u: &Unit, s: Numbers) -> Result<Num
     if count < 2 {
         return Err(ReadError::Fault(wrong_line(token_origin(0, first_line(u)), SourceKind::Word)));
     }
-    row_of_kind(alloc, before, kind_named(kind_word(u)), u, s)
+    naming_of_kind(alloc, before, kind_of_word(kind_word(u)), u, s)
 }
 
 // The names with that of a unit, where it is a row.
 fn unit_known(alloc: Global, before: &[Unit], u: &Unit, s: Numbers) -> Result<Numbers, AuthorError>
-    ensures gives { Gives (λ next. next) result (if is_name_row u.now then row_known before.now u.now s else Ok s) }
+    ensures gives { Gives (λ next. next) result (if is_naming u.now then naming_known before.now u.now s else Ok s) }
 {
-    if is_name_row(u) {
-        row_known(alloc, before, u, s)
+    if is_naming(u) {
+        naming_known(alloc, before, u, s)
     } else {
         Ok(s)
     }
 }
 
 // The names with those of all rows.
-fn rows_known(alloc: Global, all: &[Unit], s: Numbers) -> Result<Numbers, AuthorError>
-    ensures gives { Gives (λ next. next) result (rows_known [] s all.now) }
+fn namings_known(alloc: Global, all: &[Unit], s: Numbers) -> Result<Numbers, AuthorError>
+    ensures gives { Gives (λ next. next) result (namings_known [] s all.now) }
 {
     let mut next = s;
     for (i, u) in all.iter().enumerate() {
@@ -403,6 +421,6 @@ pub(crate) fn names_known(alloc: Global, all: &[Unit]) -> Result<Vec<Known>, Aut
         known: Vec::new(alloc),
         taken,
     };
-    let Numbers { known, .. } = rows_known(alloc, all, none)?;
+    let Numbers { known, .. } = namings_known(alloc, all, none)?;
     Ok(known)
 }

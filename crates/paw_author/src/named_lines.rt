@@ -3,13 +3,13 @@
 ghost use Rattle.std.specs.Prelude.{◌≡◌, ◌++◌, [], ◌∷◌, IfOk, decimal, map};
 ghost use Rattle.paw_author.specs.NamedLines.{number_meant, word_or_number, parameter_named, kind_list, kinds_of};
 ghost use Rattle.paw_author.specs.NamedLines.{kinds_left, part_named, line_named, two_words, entry_named, number_part, without_name, header_named};
-ghost use Rattle.paw_author.specs.NamedLines.{first_line_named, is_entry, unit_named, some_words, row_kinds, row_named, is_plain_row, is_exits_item};
+ghost use Rattle.paw_author.specs.NamedLines.{first_line_named, is_table_entry, unit_named, some_words, data_kinds, data_named, has_numbers, is_exits_item};
 ghost use Rattle.paw_author.specs.NamedLines.{mark_named, mark_line, item_named, other_lines};
 ghost use Rattle.paw_base.specs.Condacts.{code_named};
 
-use crate::fragment::{Fragment, Line};
-use crate::known::{Known, NameKind, number_of, number_of_any};
-use crate::sections::{EXITS, OBJECTS, WORDS, is_number, is_table};
+use crate::fragment::{Fragment, LineInParts};
+use crate::known::{Known, NameKind, number_for, number_of_any};
+use crate::sections::{EXITS, OBJECTS, WORDS, is_number, is_table_section};
 use crate::table_numbers::{is_numbered, table_number};
 use crate::tokens::{are_token, is_token, starts_with_byte, without_first};
 use crate::units::{Unit, UnitKind};
@@ -25,18 +25,18 @@ fn number_meant(kind: ParamKind, word: &[u8], known: &[Known]) -> Option<u16>
     ensures value { result ≡ number_meant kind word.now known.now }
 {
     match kind {
-        ParamKind::Location | ParamKind::Place => number_of(NameKind::Location, word, known),
-        ParamKind::Object => number_of(NameKind::Object, word, known),
-        ParamKind::Flag => number_of(NameKind::Flag, word, known),
+        ParamKind::Location | ParamKind::Place => number_for(NameKind::Location, word, known),
+        ParamKind::Object => number_for(NameKind::Object, word, known),
+        ParamKind::Flag => number_for(NameKind::Flag, word, known),
         ParamKind::Number => number_of_any(word, known),
-        ParamKind::Message => number_of(NameKind::Message, word, known),
-        ParamKind::System => number_of(NameKind::System, word, known),
-        ParamKind::Table => number_of(NameKind::Table, word, known),
+        ParamKind::Message => number_for(NameKind::Message, word, known),
+        ParamKind::System => number_for(NameKind::System, word, known),
+        ParamKind::Table => number_for(NameKind::Table, word, known),
         _ => None,
     }
 }
 
-// Puts a number in decimal behind bytes.
+// Puts a number in decimal after bytes.
 fn put_number(number: u16, bytes: &mut Vec<u8>) -> Result<(), AllocError>
     ensures value { IfOk result (λ _. bytes.new.items ≡ bytes.old.items ++ decimal number) }
 {
@@ -44,7 +44,7 @@ fn put_number(number: u16, bytes: &mut Vec<u8>) -> Result<(), AllocError>
     bytes.extend_from_slice(digits.format(number).as_bytes())
 }
 
-// A number in decimal behind these bytes; the word itself where it stands for none.
+// A number in decimal after these bytes; the word itself where it stands for none.
 fn word_or_number(
     alloc: Global,
     word: &[u8],
@@ -77,7 +77,7 @@ fn parameter_named(
             alloc,
             word,
             b"@",
-            number_of(NameKind::Flag, without_first(word), known),
+            number_for(NameKind::Flag, without_first(word), known),
         )
     } else {
         word_or_number(alloc, word, b"", number_meant(kind, word, known))
@@ -157,12 +157,12 @@ fn line_named(
     alloc: Global,
     known: &[Known],
     kinds: VecDeque<ParamKind>,
-    line: Line,
-) -> Result<Line, AllocError>
+    line: LineInParts,
+) -> Result<LineInParts, AllocError>
     ensures value { IfOk result (λ named. named ≡ line_named known.now kinds.items line) }
 {
     let mut to_come = kinds;
-    let Line { parts } = line;
+    let LineInParts { parts } = line;
     let mut left = VecDeque::from(parts);
     let mut named = Vec::new(alloc);
     while let Some(part) = left.pop_front() {
@@ -173,7 +173,7 @@ fn line_named(
             bytes,
         })?;
     }
-    Ok(Line { parts: named })
+    Ok(LineInParts { parts: named })
 }
 
 /// Two words, which stand before the condacts of an entry.
@@ -189,13 +189,13 @@ pub(crate) fn two_words(alloc: Global) -> Result<VecDeque<ParamKind>, AllocError
     Ok(kinds)
 }
 
-// Lines of an entry below its first one, behind others.
+// Lines of an entry below its first one, after others.
 fn more_named(
     alloc: Global,
     known: &[Known],
-    lines: VecDeque<Line>,
-    before: Vec<Line>,
-) -> Result<Vec<Line>, AllocError>
+    lines: VecDeque<LineInParts>,
+    before: Vec<LineInParts>,
+) -> Result<Vec<LineInParts>, AllocError>
     ensures value { IfOk result (λ named. named.items ≡ before.items ++ map (λ line. line_named known.now [] line) lines.items) }
 {
     let mut left = lines;
@@ -207,7 +207,11 @@ fn more_named(
 }
 
 // The lines of an entry.
-fn entry_named(alloc: Global, known: &[Known], lines: Vec<Line>) -> Result<Vec<Line>, AllocError>
+fn entry_named(
+    alloc: Global,
+    known: &[Known],
+    lines: Vec<LineInParts>,
+) -> Result<Vec<LineInParts>, AllocError>
     ensures value { IfOk result (λ named. named.items ≡ entry_named known.now lines.items) }
 {
     let mut left = VecDeque::from(lines);
@@ -238,7 +242,7 @@ fn number_part(alloc: Global, number: u16, part: Fragment) -> Result<Fragment, A
     })
 }
 
-// What stands behind the number of a table, without its name and the blanks before that.
+// What stands after the number of a table, without its name and the blanks before that.
 fn without_name(parts: VecDeque<Fragment>) -> Result<VecDeque<Fragment>, AllocError>
     ensures value { IfOk result (λ left. left.items ≡ without_name parts.items) }
 {
@@ -259,26 +263,26 @@ fn without_name(parts: VecDeque<Fragment>) -> Result<VecDeque<Fragment>, AllocEr
 }
 
 // The header of the table with this number.
-fn header_named(alloc: Global, number: u16, line: Line) -> Result<Line, AllocError>
+fn header_named(alloc: Global, number: u16, line: LineInParts) -> Result<LineInParts, AllocError>
     ensures value { IfOk result (λ named. named ≡ header_named number line) }
 {
-    let Line { parts } = line;
+    let LineInParts { parts } = line;
     let mut left = VecDeque::from(parts);
     let Some(mark) = left.pop_front() else {
-        return Ok(Line {
+        return Ok(LineInParts {
             parts: Vec::from(left),
         });
     };
     let Some(gap) = left.pop_front() else {
         left.push_front(mark)?;
-        return Ok(Line {
+        return Ok(LineInParts {
             parts: Vec::from(left),
         });
     };
     let Some(word) = left.pop_front() else {
         left.push_front(gap)?;
         left.push_front(mark)?;
-        return Ok(Line {
+        return Ok(LineInParts {
             parts: Vec::from(left),
         });
     };
@@ -286,13 +290,17 @@ fn header_named(alloc: Global, number: u16, line: Line) -> Result<Line, AllocErr
     named.push_front(number_part(alloc, number, word)?)?;
     named.push_front(gap)?;
     named.push_front(mark)?;
-    Ok(Line {
+    Ok(LineInParts {
         parts: Vec::from(named),
     })
 }
 
 // The lines of a header.
-fn first_line_named(alloc: Global, number: u16, lines: Vec<Line>) -> Result<Vec<Line>, AllocError>
+fn first_line_named(
+    alloc: Global,
+    number: u16,
+    lines: Vec<LineInParts>,
+) -> Result<Vec<LineInParts>, AllocError>
     ensures value { IfOk result (λ named. named.items ≡ first_line_named number lines.items) }
 {
     let mut left = VecDeque::from(lines);
@@ -305,10 +313,10 @@ fn first_line_named(alloc: Global, number: u16, lines: Vec<Line>) -> Result<Vec<
 // ---- units ----
 
 /// Whether a unit is an entry.
-pub(crate) fn is_entry(u: &Unit) -> bool
-    ensures value { result ≡ is_entry u.now }
+pub(crate) fn is_table_entry(u: &Unit) -> bool
+    ensures value { result ≡ is_table_entry u.now }
 {
-    is_table(u.section) && matches!(u.kind, UnitKind::Row)
+    is_table_section(u.section) && matches!(u.kind, UnitKind::Row)
 }
 
 // An entry with numbers in the place of names.
@@ -353,7 +361,7 @@ fn header_unit(alloc: Global, number: u16, u: Unit) -> Result<Unit, AllocError>
     })
 }
 
-// Adds the words that a row may have behind its numbers.
+// Adds the words that a row may have after its numbers.
 fn add_words(kinds: &mut VecDeque<ParamKind>) -> Result<(), AllocError>
     ensures value { IfOk result (λ _. kinds.new.items ≡ kinds.old.items ++ some_words) }
 {
@@ -367,8 +375,8 @@ fn add_words(kinds: &mut VecDeque<ParamKind>) -> Result<(), AllocError>
 }
 
 // What the tokens of a row name, by its section.
-fn row_kinds(alloc: Global, section: usize) -> Result<VecDeque<ParamKind>, AllocError>
-    ensures value { IfOk result (λ kinds. kinds.items ≡ row_kinds section) }
+fn data_kinds(alloc: Global, section: usize) -> Result<VecDeque<ParamKind>, AllocError>
+    ensures value { IfOk result (λ kinds. kinds.items ≡ data_kinds section) }
 {
     let mut kinds = VecDeque::new(alloc);
     if section == WORDS {
@@ -387,13 +395,13 @@ fn row_kinds(alloc: Global, section: usize) -> Result<VecDeque<ParamKind>, Alloc
 }
 
 // The lines of a row.
-fn row_named(
+fn data_named(
     alloc: Global,
     known: &[Known],
     kinds: VecDeque<ParamKind>,
-    lines: Vec<Line>,
-) -> Result<Vec<Line>, AllocError>
-    ensures value { IfOk result (λ named. named.items ≡ row_named known.now kinds.items lines.items) }
+    lines: Vec<LineInParts>,
+) -> Result<Vec<LineInParts>, AllocError>
+    ensures value { IfOk result (λ named. named.items ≡ data_named known.now kinds.items lines.items) }
 {
     let mut left = VecDeque::from(lines);
     if let Some(line) = left.pop_front() {
@@ -403,16 +411,16 @@ fn row_named(
 }
 
 // Whether a unit is a row of words, exits or objects.
-fn is_plain_row(u: &Unit) -> bool
-    ensures value { result ≡ is_plain_row u.now }
+fn has_numbers(u: &Unit) -> bool
+    ensures value { result ≡ has_numbers u.now }
 {
     matches!(u.kind, UnitKind::Row)
         && (u.section == WORDS || u.section == EXITS || u.section == OBJECTS)
 }
 
 // A row with numbers in the place of names.
-fn row_unit(alloc: Global, known: &[Known], u: Unit) -> Result<Unit, AllocError>
-    ensures value { IfOk result (λ named. named ≡ record u { lines = row_named known.now (row_kinds u.section) u.lines }) }
+fn data_unit(alloc: Global, known: &[Known], u: Unit) -> Result<Unit, AllocError>
+    ensures value { IfOk result (λ named. named ≡ record u { lines = data_named known.now (data_kinds u.section) u.lines }) }
 {
     let Unit {
         section,
@@ -421,8 +429,8 @@ fn row_unit(alloc: Global, known: &[Known], u: Unit) -> Result<Unit, AllocError>
         kind,
         lines,
     } = u;
-    let kinds = row_kinds(alloc, section)?;
-    let lines = row_named(alloc, known, kinds, lines)?;
+    let kinds = data_kinds(alloc, section)?;
+    let lines = data_named(alloc, known, kinds, lines)?;
     Ok(Unit {
         section,
         table,
@@ -444,7 +452,7 @@ fn mark_named(alloc: Global, known: &[Known], part: Fragment) -> Result<Fragment
     ensures value { IfOk result (λ named. named ≡ mark_named known.now part) }
 {
     let word = part.bytes.as_slice();
-    let number = number_of(NameKind::Location, without_first(word), known);
+    let number = number_for(NameKind::Location, without_first(word), known);
     Ok(Fragment {
         origin: part.origin,
         bytes: word_or_number(alloc, word, b"/", number)?,
@@ -452,21 +460,25 @@ fn mark_named(alloc: Global, known: &[Known], part: Fragment) -> Result<Fragment
 }
 
 // The first line of an item of exits.
-fn mark_line(alloc: Global, known: &[Known], line: Line) -> Result<Line, AllocError>
+fn mark_line(alloc: Global, known: &[Known], line: LineInParts) -> Result<LineInParts, AllocError>
     ensures value { IfOk result (λ named. named ≡ mark_line known.now line) }
 {
-    let Line { parts } = line;
+    let LineInParts { parts } = line;
     let mut left = VecDeque::from(parts);
     if let Some(part) = left.pop_front() {
         left.push_front(mark_named(alloc, known, part)?)?;
     }
-    Ok(Line {
+    Ok(LineInParts {
         parts: Vec::from(left),
     })
 }
 
 // The lines of an item of exits.
-fn item_named(alloc: Global, known: &[Known], lines: Vec<Line>) -> Result<Vec<Line>, AllocError>
+fn item_named(
+    alloc: Global,
+    known: &[Known],
+    lines: Vec<LineInParts>,
+) -> Result<Vec<LineInParts>, AllocError>
     ensures value { IfOk result (λ named. named.items ≡ item_named known.now lines.items) }
 {
     let mut left = VecDeque::from(lines);
@@ -501,8 +513,8 @@ fn item_unit(alloc: Global, known: &[Known], u: Unit) -> Result<Unit, AllocError
 fn other_named(alloc: Global, known: &[Known], u: Unit) -> Result<Unit, AllocError>
     ensures value { IfOk result (λ named. named ≡ record u { lines = other_lines known.now u }) }
 {
-    if is_plain_row(&u) {
-        row_unit(alloc, known, u)
+    if has_numbers(&u) {
+        data_unit(alloc, known, u)
     } else if is_exits_item(&u) {
         item_unit(alloc, known, u)
     } else {
@@ -514,7 +526,7 @@ fn other_named(alloc: Global, known: &[Known], u: Unit) -> Result<Unit, AllocErr
 fn unit_named(alloc: Global, known: &[Known], u: Unit) -> Result<Unit, AllocError>
     ensures value { IfOk result (λ named. named ≡ unit_named known.now u) }
 {
-    if is_entry(&u) {
+    if is_table_entry(&u) {
         entry_unit(alloc, known, u)
     } else if is_numbered(&u) {
         header_unit(alloc, table_number(&u), u)

@@ -5,11 +5,11 @@ ghost use Rattle.std.specs.List.{flat_map, position};
 ghost use Rattle.std.specs.Option.{option_copied};
 ghost use Rattle.paw_author.specs.Hooks.{unit_lines};
 ghost use Rattle.paw_author.specs.Order.{made_headers, made_line, header_made, is_header_of, header_or_made, is_own};
-ghost use Rattle.paw_author.specs.Order.{is_place, own_lines, with_file, lines_in_files, files_of, header_lines, section_lines};
+ghost use Rattle.paw_author.specs.Order.{is_open_hook, own_lines, lines_with_file, lines_in_files, files_of, header_lines, section_lines};
 ghost use Rattle.paw_author.specs.Order.{sections, ends_with_lf, has_line_end, ended_line, all_ended, in_order};
 ghost use Rattle.paw_author.specs.declared.sections.TheConstants.{SECTIONS, WORDS};
 
-use crate::fragment::{Fragment, Line, Origin};
+use crate::fragment::{Fragment, LineInParts, Origin};
 use crate::hooks::{add_lines, add_unit, has_no_name, is_header, is_hook};
 use crate::sections::{NAMES, SECTIONS, WORDS};
 use crate::tokens::line_origin;
@@ -34,7 +34,7 @@ static MADE_HEADERS: [&[u8]; 10] = [
 ];
 
 // A line of one part.
-fn line_of(alloc: Global, origin: Origin, bytes: &[u8]) -> Result<Line, AllocError>
+fn line_of(alloc: Global, origin: Origin, bytes: &[u8]) -> Result<LineInParts, AllocError>
     ensures value { IfOk result (λ line. line ≡ record { origin = origin; bytes = bytes.now } ∷ []) }
 {
     let mut parts = Vec::new(alloc);
@@ -42,7 +42,7 @@ fn line_of(alloc: Global, origin: Origin, bytes: &[u8]) -> Result<Line, AllocErr
         origin,
         bytes: Vec::from_slice(alloc, bytes)?,
     })?;
-    Ok(Line { parts })
+    Ok(LineInParts { parts })
 }
 
 // Adds a line that stands for nothing that is written.
@@ -50,7 +50,7 @@ fn add_made_line(
     alloc: Global,
     headers: &[&[u8]],
     index: usize,
-    out: &mut Vec<Line>,
+    out: &mut Vec<LineInParts>,
 ) -> Result<(), AllocError>
     ensures value { IfOk result (λ _. out.new.items ≡ out.old.items ++ made_line (slice_get (map (λ header. header.now) headers.now) index)) }
 {
@@ -66,7 +66,11 @@ fn add_made_line(
 }
 
 // Adds the header of a section that has none.
-fn add_made_header(alloc: Global, section: usize, out: &mut Vec<Line>) -> Result<(), AllocError>
+fn add_made_header(
+    alloc: Global,
+    section: usize,
+    out: &mut Vec<LineInParts>,
+) -> Result<(), AllocError>
     ensures value { IfOk result (λ _. out.new.items ≡ out.old.items ++ header_made section) }
 {
     if WORDS <= section {
@@ -95,7 +99,7 @@ fn add_header(
     alloc: Global,
     all: &[Unit],
     section: usize,
-    out: &mut Vec<Line>,
+    out: &mut Vec<LineInParts>,
 ) -> Result<(), AllocError>
     ensures value { IfOk result (λ _. out.new.items ≡ out.old.items ++ header_lines all.now section) }
 {
@@ -115,18 +119,18 @@ fn is_own(section: usize, file: usize, u: &Unit) -> bool
 }
 
 // Whether a unit marks the place for the entries of the files above its own.
-fn is_place(section: usize, file: usize, u: &Unit) -> bool
-    ensures value { result ≡ is_place section file u.now }
+fn is_open_hook(section: usize, file: usize, u: &Unit) -> bool
+    ensures value { result ≡ is_open_hook section file u.now }
 {
     is_own(section, file, u) && is_hook(u) && has_no_name(u)
 }
 
 // The index of that unit.
-fn place_of(all: &[Unit], section: usize, file: usize) -> Option<usize>
-    ensures value { result ≡ position (λ u. is_place section file u) all.now }
+fn open_hook_of(all: &[Unit], section: usize, file: usize) -> Option<usize>
+    ensures value { result ≡ position (λ u. is_open_hook section file u) all.now }
     ensures within { IfSome result (λ i. i < length all.now) }
 {
-    all.iter().position(|u| is_place(section, file, u))
+    all.iter().position(|u| is_open_hook(section, file, u))
 }
 
 // Adds the lines of a unit where it comes out in this section as one of this file.
@@ -136,7 +140,7 @@ fn add_own_unit(
     section: usize,
     file: usize,
     u: &Unit,
-    out: &mut Vec<Line>,
+    out: &mut Vec<LineInParts>,
 ) -> Result<(), AllocError>
     ensures value { IfOk result (λ _. out.new.items
         ≡ out.old.items ++ (if is_own section file u.now then unit_lines all.now u.now else [])) }
@@ -154,7 +158,7 @@ fn add_own_lines(
     section: usize,
     file: usize,
     units: &[Unit],
-    out: &mut Vec<Line>,
+    out: &mut Vec<LineInParts>,
 ) -> Result<(), AllocError>
     ensures value { IfOk result (λ _. out.new.items ≡ out.old.items ++ own_lines all.now section file units.now) }
 {
@@ -165,18 +169,18 @@ fn add_own_lines(
 }
 
 // The lines of a section with those of one file more.
-fn with_file(
+fn lines_with_file(
     alloc: Global,
     all: &[Unit],
     section: usize,
     file: usize,
-    above: Vec<Line>,
-) -> Result<Vec<Line>, AllocError>
+    above: Vec<LineInParts>,
+) -> Result<Vec<LineInParts>, AllocError>
     ensures value { IfOk result (λ lines. lines.items
-        ≡ with_file all.now section file above.items (position (λ u. is_place section file u) all.now)) }
+        ≡ lines_with_file all.now section file above.items (position (λ u. is_open_hook section file u) all.now)) }
 {
     let mut above = above;
-    match place_of(all, section, file) {
+    match open_hook_of(all, section, file) {
         None => {
             add_own_lines(alloc, all, section, file, all, &mut above)?;
             Ok(above)
@@ -198,12 +202,12 @@ fn lines_in_files(
     all: &[Unit],
     section: usize,
     files: usize,
-) -> Result<Vec<Line>, AllocError>
+) -> Result<Vec<LineInParts>, AllocError>
     ensures value { IfOk result (λ lines. lines.items ≡ lines_in_files all.now section files) }
 {
     let mut lines = Vec::new(alloc);
     for file in 0..files {
-        lines = with_file(alloc, all, section, file, lines)?;
+        lines = lines_with_file(alloc, all, section, file, lines)?;
     }
     Ok(lines)
 }
@@ -221,7 +225,7 @@ fn add_section(
     files: usize,
     all: &[Unit],
     section: usize,
-    out: &mut Vec<Line>,
+    out: &mut Vec<LineInParts>,
 ) -> Result<(), AllocError>
     ensures value { IfOk result (λ _. out.new.items ≡ out.old.items ++ section_lines files all.now section) }
 {
@@ -235,7 +239,7 @@ fn add_section(
 }
 
 // The lines of all sections, one section after another.
-fn sections(alloc: Global, files: usize, all: &[Unit]) -> Result<Vec<Line>, AllocError>
+fn sections(alloc: Global, files: usize, all: &[Unit]) -> Result<Vec<LineInParts>, AllocError>
     ensures value { IfOk result (λ lines. lines.items ≡ sections SECTIONS 0 files all.now) }
 {
     let mut lines = Vec::new(alloc);
@@ -265,23 +269,23 @@ fn has_line_end(line: &[Fragment]) -> bool
 }
 
 // A line with a line end.
-fn ended_line(alloc: Global, line: Line) -> Result<Line, AllocError>
+fn ended_line(alloc: Global, line: LineInParts) -> Result<LineInParts, AllocError>
     ensures value { IfOk result (λ ended. ended ≡ ended_line line) }
 {
     if has_line_end(line.parts.as_slice()) {
         return Ok(line);
     }
     let origin = line_origin(line.parts.as_slice());
-    let Line { mut parts } = line;
+    let LineInParts { mut parts } = line;
     parts.push(Fragment {
         origin,
         bytes: Vec::from_slice(alloc, b"\n")?,
     })?;
-    Ok(Line { parts })
+    Ok(LineInParts { parts })
 }
 
 // A line as it comes out: the last one is as it is.
-fn ended_unless(alloc: Global, last: bool, line: Line) -> Result<Line, AllocError>
+fn ended_unless(alloc: Global, last: bool, line: LineInParts) -> Result<LineInParts, AllocError>
     ensures value { IfOk result (λ ended. ended ≡ (if last then line else ended_line line)) }
 {
     if last {
@@ -293,7 +297,7 @@ fn ended_unless(alloc: Global, last: bool, line: Line) -> Result<Line, AllocErro
 
 // All lines, of which each but the last has a line end.
 #[tactic(auto, unfolding(crate::specs::Order::all_ended))]
-fn all_ended(alloc: Global, lines: Vec<Line>) -> Result<Vec<Line>, AllocError>
+fn all_ended(alloc: Global, lines: Vec<LineInParts>) -> Result<Vec<LineInParts>, AllocError>
     ensures value { IfOk result (λ ended. ended.items ≡ all_ended lines.items) }
 {
     let mut left = VecDeque::from(lines);
@@ -309,7 +313,11 @@ fn all_ended(alloc: Global, lines: Vec<Line>) -> Result<Vec<Line>, AllocError>
 ///
 /// # Errors
 /// Where there is no memory.
-pub(crate) fn in_order(alloc: Global, files: usize, all: &[Unit]) -> Result<Vec<Line>, AllocError>
+pub(crate) fn in_order(
+    alloc: Global,
+    files: usize,
+    all: &[Unit],
+) -> Result<Vec<LineInParts>, AllocError>
     ensures value { IfOk result (λ lines. lines.items ≡ in_order files all.now) }
 {
     let lines = sections(alloc, files, all)?;

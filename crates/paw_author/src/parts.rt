@@ -4,7 +4,7 @@ ghost use Rattle.std.specs.Prelude.{◌≡◌, ◌<◌, ◌≤◌, ◌+◌, ◌�
 ghost use Rattle.std.specs.List.{prefix_len, position_or_len};
 ghost use Rattle.paw_author.specs.Parts.{is_gap, stops_token, quoted_len, part_len, line_parts};
 
-use crate::fragment::{Fragment, Line, Origin};
+use crate::fragment::{Fragment, LineInParts, Origin};
 use std::alloc::{AllocError, Global};
 
 /// Whether a byte stands between tokens: it is a blank, a tab, or a byte of a line end.
@@ -37,7 +37,7 @@ fn token_len(line: &[u8]) -> usize
     line.iter().take_while(|byte| !stops_token(**byte)).count()
 }
 
-// How many bytes a text goes on for behind its first quote.
+// How many bytes a text goes on for after its first quote.
 #[tactic(auto, using(crate::proofs::Quoted::one_quoted, crate::proofs::Quoted::none_quoted))]
 fn quoted_len(text: &[u8]) -> usize
     ensures value { result ≡ quoted_len true text.now }
@@ -106,7 +106,7 @@ pub(crate) fn line_parts(
     file: usize,
     number: usize,
     bytes: &[u8],
-) -> Result<Line, AllocError>
+) -> Result<LineInParts, AllocError>
     ensures value { IfOk result (λ line. line ≡ line_parts file number bytes.now) }
 {
     let mut parts = Vec::new(alloc);
@@ -123,5 +123,5 @@ pub(crate) fn line_parts(
         column += first.len();
         left = rest;
     }
-    Ok(Line { parts })
+    Ok(LineInParts { parts })
 }

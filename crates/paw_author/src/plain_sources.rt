@@ -4,13 +4,13 @@ ghost use Rattle.std.specs.Prelude.{◌≡◌, ◌||◌, not};
 ghost use Rattle.std.specs.List.{list_all, list_any};
 ghost use Rattle.paw_author.specs.Tokens.{is_token, is_same};
 ghost use Rattle.paw_author.specs.PlainSources.{own_words, has_own_word, is_plain_table, is_plain_item, is_plain_token};
-ghost use Rattle.paw_author.specs.PlainSources.{is_plain_row, is_plain_mark, is_plain_line, section_behind, text_behind};
+ghost use Rattle.paw_author.specs.PlainSources.{is_plain_data, is_plain_mark, is_plain_line, section_behind, text_behind};
 ghost use Rattle.paw_author.specs.PlainSources.{are_plain, is_plain_source};
 
-use crate::fragment::{Fragment, Line};
+use crate::fragment::{Fragment, LineInParts};
 use crate::sections::{EXITS, WORDS, has_texts, header_section, is_number, is_table_header};
 use crate::tokens::{
-    begins_with_slash, is_same, is_token, leading_word, starts_with_byte, token_at, token_count,
+    is_same, is_token, leading_word, starts_with_byte, starts_with_slash, token_at, token_count,
     without_first,
 };
 
@@ -85,8 +85,8 @@ fn has_plain_tokens(line: &[Fragment]) -> bool
 }
 
 // Whether a row has only tokens that may stand in a plain row; one of words has three of them.
-fn is_plain_row(section: usize, line: &[Fragment]) -> bool
-    ensures value { result ≡ is_plain_row section line.now }
+fn is_plain_data(section: usize, line: &[Fragment]) -> bool
+    ensures value { result ≡ is_plain_data section line.now }
 {
     let count = token_count(line);
     has_plain_tokens(line) && (section != WORDS || count == 0 || count == 3)
@@ -109,10 +109,10 @@ fn is_plain_mark(section: usize, line: &[Fragment]) -> bool
 fn is_plain_line(section: usize, text: bool, line: &[Fragment]) -> bool
     ensures value { result ≡ is_plain_line section text line.now }
 {
-    if begins_with_slash(line) {
+    if starts_with_slash(line) {
         is_plain_mark(section, line)
     } else {
-        text || is_plain_row(section, line)
+        text || is_plain_data(section, line)
     }
 }
 
@@ -120,7 +120,7 @@ fn is_plain_line(section: usize, text: bool, line: &[Fragment]) -> bool
 fn section_behind(section: usize, line: &[Fragment]) -> usize
     ensures value { result ≡ section_behind section line.now }
 {
-    if begins_with_slash(line) {
+    if starts_with_slash(line) {
         header_section(line).unwrap_or(section)
     } else {
         section
@@ -131,7 +131,7 @@ fn section_behind(section: usize, line: &[Fragment]) -> usize
 fn text_behind(section: usize, text: bool, line: &[Fragment]) -> bool
     ensures value { result ≡ text_behind section text line.now }
 {
-    if begins_with_slash(line) {
+    if starts_with_slash(line) {
         header_section(line).is_none() && has_texts(section)
     } else {
         text
@@ -140,7 +140,7 @@ fn text_behind(section: usize, text: bool, line: &[Fragment]) -> bool
 
 /// Whether the lines of a file are a plain source.
 #[tactic(auto, unfolding(crate::specs::PlainSources::are_plain))]
-pub(crate) fn is_plain_source(lines: &[Line]) -> bool
+pub(crate) fn is_plain_source(lines: &[LineInParts]) -> bool
     ensures value { result ≡ is_plain_source lines.now }
 {
     let mut left = lines;

@@ -5,7 +5,7 @@ ghost use Rattle.std.specs.List.{position};
 ghost use Rattle.std.specs.Option.{option_map};
 ghost use Rattle.paw_author.specs.Tokens.{is_same};
 ghost use Rattle.paw_author.specs.Sections.{number_after, is_number, written_number, table_section, index_of_name, headers};
-ghost use Rattle.paw_author.specs.Sections.{is_table_header, header_section, has_texts, has_items, has_facts, is_table};
+ghost use Rattle.paw_author.specs.Sections.{is_table_header, header_section, has_texts, has_items, has_facts, is_table_section};
 
 use crate::fragment::Fragment;
 use crate::tokens::{is_same, leading_word, token_at};
@@ -31,7 +31,7 @@ const LETTERS: usize = 4;
 /// The section of words, the first that each plain source has.
 pub(crate) const WORDS: usize = 5;
 
-/// The section of exits, the first behind those with texts.
+/// The section of exits, the first after those with texts.
 pub(crate) const EXITS: usize = 10;
 
 /// The section of objects.
@@ -51,7 +51,7 @@ const TABLE_NUMBERS: u16 = 256;
 
 // The number that decimal digits are; 256 stands for any number from there on.
 #[tactic(auto, using(crate::proofs::Digits::one_digit, crate::proofs::Digits::no_digit))]
-fn number_of(word: &[u8]) -> Option<u16>
+fn number_for(word: &[u8]) -> Option<u16>
     ensures value { result ≡ number_after 0 word.now }
 {
     let mut number: u16 = 0;
@@ -68,7 +68,7 @@ fn number_of(word: &[u8]) -> Option<u16>
 pub(crate) fn is_number(token: &[u8]) -> bool
     ensures value { result ≡ is_number token.now }
 {
-    !token.is_empty() && number_of(token).is_some()
+    !token.is_empty() && number_for(token).is_some()
 }
 
 /// The number that a word is; 256 stands for any number from there on.
@@ -76,7 +76,7 @@ pub(crate) fn written_number(word: &[u8]) -> Option<u16>
     ensures value { result ≡ written_number word.now }
 {
     if is_number(word) {
-        number_of(word)
+        number_for(word)
     } else {
         None
     }
@@ -89,7 +89,7 @@ fn table_section(word: &[u8]) -> usize
     if word.is_empty() {
         return NAMED_TABLES;
     }
-    match number_of(word) {
+    match number_for(word) {
         None => NAMED_TABLES,
         Some(number) => {
             if number < TABLE_NUMBERS {
@@ -156,8 +156,8 @@ pub(crate) fn has_facts(section: usize) -> bool
 }
 
 /// Whether a section is a table.
-pub(crate) fn is_table(section: usize) -> bool
-    ensures value { result ≡ is_table section }
+pub(crate) fn is_table_section(section: usize) -> bool
+    ensures value { result ≡ is_table_section section }
 {
     TABLES <= section
 }

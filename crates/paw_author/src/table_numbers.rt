@@ -5,14 +5,16 @@ ghost use Rattle.paw_read_error.specs.inner.Gives.{Gives};
 ghost use Rattle.paw_author.specs.declared.sections.TheConstants.{TABLES, NAMED_TABLES};
 ghost use Rattle.paw_author.specs.declared.known.NameKind.TheVariants.{Table};
 ghost use Rattle.paw_author.specs.Hooks.{is_for_hook};
-ghost use Rattle.paw_author.specs.Known.{number_of};
+ghost use Rattle.paw_author.specs.Known.{number_for};
 ghost use Rattle.paw_author.specs.TableNumbers.{is_numbered, numbers_written, is_table_name, numbers_known, first_taken, known_once, name_written};
 ghost use Rattle.paw_author.specs.TableNumbers.{names_written, is_named_table, name_given, names_given};
-ghost use Rattle.paw_author.specs.TableNumbers.{tables_known, in_table, unit_numbered};
+ghost use Rattle.paw_author.specs.TableNumbers.{tables_known, moved_to_table, unit_numbered};
 
 use crate::fragment::Origin;
 use crate::hooks::{HookName, first_line, is_for_hook, is_header};
-use crate::known::{Known, NameKind, Numbers, given_once, is_name, kind_index, named, number_of};
+use crate::known::{
+    Known, NameKind, Numbers, given_once, kind_index, may_be_name, name_for, number_for,
+};
 use crate::mistake::{AuthorError, wrong_line};
 use crate::sections::{NAMED_TABLES, TABLES};
 use crate::tokens::{token_at, token_count, token_origin};
@@ -79,7 +81,7 @@ fn known_once(
     let mut more = known;
     match before {
         None => {
-            more.push(named(alloc, NameKind::Table, name, number)?)?;
+            more.push(name_for(alloc, NameKind::Table, name, number)?)?;
             Ok(more)
         }
         Some(other) => {
@@ -91,7 +93,7 @@ fn known_once(
     }
 }
 
-// The names so far with the one that stands behind a number in a header.
+// The names so far with the one that stands after a number in a header.
 fn name_written(alloc: Global, u: &Unit, known: Vec<Known>) -> Result<Vec<Known>, AuthorError>
     requires table { IsTrue (is_numbered u.now) }
     ensures gives { Gives (λ more. more.items) result (name_written u.now known.items) }
@@ -102,10 +104,10 @@ fn name_written(alloc: Global, u: &Unit, known: Vec<Known>) -> Result<Vec<Known>
     }
     let name = token_at(2, line);
     let origin = token_origin(2, line);
-    if !is_name(name) {
+    if !may_be_name(name) {
         return Err(ReadError::Fault(wrong_line(origin, SourceKind::Word)));
     }
-    let before = number_of(NameKind::Table, name, known.as_slice());
+    let before = number_for(NameKind::Table, name, known.as_slice());
     known_once(alloc, table_number(u), before, origin, name, known)
 }
 
@@ -120,7 +122,7 @@ fn unit_written(alloc: Global, u: &Unit, known: Vec<Known>) -> Result<Vec<Known>
     }
 }
 
-// The names so far with all that stand behind numbers.
+// The names so far with all that stand after numbers.
 #[tactic(auto, unfolding(crate::specs::TableNumbers::names_written))]
 fn names_written(alloc: Global, known: Vec<Known>, all: &[Unit]) -> Result<Vec<Known>, AuthorError>
     ensures gives { Gives (λ more. more.items) result (names_written known.items all.now) }
@@ -149,7 +151,7 @@ fn name_given(alloc: Global, u: &Unit, s: Numbers) -> Result<Numbers, AuthorErro
 {
     let name = u.table.as_slice();
     let origin = token_origin(1, first_line(u));
-    if !is_name(name) {
+    if !may_be_name(name) {
         return Err(ReadError::Fault(wrong_line(origin, SourceKind::Word)));
     }
     given_once(
@@ -260,8 +262,8 @@ pub(crate) fn tables_known(
 // ---- units ----
 
 // The unit of a table with this number.
-fn in_table(alloc: Global, number: Option<u16>, u: Unit) -> Unit
-    ensures value { result ≡ in_table number u }
+fn moved_to_table(alloc: Global, number: Option<u16>, u: Unit) -> Unit
+    ensures value { result ≡ moved_to_table number u }
 {
     match number {
         None => u,
@@ -291,7 +293,7 @@ fn unit_numbered(alloc: Global, hooks: &[HookName], known: &[Known], u: Unit) ->
         return u;
     }
     let number = number_of_table(known, &u);
-    in_table(alloc, number, u)
+    moved_to_table(alloc, number, u)
 }
 
 // Whether a unit stands in a table with a name, and isn't for a place.
@@ -303,9 +305,9 @@ fn is_in_named_table(hooks: &[HookName], u: &Unit) -> bool
 
 // The number of the table with a name in which a unit stands.
 fn number_of_table(known: &[Known], u: &Unit) -> Option<u16>
-    ensures value { result ≡ number_of Table u.now.table known.now }
+    ensures value { result ≡ number_for Table u.now.table known.now }
 {
-    number_of(NameKind::Table, u.table.as_slice(), known)
+    number_for(NameKind::Table, u.table.as_slice(), known)
 }
 
 /// All units, those of tables with names in the tables that have their numbers.

@@ -2,7 +2,7 @@
 
 use crate::author::PlainSource;
 use crate::file::{File, Switch};
-use crate::fragment::{Line, Origin};
+use crate::fragment::{LineInParts, Origin};
 use crate::mistake::{AuthorError, Mistake, MistakeKind};
 use crate::plain_lines;
 use paw_base::fault::SourceKind;
@@ -33,7 +33,7 @@ fn source_of_two(alloc: Global, game: &[u8], lib: &[u8]) -> Result<PlainSource, 
 }
 
 // Adds the bytes of a line.
-fn add_bytes(line: &Line, bytes: &mut Vec<u8>) -> Result<(), AllocError> {
+fn add_bytes(line: &LineInParts, bytes: &mut Vec<u8>) -> Result<(), AllocError> {
     for part in &line.parts {
         bytes.extend_from_slice(part.bytes.as_slice())?;
     }
@@ -41,7 +41,7 @@ fn add_bytes(line: &Line, bytes: &mut Vec<u8>) -> Result<(), AllocError> {
 }
 
 // The bytes of all lines.
-fn bytes_of(alloc: Global, lines: &[Line]) -> Result<Vec<u8>, AllocError> {
+fn bytes_of(alloc: Global, lines: &[LineInParts]) -> Result<Vec<u8>, AllocError> {
     let mut bytes = Vec::new(alloc);
     for line in lines {
         add_bytes(line, &mut bytes)?;
@@ -50,7 +50,7 @@ fn bytes_of(alloc: Global, lines: &[Line]) -> Result<Vec<u8>, AllocError> {
 }
 
 // Where a part of a line is written.
-fn origin_of(lines: &[Line], index: usize, part: usize) -> Option<Origin> {
+fn origin_of(lines: &[LineInParts], index: usize, part: usize) -> Option<Origin> {
     let line = lines.get(index)?;
     let part = line.parts.get(part)?;
     Some(part.origin)
@@ -116,7 +116,7 @@ fn sections_of_two_files_become_one(rt: HostRuntime) -> Result<(), Fail> {
 }
 
 #[test]
-fn entries_stand_at_the_places_for_them(rt: HostRuntime) -> Result<(), Fail> {
+fn entries_stand_where_they_are_hooked(rt: HostRuntime) -> Result<(), Fail> {
     let alloc = rt.alloc();
     let game =
         b"/INCLUDE lib\n/PRO 0\nRING _ AT 1\n MESSAGE 2\n\n DONE ; far\n/PRO odd ; more\nSING _ OK\n/VOC\n";
@@ -131,7 +131,7 @@ fn entries_stand_at_the_places_for_them(rt: HostRuntime) -> Result<(), Fail> {
 }
 
 #[test]
-fn tables_have_numbers_in_the_place_of_names(rt: HostRuntime) -> Result<(), Fail> {
+fn tables_have_numbers_for_their_names(rt: HostRuntime) -> Result<(), Fail> {
     let alloc = rt.alloc();
     let game =
         b"/INCLUDE lib\n/PRO  Talk ; of it\nA _ PROCESS walk PROCESS @walk ; walk\n/PRO 4 ring ; once\n\
@@ -154,7 +154,7 @@ fn tables_have_numbers_in_the_place_of_names(rt: HostRuntime) -> Result<(), Fail
 }
 
 #[test]
-fn names_of_rows_stand_for_their_numbers(rt: HostRuntime) -> Result<(), Fail> {
+fn names_stand_for_their_numbers(rt: HostRuntime) -> Result<(), Fail> {
     let alloc = rt.alloc();
     let game =
         b"/INCLUDE lib\n/NAMES\nlamp 2 object\nhall 1 location\ncoins flag\nscore 30 flag\nbest 5 number\n\

@@ -3,9 +3,9 @@
 ghost use Rattle.std.specs.Prelude.{◌≡◌, ◌==◌, true, drop, IfOk, count_by, slice_get};
 ghost use Rattle.std.specs.Option.{option_copied};
 ghost use Rattle.paw_read_error.specs.inner.Gives.{Gives};
-ghost use Rattle.paw_author.specs.Tokens.{starts_with_byte, is_token, tokens_of, bytes_of, token_at, token_count, is_same};
-ghost use Rattle.paw_author.specs.Tokens.{first_bytes, origin_of, line_origin, token_origin, leading_word, begins_with_slash};
-ghost use Rattle.paw_author.specs.Tokens.{is_quoted, unquoted, unquoted_from, is_closed, nothing_behind, text_ends, texts_end};
+ghost use Rattle.paw_author.specs.Tokens.{starts_with_byte, is_token, line_tokens, bytes_if_any, token_at, token_count, is_same};
+ghost use Rattle.paw_author.specs.Tokens.{first_bytes, origin_of, line_origin, token_origin, leading_word, starts_with_slash};
+ghost use Rattle.paw_author.specs.Tokens.{is_quoted, without_quotes, unquoted_from, is_closed, nothing_behind, text_ends, texts_end};
 
 use crate::fragment::{Fragment, Origin};
 use crate::mistake::{AuthorError, wrong_line};
@@ -55,7 +55,7 @@ pub(crate) fn without_first(token: &[u8]) -> &[u8]
 
 /// The token of a line with this index.
 pub(crate) fn token(line: &[Fragment], index: usize) -> Option<&Fragment>
-    ensures value { option_copied result ≡ slice_get (tokens_of line.now) index }
+    ensures value { option_copied result ≡ slice_get (line_tokens line.now) index }
 {
     let mut skipped = index;
     for part in line {
@@ -70,8 +70,8 @@ pub(crate) fn token(line: &[Fragment], index: usize) -> Option<&Fragment>
 }
 
 // The bytes of a part, if there is one.
-fn bytes_of(part: Option<&Fragment>) -> &[u8]
-    ensures value { result.now ≡ bytes_of (option_copied part.entry) }
+fn bytes_if_any(part: Option<&Fragment>) -> &[u8]
+    ensures value { result.now ≡ bytes_if_any (option_copied part.entry) }
 {
     match part {
         Some(part) => part.bytes.as_slice(),
@@ -83,7 +83,7 @@ fn bytes_of(part: Option<&Fragment>) -> &[u8]
 pub(crate) fn token_at(index: usize, line: &[Fragment]) -> &[u8]
     ensures value { result.now ≡ token_at index line.now }
 {
-    bytes_of(token(line, index))
+    bytes_if_any(token(line, index))
 }
 
 /// How many tokens a line has.
@@ -106,7 +106,7 @@ pub(crate) fn is_same(word: &[u8], name: &[u8]) -> bool
 pub(crate) fn first_bytes(line: &[Fragment]) -> &[u8]
     ensures value { result.now ≡ first_bytes line.now }
 {
-    bytes_of(line.first())
+    bytes_if_any(line.first())
 }
 
 /// Where a part begins. What isn't there begins nowhere.
@@ -159,8 +159,8 @@ pub(crate) fn leading_word(line: &[Fragment]) -> &[u8]
 }
 
 /// Whether a line begins with `/`.
-pub(crate) fn begins_with_slash(line: &[Fragment]) -> bool
-    ensures value { result ≡ begins_with_slash line.now }
+pub(crate) fn starts_with_slash(line: &[Fragment]) -> bool
+    ensures value { result ≡ starts_with_slash line.now }
 {
     starts_with_byte(b'/', first_bytes(line))
 }
@@ -174,7 +174,7 @@ pub(crate) fn is_quoted(part: &[u8]) -> bool
     starts_with_byte(b'"', part)
 }
 
-// What a text says behind its first quote.
+// What a text says after its first quote.
 #[tactic(auto, using(crate::proofs::Quoted::one_unquoted, crate::proofs::Quoted::none_unquoted))]
 fn unquoted_behind(alloc: Global, rest: &[u8]) -> Result<Vec<u8>, AllocError>
     ensures value { IfOk result (λ bytes. bytes.items ≡ unquoted_from true rest.now) }
@@ -202,8 +202,8 @@ fn unquoted_behind(alloc: Global, rest: &[u8]) -> Result<Vec<u8>, AllocError>
 /// # Errors
 /// Where there is no memory.
 #[tactic(auto, unfolding(crate::specs::Tokens::unquoted_from))]
-pub(crate) fn unquoted(alloc: Global, text: &[u8]) -> Result<Vec<u8>, AllocError>
-    ensures value { IfOk result (λ bytes. bytes.items ≡ unquoted text.now) }
+pub(crate) fn without_quotes(alloc: Global, text: &[u8]) -> Result<Vec<u8>, AllocError>
+    ensures value { IfOk result (λ bytes. bytes.items ≡ without_quotes text.now) }
 {
     match text {
         [_, rest @ ..] => unquoted_behind(alloc, rest),
@@ -225,7 +225,7 @@ fn is_closed(text: &[u8]) -> bool
     quote_count(text) % 2 == 0
 }
 
-// Looks whether a token stands right behind a text.
+// Looks whether a token stands right after a text.
 fn nothing_behind(parts: &[Fragment]) -> Result<(), AuthorError>
     ensures gives { Gives (λ _. tt) result (nothing_behind parts.now) }
 {
@@ -240,7 +240,7 @@ fn nothing_behind(parts: &[Fragment]) -> Result<(), AuthorError>
     }
 }
 
-// Looks whether a part ends, where it is a text, and no token stands right behind it.
+// Looks whether a part ends, where it is a text, and no token stands right after it.
 fn text_ends(part: &Fragment, parts: &[Fragment]) -> Result<(), AuthorError>
     ensures gives { Gives (λ _. tt) result (text_ends part.now parts.now) }
 {

@@ -3,20 +3,20 @@
 ghost use Rattle.std.specs.Prelude.{◌≡◌, ◌++◌, ◌∷◌, [], IfOk};
 ghost use Rattle.paw_read_error.specs.inner.Gives.{Gives};
 ghost use Rattle.paw_author.specs.Sections.{header_section};
-ghost use Rattle.paw_author.specs.Units.{UnitLines, begun, begun_here, gone_on, is_in_text, is_aside, include_read};
-ghost use Rattle.paw_author.specs.Units.{at_most, header_ends, table_name, header_read, is_hook, hook_read};
-ghost use Rattle.paw_author.specs.Units.{item_read, slash_read, marked_read, is_row, has_more, more_read, may_have_row};
-ghost use Rattle.paw_author.specs.Units.{row_read, meant_read, line_read, lines_read, top_of_file, file_read};
+ghost use Rattle.paw_author.specs.Units.{UnitLines, unit_begun, begun_here, longer_unit, is_line_of_text, is_aside, include_read};
+ghost use Rattle.paw_author.specs.Units.{has_at_most, header_ends, table_name, header_read, is_hook, hook_read};
+ghost use Rattle.paw_author.specs.Units.{item_read, slash_read, marked_read, is_data_unit, has_more, more_read, may_have_data};
+ghost use Rattle.paw_author.specs.Units.{data_read, meant_read, line_read, lines_read, top_of_file, file_read};
 
-use crate::fragment::{Fragment, Line};
+use crate::fragment::{Fragment, LineInParts};
 use crate::includes::is_include;
 use crate::mistake::{AuthorError, wrong_line};
 use crate::sections::{
-    NAMED_TABLES, has_facts, has_items, has_texts, header_section, is_number, is_table,
-    is_table_header,
+    NAMED_TABLES, has_facts, has_items, has_texts, header_section, is_number, is_table_header,
+    is_table_section,
 };
 use crate::tokens::{
-    begins_with_slash, is_quoted, is_same, leading_word, line_origin, origin_of, texts_end, token,
+    is_quoted, is_same, leading_word, line_origin, origin_of, starts_with_slash, texts_end, token,
     token_at, token_count,
 };
 use paw_base::fault::SourceKind;
@@ -43,7 +43,7 @@ pub(crate) struct Unit {
     pub(crate) table: Vec<u8>,
     pub(crate) file: usize,
     pub(crate) kind: UnitKind,
-    pub(crate) lines: Vec<Line>,
+    pub(crate) lines: Vec<LineInParts>,
 }
 
 impl Model for Unit {
@@ -77,16 +77,16 @@ impl Model for Units {
 }
 
 // A unit begins with a line, and the one before it ends.
-fn begun(
+fn unit_begun(
     alloc: Global,
     kind: UnitKind,
     section: usize,
     table: Vec<u8>,
     item: bool,
-    line: Line,
+    line: LineInParts,
     s: Units,
 ) -> Result<Units, AllocError>
-    ensures value { IfOk result (λ next. next ≡ begun kind section table.items item line s) }
+    ensures value { IfOk result (λ next. next ≡ unit_begun kind section table.items item line s) }
 {
     let Units {
         mut units,
@@ -108,24 +108,29 @@ fn begun(
 }
 
 // The section and the table of the unit that was begun last.
-fn place(alloc: Global, s: &Units) -> Result<(usize, Vec<u8>), AllocError>
-    ensures value { IfOk result (λ place. (place.0 ≡ s.now.last.section) × (place.1.items ≡ s.now.last.table)) }
+fn section_and_table(alloc: Global, s: &Units) -> Result<(usize, Vec<u8>), AllocError>
+    ensures value { IfOk result (λ pair. (pair.0 ≡ s.now.last.section) × (pair.1.items ≡ s.now.last.table)) }
 {
     let table = Vec::from_slice(alloc, s.last.table.as_slice())?;
     Ok((s.last.section, table))
 }
 
 // A unit of the same section begins.
-fn begun_here(alloc: Global, kind: UnitKind, line: Line, s: Units) -> Result<Units, AllocError>
+fn begun_here(
+    alloc: Global,
+    kind: UnitKind,
+    line: LineInParts,
+    s: Units,
+) -> Result<Units, AllocError>
     ensures value { IfOk result (λ next. next ≡ begun_here kind line s) }
 {
-    let (section, table) = place(alloc, &s)?;
+    let (section, table) = section_and_table(alloc, &s)?;
     let item = s.item;
-    begun(alloc, kind, section, table, item, line, s)
+    unit_begun(alloc, kind, section, table, item, line, s)
 }
 
 // A unit with one line more.
-fn with_line(line: Line, unit: Unit) -> Result<Unit, AllocError>
+fn with_line(line: LineInParts, unit: Unit) -> Result<Unit, AllocError>
     ensures value { IfOk result (λ longer. longer ≡ record unit { lines = unit.lines ++ line ∷ [] }) }
 {
     let Unit {
@@ -146,8 +151,8 @@ fn with_line(line: Line, unit: Unit) -> Result<Unit, AllocError>
 }
 
 // A line goes on with the unit that was begun last.
-fn gone_on(line: Line, s: Units) -> Result<Units, AllocError>
-    ensures value { IfOk result (λ next. next ≡ gone_on line s) }
+fn longer_unit(line: LineInParts, s: Units) -> Result<Units, AllocError>
+    ensures value { IfOk result (λ next. next ≡ longer_unit line s) }
 {
     let Units { units, last, item } = s;
     let last = with_line(line, last)?;
@@ -157,24 +162,24 @@ fn gone_on(line: Line, s: Units) -> Result<Units, AllocError>
 // ---- lines that begin nothing ----
 
 // Whether a line is one of a text, or a comment below it.
-fn is_in_text(s: &Units, line: &[Fragment]) -> bool
-    ensures value { result ≡ is_in_text s.now line.now }
+fn is_line_of_text(s: &Units, line: &[Fragment]) -> bool
+    ensures value { result ≡ is_line_of_text s.now line.now }
 {
-    s.item && has_texts(s.last.section) && !begins_with_slash(line)
+    s.item && has_texts(s.last.section) && !starts_with_slash(line)
 }
 
 // Whether a line goes with the one above it whatever that is.
 fn is_aside(s: &Units, line: &[Fragment]) -> bool
     ensures value { result ≡ is_aside s.now line.now }
 {
-    is_in_text(s, line) || token_count(line) == 0
+    is_line_of_text(s, line) || token_count(line) == 0
 }
 
 // ---- headers, hooks and items ----
 
 // Looks whether a line has no more tokens than this.
-fn at_most(count: usize, line: &[Fragment]) -> Result<(), AuthorError>
-    ensures gives { Gives (λ _. tt) result (at_most count line.now) }
+fn has_at_most(count: usize, line: &[Fragment]) -> Result<(), AuthorError>
+    ensures gives { Gives (λ _. tt) result (has_at_most count line.now) }
 {
     if count < token_count(line) {
         return Err(ReadError::Fault(wrong_line(origin_of(token(line, count)), SourceKind::Extra)));
@@ -187,12 +192,12 @@ fn header_ends(line: &[Fragment]) -> Result<(), AuthorError>
     ensures gives { Gives (λ _. tt) result (header_ends line.now) }
 {
     if !is_table_header(line) {
-        return at_most(1, line);
+        return has_at_most(1, line);
     }
     if token_count(line) == 1 {
         return Err(ReadError::Fault(wrong_line(line_origin(line), SourceKind::Missing)));
     }
-    at_most(if is_number(token_at(1, line)) { 3 } else { 2 }, line)
+    has_at_most(if is_number(token_at(1, line)) { 3 } else { 2 }, line)
 }
 
 // The name by which a table without a number is known.
@@ -207,12 +212,17 @@ fn table_name(alloc: Global, section: usize, line: &[Fragment]) -> Result<Vec<u8
 }
 
 // A header begins a section.
-fn header_read(alloc: Global, section: usize, s: Units, line: Line) -> Result<Units, AuthorError>
+fn header_read(
+    alloc: Global,
+    section: usize,
+    s: Units,
+    line: LineInParts,
+) -> Result<Units, AuthorError>
     ensures gives { Gives (λ next. next) result (header_read section s line) }
 {
     header_ends(line.parts.as_slice())?;
     let table = table_name(alloc, section, line.parts.as_slice())?;
-    Ok(begun(alloc, UnitKind::Header, section, table, false, line, s)?)
+    Ok(unit_begun(alloc, UnitKind::Header, section, table, false, line, s)?)
 }
 
 // Whether a line marks a place in a table.
@@ -230,21 +240,21 @@ fn section_of(s: &Units) -> usize
 }
 
 // A place is marked in a table.
-fn hook_read(alloc: Global, s: Units, line: Line) -> Result<Units, AuthorError>
+fn hook_read(alloc: Global, s: Units, line: LineInParts) -> Result<Units, AuthorError>
     ensures gives { Gives (λ next. next) result (hook_read s line) }
 {
-    if !is_table(section_of(&s)) {
+    if !is_table_section(section_of(&s)) {
         return Err(ReadError::Fault(wrong_line(
             line_origin(line.parts.as_slice()),
             SourceKind::Section,
         )));
     }
-    at_most(2, line.parts.as_slice())?;
+    has_at_most(2, line.parts.as_slice())?;
     Ok(begun_here(alloc, UnitKind::Hook, line, s)?)
 }
 
 // An item begins.
-fn item_read(alloc: Global, s: Units, line: Line) -> Result<Units, AuthorError>
+fn item_read(alloc: Global, s: Units, line: LineInParts) -> Result<Units, AuthorError>
     ensures gives { Gives (λ next. next) result (item_read s line) }
 {
     if !has_items(section_of(&s)) {
@@ -253,12 +263,12 @@ fn item_read(alloc: Global, s: Units, line: Line) -> Result<Units, AuthorError>
             SourceKind::Section,
         )));
     }
-    let (section, table) = place(alloc, &s)?;
-    Ok(begun(alloc, UnitKind::Item, section, table, true, line, s)?)
+    let (section, table) = section_and_table(alloc, &s)?;
+    Ok(unit_begun(alloc, UnitKind::Item, section, table, true, line, s)?)
 }
 
 // A line that includes a file is left out.
-fn include_read(s: Units, line: Line) -> Result<Units, AuthorError>
+fn include_read(s: Units, line: LineInParts) -> Result<Units, AuthorError>
     ensures gives { Gives (λ next. next) result (include_read s line) }
 {
     if section_of(&s) != 0 {
@@ -271,7 +281,7 @@ fn include_read(s: Units, line: Line) -> Result<Units, AuthorError>
 }
 
 // A line that begins with `/` includes a file, or is a hook or an item.
-fn slash_read(alloc: Global, s: Units, line: Line) -> Result<Units, AuthorError>
+fn slash_read(alloc: Global, s: Units, line: LineInParts) -> Result<Units, AuthorError>
     ensures gives { Gives (λ next. next) result (slash_read s line) }
 {
     if is_include(line.parts.as_slice()) {
@@ -284,7 +294,7 @@ fn slash_read(alloc: Global, s: Units, line: Line) -> Result<Units, AuthorError>
 }
 
 // What begins with `/`: a header, where its name is that of one.
-fn marked_read(alloc: Global, s: Units, line: Line) -> Result<Units, AuthorError>
+fn marked_read(alloc: Global, s: Units, line: LineInParts) -> Result<Units, AuthorError>
     ensures gives { Gives (λ next. next) result (marked_read (header_section line) s line) }
 {
     match header_section(line.parts.as_slice()) {
@@ -296,8 +306,8 @@ fn marked_read(alloc: Global, s: Units, line: Line) -> Result<Units, AuthorError
 // ---- rows and entries ----
 
 // Whether the unit that was begun last is a row or an entry.
-fn last_is_row(s: &Units) -> bool
-    ensures value { result ≡ is_row s.now.last.kind }
+fn last_is_data(s: &Units) -> bool
+    ensures value { result ≡ is_data_unit s.now.last.kind }
 {
     matches!(s.last.kind, UnitKind::Row)
 }
@@ -306,7 +316,7 @@ fn last_is_row(s: &Units) -> bool
 fn has_more(section: usize, line: &[Fragment]) -> bool
     ensures value { result ≡ has_more section line.now }
 {
-    if is_table(section) {
+    if is_table_section(section) {
         leading_word(line).is_empty()
     } else {
         has_facts(section) && is_quoted(token_at(0, line))
@@ -314,30 +324,30 @@ fn has_more(section: usize, line: &[Fragment]) -> bool
 }
 
 // A line goes on with a row.
-fn more_read(s: Units, line: Line) -> Result<Units, AuthorError>
+fn more_read(s: Units, line: LineInParts) -> Result<Units, AuthorError>
     ensures gives { Gives (λ next. next) result (more_read s line) }
 {
-    if !last_is_row(&s) {
+    if !last_is_data(&s) {
         return Err(ReadError::Fault(wrong_line(
             line_origin(line.parts.as_slice()),
             SourceKind::Section,
         )));
     }
-    Ok(gone_on(line, s)?)
+    Ok(longer_unit(line, s)?)
 }
 
 // Whether a row may stand where the lines so far end.
-fn may_have_row(s: &Units) -> bool
-    ensures value { result ≡ may_have_row s.now }
+fn may_have_data(s: &Units) -> bool
+    ensures value { result ≡ may_have_data s.now }
 {
     s.last.section != 0 && !(has_items(s.last.section) && !s.item)
 }
 
 // A line that begins with no `/` is a row, or more of one.
-fn row_read(alloc: Global, s: Units, line: Line) -> Result<Units, AuthorError>
-    ensures gives { Gives (λ next. next) result (row_read s line) }
+fn data_read(alloc: Global, s: Units, line: LineInParts) -> Result<Units, AuthorError>
+    ensures gives { Gives (λ next. next) result (data_read s line) }
 {
-    if !may_have_row(&s) {
+    if !may_have_data(&s) {
         return Err(ReadError::Fault(wrong_line(
             line_origin(line.parts.as_slice()),
             SourceKind::Section,
@@ -353,22 +363,22 @@ fn row_read(alloc: Global, s: Units, line: Line) -> Result<Units, AuthorError>
 // ---- lines and files ----
 
 // Reads a line that begins something or has more of it.
-fn meant_read(alloc: Global, s: Units, line: Line) -> Result<Units, AuthorError>
+fn meant_read(alloc: Global, s: Units, line: LineInParts) -> Result<Units, AuthorError>
     ensures gives { Gives (λ next. next) result (meant_read s line) }
 {
-    if begins_with_slash(line.parts.as_slice()) {
+    if starts_with_slash(line.parts.as_slice()) {
         marked_read(alloc, s, line)
     } else {
-        row_read(alloc, s, line)
+        data_read(alloc, s, line)
     }
 }
 
 // Reads a line more.
-fn line_read(alloc: Global, s: Units, line: Line) -> Result<Units, AuthorError>
+fn line_read(alloc: Global, s: Units, line: LineInParts) -> Result<Units, AuthorError>
     ensures gives { Gives (λ next. next) result (line_read s line) }
 {
     if is_aside(&s, line.parts.as_slice()) {
-        return Ok(gone_on(line, s)?);
+        return Ok(longer_unit(line, s)?);
     }
     texts_end(line.parts.as_slice())?;
     meant_read(alloc, s, line)
@@ -376,7 +386,7 @@ fn line_read(alloc: Global, s: Units, line: Line) -> Result<Units, AuthorError>
 
 // Reads all lines of a file.
 #[tactic(auto, unfolding(crate::specs::Units::lines_read))]
-fn lines_read(alloc: Global, s: Units, file: Vec<Line>) -> Result<Units, AuthorError>
+fn lines_read(alloc: Global, s: Units, file: Vec<LineInParts>) -> Result<Units, AuthorError>
     ensures gives { Gives (λ next. next) result (lines_read s file.items) }
 {
     let mut left = VecDeque::from(file);
@@ -421,7 +431,7 @@ pub(crate) fn file_read(
     alloc: Global,
     file: usize,
     units: Vec<Unit>,
-    lines: Vec<Line>,
+    lines: Vec<LineInParts>,
 ) -> Result<Vec<Unit>, AuthorError>
     ensures gives { Gives (λ all. all.items) result (file_read file units.items lines.items) }
 {

@@ -1,6 +1,6 @@
 use Rattle.std.proofs.Common.{◌≡◌, ◌≤◌, drop}
 use Rattle.paw_author.specs.Sections.{number_after}
-use Rattle.paw_author.proofs.sections.number_of.Given as goal
+use Rattle.paw_author.proofs.sections.number_for.Given as goal
 
 abbrev pub invariant-loop-byte : goal.invariant-loop-byte
 invariant-loop-byte l = record {

@@ -1,10 +1,10 @@
 use Rattle.std.proofs.Common.{◌+◌, take, drop, sym, ◌∙◌}
 use Rattle.std.proofs.lemmas.Result.{err_from_is_err_and}
 use Rattle.paw_author.specs.Known.{NumbersGiven}
-use Rattle.paw_author.specs.NameRows.{rows_known}
+use Rattle.paw_author.specs.NameRows.{namings_known}
 use Rattle.paw_author.proofs.HookLaws.{one_name_row, no_name_row}
 use Rattle.paw_author.proofs.RowOfFiles.{bound_fails, bound_goes_on}
-use Rattle.paw_author.proofs.name_rows.rows_known.Goals as goal
+use Rattle.paw_author.proofs.name_rows.namings_known.Goals as goal
 
 pub returns-in_err-next : goal.returns-in_err-next
 returns-in_err-next c =
@@ -13,7 +13,7 @@ returns-in_err-next c =
     let i = c.loop-i.i in
     let is = one_name_row all i c.index-all-i.result c.loop-i.next c.index-all-i.is c.loop-i-test.true in
     record {
-      gives = rw (p.1, p.2) (bound_fails c.in_err-next.field-0.0 _ (λ (next : NumbersGiven). rows_known (take (i + 1) all) next (drop (i + 1) all)) _
+      gives = rw (p.1, p.2) (bound_fails c.in_err-next.field-0.0 _ (λ (next : NumbersGiven). namings_known (take (i + 1) all) next (drop (i + 1) all)) _
           (sym c.loop-i.invariant ∙ is) c.in_err-next.ensures.gives);
     }
 
@@ -22,7 +22,7 @@ loop-i-preserved c =
     let all = c.args.all.now in
     let i = c.loop-i.i in
     let is = one_name_row all i c.index-all-i.result c.loop-i.next c.index-all-i.is c.loop-i-test.true in
-    sym (bound_goes_on c.in_ok-next.next _ (λ (next : NumbersGiven). rows_known (take (i + 1) all) next (drop (i + 1) all)) _
+    sym (bound_goes_on c.in_ok-next.next _ (λ (next : NumbersGiven). namings_known (take (i + 1) all) next (drop (i + 1) all)) _
     (sym c.loop-i.invariant ∙ is) c.in_ok-next.ensures.gives)
 
 pub returns : goal.returns

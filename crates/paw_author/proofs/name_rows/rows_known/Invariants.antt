@@ -1,6 +1,0 @@
-use Rattle.std.proofs.Common.{◌≡◌, [], take, drop}
-use Rattle.paw_author.specs.NameRows.{rows_known}
-use Rattle.paw_author.proofs.name_rows.rows_known.Given as goal
-
-abbrev pub invariant-loop-i : goal.invariant-loop-i
-invariant-loop-i l = rows_known (take l.i l.all) l.next (drop l.i l.all) ≡ rows_known [] l.fn.s l.all
