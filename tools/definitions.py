@@ -427,7 +427,8 @@ class Definitions:
             return "value", repr(self.constants[name]), 0, ()
         if path.endswith(".TheVariants"):
             forms = re.search(r"enum %s \{(.*?)^\}" % path.split(".")[-2], self.sources[path.split(".")[1]], re.M | re.S)
-            parts = re.search(r"\b%s\b(?:\(([^)]*)\))?" % name, forms.group(1)).group(1) or ""
+            parts = re.search(r"\b%s\b(?:\(([^)]*)\)| \{([^}]*)\})?" % name, forms.group(1))
+            parts = (parts.group(1) or parts.group(2) or "").strip().rstrip(",")
             return "form", name, len([part for part in parts.split(",") if part.strip()]), ()
         return self.found(self.module(path), name)
 
