@@ -2,17 +2,18 @@
 use Rattle.std.proofs.Common.{◌≡◌, ℕ, ◌+◌, ◌-◌, ◌*◌, ◌<◌, ◌≤◌, List, [], ◌∷◌, ◌++◌, length, map, take}
 use Rattle.std.proofs.Common.{drop, set, get_or, replicate, refl, sym, ap, ◌∙◌, add-one, arith}
 use Rattle.std.specs.Prelude.{flat_map}
-use Rattle.std.proofs.Math.Seq.{take-suc, take-suc-set}
+use Rattle.std.proofs.Math.Seq.{take-suc, take-suc-set, take-add}
 use Rattle.std.proofs.lemmas.List.{append_assoc, take_all, length-append, length-map, get_or-map, drop-drop}
-use Rattle.std.proofs.lemmas.List.{drop-replicate, length-take}
+use Rattle.std.proofs.lemmas.List.{drop-replicate, take-replicate, length-take}
 use Rattle.std.proofs.lemmas.Slice.{take-put_mid, drop-put_mid}
 use Rattle.paw_base.specs.Bytes.{Bytes}
 use Rattle.paw_process.specs.declared.machine.TheConstants.{MOST_FRAMES}
 use borrow.Rule.Slice.PartMut.{put_mid}
 use Rattle.paw_state.specs.declared.fields.TheConstants.{STATE_ROOM, FRAME_LENGTH}
 use Rattle.paw_state.specs.declared.fields.FrameField.{FrameField}
-use Rattle.paw_state.specs.State.{zeros, filled_with_zeros}
+use Rattle.paw_state.specs.State.{zeros}
 use Rattle.paw_state.specs.inner.Fields.{frame_shape}
+use Rattle.paw_state.specs.inner.Writer.{WritesField}
 
 -- ---- zeros ----
 
@@ -42,6 +43,28 @@ one_more bytes field old count room size h =
     take-put_mid count (count + length field - count) bytes field (count + length field) refl (omega arith)
     ∙ ap (λ (l : Bytes). l ++ field) h
 
+-- ---- zeros more ----
+
+pub zeros_left : (bytes : Bytes) (count more : ℕ) → count + more ≤ STATE_ROOM → drop count bytes ≡ zeros (STATE_ROOM - count)
+    → drop (count + more) bytes ≡ zeros (STATE_ROOM - (count + more))
+zeros_left bytes count more room behind =
+    let n : STATE_ROOM - count - more ≡ STATE_ROOM - (count + more) = omega arith in
+    sym (drop-drop more count bytes) ∙ (ap (drop more) behind ∙ (drop-zeros more (STATE_ROOM - count) ∙ ap zeros n))
+
+pub take-zeros : (n m : ℕ) → n ≤ m → take n (zeros m) ≡ zeros n
+unfolding zeros
+take-zeros n m low = take-replicate n m 0 low
+
+pub zeros_more : (bytes old : Bytes) (count more : ℕ) → count + more ≤ STATE_ROOM → length bytes ≡ STATE_ROOM → take count bytes ≡ old
+    → drop count bytes ≡ zeros (STATE_ROOM - count) → WritesField (zeros more) more old (take (count + more) bytes)
+zeros_more bytes old count more room size h behind =
+    let split : take (count + more) bytes ≡ take count bytes ++ take more (drop count bytes) = take-add count more bytes in
+    let tail : take more (drop count bytes) ≡ zeros more = ap (take more) behind ∙ take-zeros more (STATE_ROOM - count) (omega arith) in
+    record {
+      puts = split ∙ (ap (λ (l : Bytes). l ++ take more (drop count bytes)) h ∙ ap (λ (l : Bytes). old ++ l) tail);
+      long = omega (arith, length-take (count + more) bytes, length-take count bytes, ap length h);
+    }
+
 -- What was written has its count of bytes.
 pub count_of : (bytes old : Bytes) (count : ℕ) → count ≤ STATE_ROOM → length bytes ≡ STATE_ROOM → take count bytes ≡ old → length old ≡ count
 count_of bytes old count low size h = ap length (sym h) ∙ omega (arith, length-take count bytes)
@@ -51,23 +74,11 @@ count_of bytes old count low size h = ap length (sym h) ∙ omega (arith, length
 pub three : (w0 w1 w2 w3 x y z : List ℕ) → w1 ≡ w0 ++ x → w2 ≡ w1 ++ y → w3 ≡ w2 ++ z → w3 ≡ w0 ++ (x ++ (y ++ z))
 three w0 w1 w2 w3 x y z e f g = rw (g, f, e) (simp append_assoc)
 
--- Bytes in front of 255 zeros.
-pub filled_behind : (bytes new : Bytes) → new ≡ bytes → new ++ drop (length bytes) (replicate 255 0) ≡ filled_with_zeros 255 bytes
-filled_behind bytes new h = rw (h, zeros_all 255) (ap (λ (l : Bytes). bytes ++ l) (drop-zeros (length bytes) 255))
-
 -- ---- frames ----
 
 pub length-frames : (rows : List FrameField) → length (flat_map frame_shape.bytes rows) ≡ FRAME_LENGTH * length rows
 length-frames [] = refl
 length-frames (r ∷ rs) = length-append (frame_shape.bytes r) (flat_map frame_shape.bytes rs) ∙ (ap (λ n. FRAME_LENGTH + n) (length-frames rs) ∙ omega arith)
-
-pub room_for_frame : (rows : List FrameField) (old new : Bytes) (i : ℕ) → i < length rows → length rows ≡ MOST_FRAMES
-    → new ≡ old ++ flat_map frame_shape.bytes (take i rows)
-    → length old + MOST_FRAMES * FRAME_LENGTH ≤ STATE_ROOM → length new + FRAME_LENGTH ≤ STATE_ROOM
-room_for_frame rows old new i low size h room =
-    let n : length new ≡ length old + FRAME_LENGTH * length (take i rows) =
-    ap length h ∙ (length-append old (flat_map frame_shape.bytes (take i rows)) ∙ ap (λ k. length old + k) (length-frames (take i rows))) in
-    omega (arith, n, length-take i rows)
 
 -- ---- lists that are mapped one by one ----
 

@@ -1,23 +1,18 @@
 // The fields of a state, as they stand in its bytes, and where each stands, from the first byte on: after the field
 // before.
 
-ghost use Rattle.std.specs.Prelude.{◌≡◌, ◌+◌, ◌-◌, ◌≤◌, [], ◌∷◌, ◌++◌, length, flat_map, slice_range};
-ghost use Rattle.std.specs.Int.{w64, to_le_bytes};
+ghost use Rattle.std.specs.Prelude.{◌≡◌, ◌+◌, ◌-◌, ◌≤◌, length, slice_range};
 ghost use Rattle.paw_base.specs.declared.layout.TheConstants.{STATE_LENGTH};
 ghost use Rattle.paw_process.specs.declared.machine.TheConstants.{MOST_FRAMES};
 ghost use Rattle.paw_state.specs.declared.fields.TheConstants.{SEED, PROMPT, FRAMES, FRAME_LENGTH, LOOPING};
 ghost use Rattle.paw_state.specs.declared.fields.TheConstants.{LOOP_LEVEL, EARLIER, KEPT, STATE_ROOM};
 ghost use Rattle.paw_state.specs.inner.Parts.{frame_in};
-ghost use Rattle.paw_state.specs.inner.Writer.{WritesField};
 ghost use Rattle.paw_state.specs.State.{AreBytes};
-ghost use Rattle.paw_state.specs.State.{zeros, frame_field_of};
-ghost use Rattle.paw_game.specs.Image.{two_bytes};
 ghost use Rattle.paw_state.specs.inner.Shapes.{two_at, eight_at, values_at};
-ghost use Rattle.paw_state.specs.inner.Fields.{frame_shape, loop_shape, position_shape, after_piece};
-ghost use Rattle.paw_state.specs.inner.Fields.{field_bytes, fields_at};
+ghost use Rattle.paw_state.specs.inner.Fields.{frame_shape};
+ghost use Rattle.paw_state.specs.inner.Fields.{fields_at};
 
 use crate::position_field::PositionField;
-use crate::writer::Writer;
 use paw_base::layout::{FIRST_LENGTH, PIECE_LENGTH_AT};
 use paw_base::limits::{FLAG_COUNT, OBJECT_LIMIT, POSITION_COUNT};
 use paw_process::MOST_FRAMES;
@@ -120,18 +115,6 @@ impl FrameField {
         at: 0,
         acted: 0,
     };
-
-    /// The fields of a frame.
-    pub(crate) fn of(frame: &Frame) -> FrameField
-        ensures value { result ≡ frame_field_of frame.now }
-    {
-        FrameField {
-            table: frame.table,
-            entry: frame.entry,
-            at: frame.at,
-            acted: u8::from(frame.acted),
-        }
-    }
 
     /// The frame that these fields say.
     pub(crate) fn frame(&self) -> Frame
@@ -267,102 +250,6 @@ impl Fields {
             line: array_at(bytes, LINE),
             piece: two_at(bytes, PIECE),
             kept: kept_at(bytes),
-        }
-    }
-
-    /// The bytes of these fields, and zeros after them.
-    pub(crate) fn bytes(&self) -> [u8; STATE_ROOM]
-        ensures value { result ≡ field_bytes self.now ++ zeros (STATE_ROOM - STATE_LENGTH) }
-        ensures later { length (after_piece self.now) ≡ STATE_LENGTH - KEPT }
-        ensures room { length result ≡ STATE_ROOM }
-    {
-        let mut writer = Writer::new();
-        self.put_world(&mut writer);
-        self.put_numbers(&mut writer);
-        self.put_tables(&mut writer);
-        self.put_pending(&mut writer);
-        self.put_later(&mut writer);
-        writer.finish()
-    }
-
-    // Writes flags and places, now and in the saved position.
-    fn put_world(&self, writer: &mut Writer)
-        requires room { length writer.old + SEED ≤ STATE_ROOM }
-        ensures writes { WritesField (self.now.flags ++ (self.now.places ++ position_shape.bytes self.now.saved))
-            SEED writer.old writer.new }
-    {
-        writer.put(&self.flags);
-        writer.put(&self.places);
-        self.saved.put(writer);
-    }
-
-    // Writes the seed, the draws and the lines.
-    fn put_numbers(&self, writer: &mut Writer)
-        requires room { length writer.old + (PROMPT - SEED) ≤ STATE_ROOM }
-        ensures writes { WritesField
-            (to_le_bytes w64 self.now.seed ++ (to_le_bytes w64 self.now.draws ++ to_le_bytes w64 self.now.events))
-            (PROMPT - SEED) writer.old writer.new }
-    {
-        writer.put(&self.seed.to_le_bytes());
-        writer.put(&self.draws.to_le_bytes());
-        writer.put(&self.events.to_le_bytes());
-    }
-
-    // Writes the prompt, the frames of the open tables, and the open loop.
-    fn put_tables(&self, writer: &mut Writer)
-        requires room { length writer.old + (EARLIER - PROMPT) ≤ STATE_ROOM }
-        ensures writes { WritesField
-            ((self.now.prompt ∷ self.now.count ∷ []) ++ (flat_map frame_shape.bytes self.now.rows
-            ++ (self.now.looping ∷ loop_shape.bytes self.now.turning)))
-            (EARLIER - PROMPT) writer.old writer.new }
-    {
-        writer.put(&[self.prompt, self.count]);
-        self.put_frames(writer);
-        writer.put(&[self.looping]);
-        self.put_loop(writer);
-    }
-
-    // Writes the frames of the open tables.
-    fn put_frames(&self, writer: &mut Writer)
-        requires room { length writer.old + (LOOPING - FRAMES) ≤ STATE_ROOM }
-        ensures writes { WritesField (flat_map frame_shape.bytes self.now.rows)
-            (LOOPING - FRAMES) writer.old writer.new }
-    {
-        for row in &self.rows {
-            let [low, high] = row.entry.to_le_bytes();
-            writer.put(&[row.table, low, high, row.at, row.acted]);
-        }
-    }
-
-    // Writes the open loop.
-    fn put_loop(&self, writer: &mut Writer)
-        requires room { length writer.old + (EARLIER - LOOP_LEVEL) ≤ STATE_ROOM }
-        ensures writes { WritesField (loop_shape.bytes self.now.turning) (EARLIER - LOOP_LEVEL) writer.old writer.new }
-    {
-        let turning = &self.turning;
-        writer.put(&[turning.level, turning.table]);
-        writer.put(&turning.entry.to_le_bytes());
-        writer.put(&[turning.at, turning.place, turning.last]);
-    }
-
-    // Writes what is pending, and the length of the last piece.
-    fn put_pending(&self, writer: &mut Writer)
-        requires room { length writer.old + (KEPT - EARLIER) ≤ STATE_ROOM }
-        ensures writes { WritesField ((self.now.earlier ∷ self.now.pending ∷ self.now.line) ++ two_bytes self.now.piece)
-            (KEPT - EARLIER) writer.old writer.new }
-    {
-        writer.put(&[self.earlier, self.pending]);
-        writer.put(&self.line);
-        writer.put(&self.piece.to_le_bytes());
-    }
-
-    // Writes what stands after the length of the last piece: the kept positions.
-    fn put_later(&self, writer: &mut Writer)
-        requires room { length writer.old + (STATE_LENGTH - KEPT) ≤ STATE_ROOM }
-        ensures writes { WritesField (after_piece self.now) (STATE_LENGTH - KEPT) writer.old writer.new }
-    {
-        for position in &self.kept {
-            position.put(writer);
         }
     }
 }

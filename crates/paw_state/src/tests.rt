@@ -66,19 +66,9 @@ fn small_game(alloc: Global) -> Result<Game, Fail> {
 
 // The state at the start of a game with seed 7, whose first piece has 300 bytes.
 fn opening_state(game: &Game) -> [u8; STATE_ROOM] {
-    let mut bytes = [255; STATE_ROOM];
     let world = opening_world(game, 7);
     let machine = Machine::new();
-    write_state(
-        &world,
-        &machine,
-        &Pending::new(),
-        Prompt::Main,
-        0,
-        300,
-        &mut bytes,
-    );
-    bytes
+    write_state(&world, &machine, &Pending::new(), Prompt::Main, 0, 300)
 }
 
 /// The changes that give a state that waits inside a call inside a loop, after two lines, with `N` pending.
@@ -124,7 +114,6 @@ fn fault(game: &Game, bytes: &[u8; STATE_ROOM]) -> Option<u64> {
 
 // The bytes written of what was read.
 fn bytes_of(read: &Restored) -> [u8; STATE_ROOM] {
-    let mut bytes = [255; STATE_ROOM];
     write_state(
         &read.world,
         &read.machine,
@@ -132,9 +121,7 @@ fn bytes_of(read: &Restored) -> [u8; STATE_ROOM] {
         read.prompt,
         read.events,
         read.piece,
-        &mut bytes,
-    );
-    bytes
+    )
 }
 
 /// A byte that is changed in the state at the start, and the offset that is named then.
@@ -358,17 +345,7 @@ fn the_world_of_a_state_that_waits(rt: HostRuntime) -> Result<(), Fail> {
 
 // The bytes of a state of this world, where no table is open and no line waits.
 fn bytes_with(world: &World, prompt: Prompt, events: u64) -> [u8; STATE_ROOM] {
-    let mut bytes = [0; STATE_ROOM];
-    write_state(
-        world,
-        &Machine::new(),
-        &Pending::new(),
-        prompt,
-        events,
-        9,
-        &mut bytes,
-    );
-    bytes
+    write_state(world, &Machine::new(), &Pending::new(), prompt, events, 9)
 }
 
 // A world with a saved position, and 400,000 draws.

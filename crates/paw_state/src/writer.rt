@@ -49,6 +49,14 @@ impl Writer {
         self.count = end;
     }
 
+    /// Leaves this number of zeros after the others.
+    pub(crate) fn skip(&mut self, count: usize)
+        requires room { length self.old + count ≤ STATE_ROOM }
+        ensures writes { WritesField (zeros count) count self.old self.new }
+    {
+        self.count += count;
+    }
+
     /// What was written, and zeros after it.
     pub(crate) fn finish(self) -> [u8; STATE_ROOM]
         ensures value { result ≡ self ++ zeros (STATE_ROOM - length self) }

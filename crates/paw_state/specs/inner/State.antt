@@ -2,6 +2,7 @@
 -- proofs use besides those of specs/State.antt.
 use Rattle.std.specs.Option.{unwrap_or}
 use Rattle.std.specs.Prelude.{◌≡◌, ℕ, ◌+◌, ◌*◌, ◌≤◌, [], Option, None, length, reverse, All, IfNone}
+use Rattle.paw_base.specs.Bytes.{Bytes}
 use Rattle.paw_base.specs.declared.limits.TheConstants.{LINE_LIMIT, READ_LIMIT, EVENT_LIMIT}
 use Rattle.paw_game.specs.Game.{GameLists}
 use Rattle.paw_world.specs.World.{World, IsWorld}
@@ -15,12 +16,14 @@ use Rattle.paw_process.specs.Kept.{waiting_code}
 use Rattle.paw_process.specs.inner.Kept.{machine_kept}
 use Rattle.paw_process.specs.inner.Kept.{frames_fault}
 use Rattle.paw_process.specs.declared.kept.Frames.{Frames}
+use Rattle.paw_reading.specs.declared.frames.Frame.{Frame}
 use Rattle.paw_reading.specs.declared.frames.OpenLoop.{OpenLoop}
 use Rattle.paw_reading.specs.Run.{Run}
 use Rattle.paw_state.specs.declared.fields.Fields.{Fields}
 use Rattle.paw_state.specs.declared.parts.Restored.{Restored}
 use Rattle.paw_state.specs.Fields.{prompt_of}
-use Rattle.paw_state.specs.State.{State, last_piece, state_at}
+use Rattle.paw_state.specs.State.{State, last_piece, state_at, frame_field_of}
+use Rattle.paw_state.specs.inner.Fields.{frame_shape}
 use Rattle.paw_state.specs.inner.Parts.{world_in, frames_in, pending_in}
 
 -- The state of a game that waits at a prompt with these parts, its tables as they are kept.
@@ -58,6 +61,10 @@ state_read r = state_of r.world r.machine r.pending r.prompt r.events r.piece
 -- The loop, or one that is all 0 where there is none.
 abbrev pub loop_or_zeros : Option OpenLoop → OpenLoop
 loop_or_zeros o = unwrap_or o (record { level = 0; table = 0; entry = 0; at = 0; place = 0; last = 0 })
+
+-- The bytes of a frame.
+abbrev pub frame_bytes : Frame → Bytes
+frame_bytes f = frame_shape.bytes (frame_field_of f)
 
 -- ---- its rules, one by one ----
 
