@@ -11,7 +11,6 @@ ghost use Rattle.paw_journal.specs.inner.Calls.{WritesStore, ReadsStore};
 ghost use Rattle.paw_journal.specs.inner.Journal.{IsAtRest, KeptIn, IsSessionRefused, refused_call};
 
 use crate::committing::{choose, write_slot};
-use crate::drafting::SlotState;
 use crate::finding::read_header;
 use crate::layout::Slot;
 use crate::making::{lay_out, mark};
@@ -137,13 +136,7 @@ impl Journal {
         write_slot(stage, slot, draft, room.slot(), piece)?;
         choose(stage, slot)?;
         room.hold(state, piece);
-        room.keep(
-            slot,
-            Some(SlotState {
-                records: draft.records,
-                state: *state,
-            }),
-        );
+        room.keep_state(slot, draft.records, state);
         Ok(Journal { slot })
     }
 }

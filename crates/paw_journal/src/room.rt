@@ -1,6 +1,6 @@
 // The buffers of a journal.
 
-ghost use Rattle.std.specs.Prelude.{true, ◌≡◌, ◌+◌, ◌≤◌, [], ◌∷◌, ◌++◌, length, IsSome, OnOk, IfErr};
+ghost use Rattle.std.specs.Prelude.{Some, true, ◌≡◌, ◌+◌, ◌≤◌, [], ◌∷◌, ◌++◌, length, IsSome, OnOk, IfErr};
 ghost use Rattle.paw_base.specs.declared.limits.TheConstants.{PIECE_LIMIT};
 ghost use Rattle.paw_journal.specs.Session.{Digests, slot_length, session_length, zeros, has_state, made_slot};
 ghost use Rattle.paw_base.specs.declared.layout.TheConstants.{VERSION};
@@ -119,18 +119,23 @@ impl Room {
         }
     }
 
+    /// Keeps this state, with this number of change records, as that of a slot, in the place of the one before.
+    pub(crate) fn keep_state(&mut self, which: Slot, records: u16, state: &[u8; 4096])
+        ensures value { self.new ≡
+            with_slot_kept which (Some (record { records = records; state = state.now })) self.old }
+    {
+        match which {
+            Slot::First => put_state(&mut self.first, records, state),
+            Slot::Second => put_state(&mut self.second, records, state),
+        }
+    }
+
     /// Keeps this as the state of both slots, which are made with it.
     pub(crate) fn keep_made(&mut self, state: &[u8; 4096])
         ensures value { self.new ≡ with_made state.now self.old }
     {
-        self.first = Some(SlotState {
-            records: 0,
-            state: *state,
-        });
-        self.second = Some(SlotState {
-            records: 0,
-            state: *state,
-        });
+        self.keep_state(Slot::First, 0, state);
+        self.keep_state(Slot::Second, 0, state);
     }
 
     /// Puts together what a commit of this state writes into a slot besides its head and the piece.
@@ -262,5 +267,23 @@ impl Room {
         self.piece
             .extend_from_slice(&self.slot[PIECE_AT..PIECE_AT + length])
             .unwrap();
+    }
+}
+
+// Makes this the state of a slot, where it is.
+fn put_state(kept: &mut Option<SlotState>, records: u16, state: &[u8; 4096])
+    ensures value { kept.new ≡ Some (record { records = records; state = state.now }) }
+{
+    match kept {
+        Some(slot) => {
+            slot.records = records;
+            slot.state = *state;
+        }
+        None => {
+            *kept = Some(SlotState {
+                records,
+                state: *state,
+            })
+        }
     }
 }

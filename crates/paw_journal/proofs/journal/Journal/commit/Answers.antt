@@ -163,8 +163,8 @@ returns-clause-kept g c tells =
     let u = g.S.Stage.standing c.choose.new.stage in
     let call = commits g a c.in_ok-choose.ensures.call in
     let e = c.in_ok-choose.ensures.call.post later in
-    committed_keeps w _ c.args.room.now c.draft-draft.new.self c.hold.new.self c.keep.new.self c.args.state.now
-    c.args.piece.now s t u (c.requires.kept tells).slots c.draft-draft.ensures.same c.hold.ensures.value c.keep.ensures.value
+    committed_keeps w _ c.args.room.now c.draft-draft.new.self c.hold.new.self c.keep_state.new.self c.args.state.now
+    c.args.piece.now s t u (c.requires.kept tells).slots c.draft-draft.ensures.same c.hold.ensures.value c.keep_state.ensures.value
     (rests_on _ s u (c.requires.kept tells).rests (call.beside tells) e)
     (ap (λ d. slot_in_use d.bytes) e ∙ selector_is (slot_number w) t.disk.bytes (slot_small w) (long g a tells))
     (call.post tells).shown (call.post tells).digests (filled_other (slot_number w) s t (filled g a tells)) (now_kept g a tells)
