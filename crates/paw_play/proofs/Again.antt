@@ -1,69 +1,20 @@
 -- The attach of the store of a session that is taken up again.
-use Rattle.std.proofs.Common.{◌≡◌, ◌≢◌, ◌+◌, ◌-◌, ◌≤◌, [], Some, refl, sym, ap, ◌∙◌, subst, arith}
-use Rattle.std.specs.Prelude.{Ok, Err}
-use Rattle.std.proofs.lemmas.List.{append-nil}
-use Rattle.paw_base.specs.Bytes.{Text, Name}
-use Rattle.paw_effects.specs.Story.{Story}
-use Rattle.paw_game.specs.Valid.{Valid}
-use Rattle.paw_stage.specs.Disk.{MayLeave, IsStable, stable}
-use Rattle.paw_stage.specs.Stage.{Standing}
-use Rattle.paw_stage.specs.Stage.{Still}
-use Rattle.paw_reading.specs.Turn.{text_of}
-use Rattle.paw_journal.specs.Session.{Digests, recover, kept_digests}
-use Rattle.paw_state.specs.State.{State}
-use Rattle.paw_state.proofs.Ruled.{each_of}
-use Rattle.paw_play.specs.Session.{IsKept, kept_bytes}
-use Rattle.paw_play.specs.Played.{PlayedSession, GoesOnFrom, ShowsState, going_on, from_state}
-use Rattle.paw_play.specs.Keeping.{InPlay}
-use Rattle.paw_play.specs.Play.{attached_to, store_bytes, PlaysAgain, refused, unread, resumes_play, no_state, plays_on, PlaysOn}
-use Rattle.paw_play.specs.declared.PlayEnd.{PlayEnd}
+use Rattle.paw_play.proofs.Names.{◌≡◌, ◌-◌, ◌≤◌, [], refl, sym, ap, ◌∙◌, subst, arith, Ok, Err, append-nil, Text, Name, Story, Valid, IsStable, stable, Standing, Still, text_of, Digests, kept_digests, State, each_of, kept_bytes, PlayedSession, GoesOnFrom, ShowsState, going_on, from_state, InPlay, attached_to, store_bytes, PlaysAgain, refused, unread, resumes_play, no_state, plays_on, PlaysOn, PlayEnd, PlayerView, IsOpen, ResumesTo, IsPlaying, OpenSession, ChangesStoreOnly, EVENT_LIMIT, stable_is, beside_none, RestsWith}
 use Rattle.paw_play.specs.declared.PlayEnd.TheVariants as end
-use Rattle.paw_turn.specs.inner.Player.{PlayerView}
-use Rattle.paw_play.specs.inner.Open.{IsOpen, ResumesTo}
-use Rattle.paw_play.specs.inner.OnTheWay.{IsPlaying}
-use Rattle.paw_play.specs.declared.open.OpenSession.{OpenSession}
-use Rattle.paw_journal.specs.inner.Store.{ChangesStoreOnly}
-use Rattle.paw_base.specs.declared.limits.TheConstants.{EVENT_LIMIT}
-use Rattle.paw_journal.proofs.Disks.{stable_is, stable_leaves}
-use Rattle.paw_play.proofs.Attaching.{other_file, playing_from, store_attached}
-use Rattle.paw_play.proofs.Showing.{state_kept}
-use Rattle.paw_play.proofs.Standing.{is_shown, same_again}
-use Rattle.paw_play.proofs.Playing.{starts}
-use Rattle.paw_play.proofs.Written.{had_bytes}
-use Rattle.paw_journal.proofs.Moved.{beside_none}
+use Rattle.paw_play.proofs.{Attaching.playing_from, Attaching.store_attached, Showing.state_kept, Standing.is_shown, Standing.same_again, Playing.rests_by, Playing.stays_at_rest, Playing.in_rest, Playing.starts, Written.had_bytes}
 
-module _ (g : Story) (digests : Digests) (name : Name) (st : State) (piece : Text) (old : Standing) (valid : Valid g.game)
-    (shows : ShowsState g.game digests (store_bytes old name) st piece) where
-  -- The store is attached, and nothing was asked or shown.
-  at_attached : (m : Standing) → m.asked ≡ old.asked → m.shown ≡ old.shown → m.attached ≡ Some name →
-      ((n : Name) → n ≢ name → m.files n ≡ old.files n) → m.disk ≡ stable (store_bytes old name) →
-      InPlay (from_state g st piece digests name) old m
-  at_attached m asked shown attached files disk = record {
-    taken = 0;
-    text = [];
-    last = [];
-    there = omega arith;
-    few = omega (arith, (each_of g.game st shows.valid).events);
-    asked = asked ∙ omega arith;
-    shown = shown ∙ sym (append-nil old.shown);
-    before = refl;
-    attached = attached;
-    files = files;
-    leaves = λ image may. (
-      subst (λ b. IsKept digests (st.events + 0) (going_on g st piece []) (recover b))
-          (sym (stable_leaves (stable (store_bytes old name)) image (stable_is (store_bytes old name)) (subst (λ d. MayLeave d image) disk may)))
-          (state_kept g digests (store_bytes old name) st piece valid shows),
-      (text_of (going_on g st piece []), refl),
-    );
-  }
-
-  -- While the session is found.
-  pub in_finding : (new m : Standing) → new ≡ attached_to old name → Still new m → InPlay (from_state g st piece digests name) old m
-  in_finding new m is e =
-      let k : m ≡ attached_to old name = e ∙ is in
-      at_attached m (ap (λ (q : Standing). q.asked) k) (ap (λ (q : Standing). q.shown) k)
-      (ap (λ (q : Standing). q.attached) k) (λ n ne. ap (λ (q : Standing). q.files n) k ∙ other_file old name n ne)
-      (ap (λ (q : Standing). q.disk) k)
+-- While the session is found.
+in_finding : (g : Story) (digests : Digests) (name : Name) (st : State) (piece : Text) (old new m : Standing) → Valid g.game →
+    ShowsState g.game digests (store_bytes old name) st piece → new ≡ attached_to old name → Still new m →
+    InPlay (from_state g st piece digests name) old m
+in_finding g digests name st piece old new m valid shows is e =
+    let s : PlayedSession = from_state g st piece digests name in
+    let first : Standing = attached_to old name in
+    let rests : RestsWith s first first 0 = rests_by s first first 0 (stays_at_rest name first (store_attached old name))
+    (stable_is (store_bytes old name)) (omega arith) (omega (arith, (each_of g.game st shows.valid).events))
+    (state_kept g digests (store_bytes old name) st piece valid shows) (had_bytes s digests (kept_bytes st) piece (store_bytes old name) shows.shown) in
+    playing_from s old m (subst (InPlay s first) (sym (e ∙ is))
+    (in_rest s first first 0 [] (text_of (going_on g st piece [])) rests (omega arith) (sym (append-nil first.shown)) refl))
 
 -- How resuming the session of the attached store ends where it isn't open.
 pub not_again : {F : Type 0} (g : Story) (name : Name) (old new : Standing) (seat : PlayerView F) (piece : Text) (o : PlayEnd) →
@@ -104,4 +55,4 @@ pub in_search : (g : Story) (name : Name) (before old : Standing) (s : PlayedSes
     old ≡ attached_to before name → (m : Standing) → Still old m → InPlay s before m
 in_search g name before old s valid from is m e =
     let k = is_shown g name (store_bytes before name) s from in
-    subst (λ q. InPlay q before m) k.same (in_finding g k.digests name k.state k.piece before valid k.shows old m is e)
+    subst (λ q. InPlay q before m) k.same (in_finding g k.digests name k.state k.piece before old m valid k.shows is e)

@@ -1,16 +1,5 @@
 -- The attach of a session's store.
-use Rattle.std.proofs.Common.{◌≡◌, ◌≢◌, ℕ, [], ◌∷◌, Option, Some, None, Ok, refl, sym, ap, ◌∙◌, subst, length}
-use Rattle.std.proofs.Common.{inl, inr}
-use Rattle.paw_base.specs.Bytes.{Bytes, Name}
-use Rattle.paw_stage.specs.Disk.{MayLeave, stable}
-use Rattle.paw_stage.specs.Stage.{Standing, Files, bytes_or_none, made_if_missing, AttachesTo}
-use Rattle.paw_stage.proofs.Names.{holds_same, holds_other}
-use Rattle.paw_journal.proofs.Disks.{stable_is, stable_leaves}
-use Rattle.paw_journal.specs.Session.{IsUnmade, recover, recover_by}
-use Rattle.paw_play.specs.Played.{PlayedSession}
-use Rattle.paw_play.specs.Keeping.{InPlay, InMaking, InNewSession}
-use Rattle.paw_play.specs.Play.{attached_to, store_bytes}
-use Rattle.paw_play.specs.inner.OnTheWay.{IsRestingStore}
+use Rattle.paw_play.proofs.Names.{◌≡◌, ◌≢◌, ℕ, [], ◌∷◌, Option, Some, None, Ok, refl, sym, ap, ◌∙◌, subst, length, inl, inr, Bytes, Name, MayLeave, stable, Standing, Files, bytes_or_none, made_if_missing, AttachesTo, stable_is, stable_leaves, IsUnmade, PlayedSession, InPlay, InMaking, InNewSession, attached_to, store_bytes, IsRestingStore, holds_same, holds_other, recover, recover_by}
 
 pub no_bytes : (bytes : Bytes) → length bytes ≡ 0 → bytes ≡ []
 no_bytes [] h = refl

@@ -1,17 +1,5 @@
 -- A word of decimal digits, and the number that it is parsed as.
-use Rattle.std.proofs.Common.{◌≡◌, ℕ, ◌<◌, ◌^◌, true, false, ltb, leb, cond, length, Option, Some, None, Result}
-use Rattle.std.proofs.Common.{Ok, Err}
-use Rattle.std.proofs.Common.{refl, ◌&&◌}
-use Rattle.std.specs.Char.{is_ascii_digit}
-use Rattle.std.specs.List.{list_all}
-use Rattle.std.specs.Option.{option_and_then}
-use Rattle.std.specs.Result.{OkIff, result_ok}
-use Rattle.std.specs.Str.Parse.{digits_value, ParsesUnsigned}
-use Rattle.std.proofs.lemmas.Bool.{and_from, and_parts, le-leb, leb-true, lt-ltb, ltb-true}
-use Rattle.std.proofs.Math.Bool.{and-true}
-use Rattle.std.proofs.lemmas.Str.Parse.{IsNumeralModel, numerals_by_value, parse_digits}
-use Rattle.paw_base.specs.Bytes.{Bytes}
-use Rattle.paw_play.specs.Numbers.{number_of, seed_of}
+use Rattle.paw_play.proofs.Names.{◌≡◌, ℕ, ◌<◌, ◌^◌, true, false, ltb, leb, cond, length, Option, Some, None, Result, Ok, Err, refl, ◌&&◌, list_all, option_and_then, and_from, and_parts, le-leb, leb-true, lt-ltb, ltb-true, Bytes, is_ascii_digit, OkIff, result_ok, digits_value, ParsesUnsigned, and-true, IsNumeralModel, numerals_by_value, parse_digits, number_of, seed_of}
 
 -- What decimal digits alone make, and what they are worth.
 pub decimal_digits : IsNumeralModel (λ ds. list_all is_ascii_digit ds ≡ true) (digits_value 10)

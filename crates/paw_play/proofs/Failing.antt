@@ -1,17 +1,5 @@
 -- What stands after calls, with no crash: it is a moment of them, and a crash then may leave of each file what it has.
-use Rattle.std.proofs.Common.{◌≡◌, ◌⊎◌, ℕ, ◌≤◌, Bool, true, false, inl, inr, refl, sym, ap, ◌∙◌, subst}
-use Rattle.std.specs.Prelude.{Option, Some, None}
-use Rattle.std.specs.Str.{bytes_eq}
-use Rattle.std.proofs.lemmas.Slice.Eq.{bytes_eq-Decides}
-use Rattle.paw_base.specs.Bytes.{Name}
-use Rattle.paw_stage.specs.declared.Stage.{Ghosts}
-use Rattle.paw_stage.specs.Disk.{MayLeave, MayStay}
-use Rattle.paw_stage.specs.Stage.{Standing, file_bytes}
-use Rattle.paw_stage.specs.AcrossCalls.{EachMoment, InTwoParts}
-use Rattle.paw_stage.proofs.Time.{now_inside, now_in_parts}
-use Rattle.paw_journal.proofs.Failed.{stays_now}
-use Rattle.paw_play.specs.Play.{NotYet}
-use Rattle.paw_play.specs.Laws.{MayBeLeft, StandsAtMoment}
+use Rattle.paw_play.proofs.Names.{◌≡◌, ◌⊎◌, ℕ, ◌≤◌, Bool, true, false, inl, inr, refl, sym, ap, ◌∙◌, subst, Option, Some, None, Name, Ghosts, MayLeave, MayStay, Standing, file_bytes, InTwoParts, now_in_parts, NotYet, MayBeLeft, StandsAtMoment, bytes_eq, bytes_eq-Decides, stays_now}
 use Rattle.paw_play.proofs.Parts.{not_yet}
 
 module _ {S : Type 0} (g : Ghosts S) (only : (s : S) (m : Standing) → g.Tells s → g.since s (g.clock s) m → m ≡ g.standing s)
@@ -42,18 +30,7 @@ module _ {S : Type 0} (g : Ghosts S) (only : (s : S) (m : Standing) → g.Tells 
     pub left_as_read : (s : S) (name : Name) → g.Tells s → MayBeLeft name (g.standing s) (file_bytes (g.standing s) name)
     left_as_read s name tells = left_by s name (g.standing s).attached tells refl
 
-    -- What stands after calls is a moment of them, or what stood before.
-    pub stands_at_moment : (old new : S) (name : Name) (Inside : Standing → Type 0) → g.Tells old → g.Tells new → Inside (g.standing old) →
-        EachMoment g old new Inside → StandsAtMoment Inside name (g.standing new)
-    stands_at_moment old new name Inside tells now first h = record {
-      moment = elim (now_inside g only counts old new now Inside tells h) [
-        | inl same ↦ subst Inside (sym same) first
-        | inr inside ↦ inside
-      ];
-      left = left_as_read new name now;
-    }
-
-    -- So it is after calls that attach a store and go on.
+    -- What stands after calls that attach a store and go on is a moment of them, or what stood before.
     pub stands_in_parts : (old new : S) (name : Name) (After : Standing → Type 0) → g.Tells old → g.Tells new →
         InTwoParts g old new (NotYet name (g.standing old)) After →
         StandsAtMoment (λ m. NotYet name (g.standing old) m ⊎ After m) name (g.standing new)

@@ -1,32 +1,9 @@
 -- A session that was at a state of the game is at one again once it has taken a line.
-use Rattle.std.proofs.Common.{◌≡◌, ℕ, ◌+◌, ◌*◌, ◌^◌, ◌<◌, ◌≤◌, List, [], ◌∷◌, ◌++◌, refl, sym, ap, ◌∙◌, subst, length, arith}
-use Rattle.std.specs.Prelude.{reverse}
-use Rattle.std.proofs.lemmas.List.Elements.{All-cons, All-nil}
-use Rattle.paw_base.specs.Bytes.{Line, Lines, Seed, Text}
-use Rattle.paw_base.specs.declared.limits.TheConstants.{EVENT_LIMIT, READ_LIMIT, PIECE_LIMIT}
-use Rattle.paw_game.specs.Game.{GameLists}
-use Rattle.paw_effects.specs.Story.{Story}
-use Rattle.paw_effects.specs.declared.act.Prompt.{Prompt}
+use Rattle.paw_play.proofs.Names.{◌≡◌, ℕ, ◌+◌, ◌*◌, ◌^◌, ◌<◌, ◌≤◌, List, [], ◌∷◌, ◌++◌, refl, sym, ap, ◌∙◌, subst, length, arith, reverse, All-cons, All-nil, Line, Lines, Seed, Text, EVENT_LIMIT, READ_LIMIT, PIECE_LIMIT, GameLists, Story, Prompt, Frame, Run, StepRow, Ending, WaitsAt, Halted, reading, going_on_from, pieces_of, IsLine, ValidStory, IsBounded, StandsRightly, StopsBounded, going_on_is_bounded, PlayerView, run_at, PlaysTo, IsSeated, IsStanding, StandsClosed, StandRightly, prompt_at, Step, stands_alike, last_piece, EndingOf, HasPlayed, StopsAtState, IsValidState, FitsFields, state_at}
 use Rattle.paw_effects.specs.declared.act.Prompt.TheVariants as prompt
-use Rattle.paw_reading.specs.declared.frames.Frame.{Frame}
 use Rattle.paw_reading.specs.declared.halt.Halt.TheVariants as halt
-use Rattle.paw_reading.specs.Run.{Run, StepRow}
-use Rattle.paw_reading.specs.Turn.{Ending, WaitsAt, Halted, reading, going_on_from, pieces_of}
-use Rattle.paw_reading.specs.Bounds.{IsLine, ValidStory}
-use Rattle.paw_reading.specs.inner.Bounds.{IsBounded}
-use Rattle.paw_reading.specs.inner.Waits.{StandsRightly, StopsBounded}
-use Rattle.paw_reading.proofs.Rightly.{going_on_is_bounded}
-use Rattle.paw_turn.specs.inner.Player.{PlayerView, run_at, PlaysTo, IsSeated, IsStanding, StandsClosed, StandRightly, prompt_at}
-use Rattle.paw_turn.specs.declared.Step.{Step}
 use Rattle.paw_turn.specs.declared.Step.TheVariants as step
-use Rattle.paw_turn.proofs.Standing.{stands_alike}
-use Rattle.paw_state.specs.State.{last_piece}
-use Rattle.paw_play.specs.Walk.{EndingOf}
-use Rattle.paw_play.specs.inner.Open.{HasPlayed, StopsAtState}
-use Rattle.paw_play.proofs.Going.{IsSettled}
-use Rattle.paw_play.proofs.Settling.{reading_settles, state_follows}
-use Rattle.paw_play.proofs.Opened.{waits_here, over_here}
-use Rattle.paw_play.proofs.Walking.{on_waits}
+use Rattle.paw_play.proofs.{Going.IsSettled, Settling.reading_settles, Settling.state_follows, Opened.waits_here, Opened.over_here, Walking.on_waits}
 
 -- ---- the piece before the first line ----
 
@@ -59,36 +36,33 @@ module _ {F : Type 0} {g : Story} {whole : EndingOf} {taken : Lines} {next : Pla
       subst (λ (h : GameLists). StandRightly h (prompt_at s) next.world next.machine next.pending) within.game
       (subst (λ t. IsStanding t → StandRightly next.game (prompt_at t) next.world next.machine next.pending) is within.seated.rightly shows)
 
+  follows_at : (p : Prompt) (path : List Frame) → StandsRightly g.game p path (run_at next h.pieces h.traces []) → pieces_of (whole taken) ≡ h.pieces →
+      IsValidState g.game (state_at n p path (run_at next h.pieces h.traces [])) × FitsFields (state_at n p path (run_at next h.pieces h.traces []))
+  follows_at p path rightly is = state_follows g.game v.game n within.few p path (run_at next h.pieces h.traces []) rightly within.seeded within.drew
+      (omega (arith, within.short, ap length (ap last_piece (sym is) ∙ h.last)))
+
   stops_by : (found : Step) → next.last ≡ found → IsStanding found → StopsAtState g.game n (whole taken)
   stops_by (step.Waits p) is shows =
-      let r : Run = run_at next h.pieces h.traces [] in
-      let at : whole taken ≡ WaitsAt p (reverse next.machine.frames) r = waits_here h p is within.seated in
-      let last : last_piece h.pieces ≡ next.piece = ap (λ e. last_piece (pieces_of e)) (sym at) ∙ h.last in
+      let at = waits_here h p is within.seated in
       let rightly = stands_alike g.game p (reverse next.machine.frames) next.world next.machine next.pending [] h.pieces [] h.traces [] []
       (stands (step.Waits p) is shows) in
-      subst (StopsAtState g.game n) (sym at)
-      (state_follows g.game v.game n within.few p (reverse next.machine.frames) r rightly within.seeded within.drew
-      (omega (arith, within.short, ap length last)))
+      subst (StopsAtState g.game n) (sym at) (follows_at p (reverse next.machine.frames) rightly (ap pieces_of at))
   stops_by step.Ended is shows =
-      let r : Run = run_at next h.pieces h.traces [] in
-      let at : whole taken ≡ Halted halt.Over r = over_here h is in
-      let last : last_piece h.pieces ≡ next.piece = ap (λ e. last_piece (pieces_of e)) (sym at) ∙ h.last in
+      let at = over_here h is in
+      let closed = stands_alike g.game prompt.Over (reverse next.machine.frames) next.world next.machine next.pending [] h.pieces [] h.traces [] []
+      (stands step.Ended is shows) in
       let frames = (subst (λ q. StandsClosed q next.machine) is within.seated.machine).frames in
-      let rightly : StandsRightly g.game prompt.Over [] r = subst (λ (fs : List Frame). StandsRightly g.game prompt.Over (reverse fs) r) frames
-      (stands_alike g.game prompt.Over (reverse next.machine.frames) next.world next.machine next.pending [] h.pieces [] h.traces [] []
-      (stands step.Ended is shows)) in
-      subst (StopsAtState g.game n) (sym at)
-      (state_follows g.game v.game n within.few prompt.Over [] r rightly within.seeded within.drew (omega (arith, within.short, ap length last)))
+      let rightly = subst (λ (fs : List Frame). StandsRightly g.game prompt.Over (reverse fs) (run_at next h.pieces h.traces [])) frames closed in
+      subst (StopsAtState g.game n) (sym at) (follows_at prompt.Over [] rightly (ap pieces_of at))
   stops_by (step.Spent kind) is shows = absurd shows
   stops_by (step.TooDeep table) is shows = absurd shows
 
 bounds_of : {F : Type 0} (g : Story) (seed : Seed) (n : ℕ) (whole : EndingOf) (s : Step) (next : PlayerView F) → IsStanding s → StandsClosed s next.machine →
     PlaysTo g whole s next [] [] → StopsBounded seed n (whole []) →
     (traces : List (List StepRow)) × IsBounded seed n (run_at next (next.piece ∷ []) traces [])
-bounds_of g seed n whole (step.Waits q) next shows stands plays b = (
-  plays.0 ∷ [],
-  subst (StopsBounded seed n) (plays.1.1 [] ∙ on_waits g q next.machine (run_at next (next.piece ∷ []) (plays.0 ∷ []) []) stands) b,
-)
+bounds_of g seed n whole (step.Waits q) next shows stands plays b =
+    let is = plays.1.1 [] ∙ on_waits g q next.machine (run_at next (next.piece ∷ []) (plays.0 ∷ []) []) stands in
+    (plays.0 ∷ [], subst (StopsBounded seed n) is b)
 bounds_of g seed n whole step.Ended next shows stands plays b = (plays.0 ∷ [], subst (StopsBounded seed n) (plays.1.1 []) b)
 bounds_of g seed n whole (step.Spent kind) next shows stands plays b = absurd shows
 bounds_of g seed n whole (step.TooDeep table) next shows stands plays b = absurd shows

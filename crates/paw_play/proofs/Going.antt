@@ -1,32 +1,7 @@
 -- Going on from a kept state is reading the longer list of lines.
-use Rattle.std.proofs.Common.{◌≡◌, ℕ, zero, suc, ◌+◌, ◌<◌, ◌≤◌, List, [], ◌∷◌, ◌++◌, refl, sym, ap, ◌∙◌, length, drop}
-use Rattle.std.proofs.Common.{append-nil, arith}
-use Rattle.std.specs.List.{concat}
-use Rattle.paw_base.specs.Bytes.{Bytes, Lines, Text, Seed, Texts}
-use Rattle.paw_game.specs.Game.{GameLists}
-use Rattle.paw_game.specs.Valid.{Valid}
-use Rattle.paw_effects.specs.Story.{Story}
-use Rattle.paw_effects.specs.declared.act.Prompt.{Prompt}
+use Rattle.paw_play.proofs.Names.{◌≡◌, ℕ, zero, suc, ◌+◌, ◌<◌, ◌≤◌, List, [], ◌∷◌, ◌++◌, refl, sym, ap, ◌∙◌, length, drop, append-nil, arith, Bytes, Lines, Text, Seed, Texts, GameLists, Valid, Story, Prompt, Frame, Run, StepRow, Ending, WaitsAt, Halted, Unended, reading, going_on_from, pieces_of, ending_with_past, with_past, without_past, Counted, pieces_of_lines, path_again, Digests, Recovered, Shown, recover, State, IsValidState, FitsFields, state_bytes, bytes_give_the_state, last_piece, state_at, IsKept, Stands, since_piece, ending_since, reading_since, ShowsState, going_on, with_lines, going_on_is_reading, past_stays, longer_reading, kept_bytes, drop_at}
 use Rattle.paw_effects.specs.declared.act.Prompt.TheVariants as prompt
-use Rattle.paw_reading.specs.declared.frames.Frame.{Frame}
-use Rattle.paw_reading.specs.Run.{Run, StepRow}
 use Rattle.paw_reading.specs.declared.halt.Halt.TheVariants as halt
-use Rattle.paw_reading.specs.Turn.{Ending, WaitsAt, Halted, Unended, reading, going_on_from, pieces_of, text_of}
-use Rattle.paw_reading.specs.inner.GoingOn.{with_lines}
-use Rattle.paw_reading.specs.inner.Longer.{ending_with_past, with_past, without_past}
-use Rattle.paw_reading.specs.inner.Pieces.{Counted}
-use Rattle.paw_reading.proofs.Counts.{pieces_of_lines}
-use Rattle.paw_reading.proofs.Followed.{going_on_is_reading}
-use Rattle.paw_reading.proofs.Past.{past_stays, longer_reading}
-use Rattle.paw_process.proofs.Again.{path_again}
-use Rattle.paw_journal.specs.Session.{Digests, Recovered, Shown, recover}
-use Rattle.paw_state.specs.State.{State, IsValidState, FitsFields}
-use Rattle.paw_state.specs.State.{state_bytes}
-use Rattle.paw_state.proofs.Lawful.{bytes_give_the_state}
-use Rattle.paw_state.specs.State.{last_piece, state_at}
-use Rattle.paw_play.specs.Session.{kept_bytes, IsKept}
-use Rattle.paw_play.specs.Stands.{Stands, since_piece, ending_since, reading_since}
-use Rattle.paw_play.specs.Played.{ShowsState, going_on}
 
 -- Where a reading stops its state follows the rules, and nothing of a piece is open; so much was read in each closed
 -- piece.
@@ -51,12 +26,6 @@ from_last (suc n) (p ∷ []) qs all = absurd (omega arith)
 from_last zero (p ∷ q ∷ ps) qs all = absurd (omega arith)
 from_last (suc n) (p ∷ q ∷ ps) qs all = from_last n (q ∷ ps) qs (omega arith)
 
-behind : (n : ℕ) (ts us : List (List StepRow)) → length ts ≡ n → drop n (ts ++ us) ≡ us
-behind zero [] us all = refl
-behind zero (t ∷ ts) us all = absurd (omega arith)
-behind (suc n) [] us all = absurd (omega arith)
-behind (suc n) (t ∷ ts) us all = behind n ts us (omega arith)
-
 last_dropped : (n : ℕ) (ps : Texts) → n < length ps → last_piece (drop n ps) ≡ last_piece ps
 last_dropped n [] low = absurd (omega arith)
 last_dropped zero (p ∷ ps) low = refl
@@ -67,7 +36,7 @@ module _ (n : ℕ) (ps : Texts) (ts : List (List StepRow)) (all : length ps ≡ 
   run_since : (r : Run) → since_piece n (with_past ps ts r) ≡ with_past (last_piece ps ∷ []) [] r
   run_since r =
       ap (λ q. record r { pieces = q; traces = drop (suc n) (ts ++ r.traces) }) (from_last n ps r.pieces all)
-      ∙ ap (λ q. record r { pieces = last_piece ps ∷ r.pieces; traces = q }) (behind (suc n) ts r.traces each)
+      ∙ ap (λ q. record r { pieces = last_piece ps ∷ r.pieces; traces = q }) (drop_at ts r.traces (suc n) each)
 
   -- An ending with closed pieces before it, from the last of those on.
   pub since_past : (e : Ending) → ending_since n (ending_with_past ps ts e) ≡ ending_with_past (last_piece ps ∷ []) [] e
@@ -75,30 +44,17 @@ module _ (n : ℕ) (ps : Texts) (ts : List (List StepRow)) (all : length ps ≡ 
   since_past (Halted halt r) = ap (Halted halt) (run_since r)
   since_past Unended = refl
 
--- Its text.
-pub text_since_is : (n : ℕ) (e : Ending) → text_of (ending_since n e) ≡ concat (drop n (pieces_of e))
-text_since_is n (WaitsAt p path r) = refl
-text_since_is n (Halted halt r) = refl
-text_since_is zero Unended = refl
-text_since_is (suc n) Unended = refl
-
 -- A session that keeps it keeps the whole.
 pub whole_kept : (digests : Digests) (n m lines : ℕ) (e : Ending) (r : Recovered) → Counted lines e → n ≤ lines → IsKept digests m (ending_since n e) r →
     IsKept digests m e r
 whole_kept digests n m lines (WaitsAt p path s) r counted few k =
     let low : n < length s.pieces = omega (arith, counted.1, ap length counted.0) in
-    record {
-      played = tt;
-      shown = k.shown ∙ ap (λ q. Shown digests (kept_bytes (record (state_at m p path s) { piece = length q })) q)
-          (last_dropped n s.pieces low);
-    }
+    let same = ap (λ q. Shown digests (kept_bytes (record (state_at m p path s) { piece = length q })) q) (last_dropped n s.pieces low) in
+    record { played = tt; shown = k.shown ∙ same }
 whole_kept digests n m lines (Halted halt.Over s) r counted few k =
     let low : n < length s.pieces = omega (arith, counted, ap length k.played) in
-    record {
-      played = k.played;
-      shown = k.shown ∙ ap (λ q. Shown digests (kept_bytes (record (state_at m prompt.Over [] s) { piece = length q })) q)
-          (last_dropped n s.pieces low);
-    }
+    let same = ap (λ q. Shown digests (kept_bytes (record (state_at m prompt.Over [] s) { piece = length q })) q) (last_dropped n s.pieces low) in
+    record { played = k.played; shown = k.shown ∙ same }
 whole_kept digests n m lines _ r counted few k = absurd k.played
 
 -- ---- going on from a state of a reading ----
@@ -134,27 +90,20 @@ module _ (g : Story) (seed : Seed) (es fs : Lines) where
 
   pub waiting_goes : (p : Prompt) (path : List Frame) (r : Run) → reading g seed es ≡ WaitsAt p path r → Settles g.game (length es) p path r →
       Counted (length es) (WaitsAt p path r) → GoesOnFrom (WaitsAt p path r) (state_at (length es) p path r) (last_piece r.pieces)
-  waiting_goes p path r is k counted = (
-    all_pieces (length es) r.pieces r.events counted.1 counted.0,
-    k.traced ∙ all_pieces (length es) r.pieces r.events counted.1 counted.0,
-    going_on_from g p path (with_lines fs (without_past r)),
-    longer_reading g seed es fs p path r is,
-    goes_from g (length es) p path r (last_piece r.pieces) fs
-        ∙ ap (going_on_from g p path) (taken_past r (last_piece r.pieces) fs k.current k.read counted.0)
-        ∙ past_stays g (last_piece r.pieces ∷ []) [] p path (with_lines fs (without_past r)),
-  )
+  waiting_goes p path r is k counted =
+      let all = all_pieces (length es) r.pieces r.events counted.1 counted.0 in
+      let goes = goes_from g (length es) p path r (last_piece r.pieces) fs
+      ∙ ap (going_on_from g p path) (taken_past r (last_piece r.pieces) fs k.current k.read counted.0)
+      ∙ past_stays g (last_piece r.pieces ∷ []) [] p path (with_lines fs (without_past r)) in
+      (all, k.traced ∙ all, going_on_from g p path (with_lines fs (without_past r)), longer_reading g seed es fs p path r is, goes)
 
   over_goes : (r : Run) → reading g seed es ≡ Halted halt.Over r → Settles g.game (length es) prompt.Over [] r →
       r.events ≡ [] → Counted (length es) (Halted halt.Over r) →
       GoesOnFrom (Halted halt.Over r) (state_at (length es) prompt.Over [] r) (last_piece r.pieces)
-  over_goes r is k none counted = (
-    all_pieces (length es) r.pieces r.events counted none,
-    k.traced ∙ all_pieces (length es) r.pieces r.events counted none,
-    Halted halt.Over (with_lines fs (without_past r)),
-    rw is at (going_on_is_reading g seed es fs)
-        ∙ ap (Halted halt.Over) (rw (append-nil r.pieces, append-nil r.traces) refl),
-    ap (Halted halt.Over) (taken_past r (last_piece r.pieces) fs k.current k.read none),
-  )
+  over_goes r is k none counted =
+      let all = all_pieces (length es) r.pieces r.events counted none in
+      let read = rw is at (going_on_is_reading g seed es fs) ∙ ap (Halted halt.Over) (rw (append-nil r.pieces, append-nil r.traces) refl) in
+      (all, k.traced ∙ all, Halted halt.Over (with_lines fs (without_past r)), read, ap (Halted halt.Over) (taken_past r (last_piece r.pieces) fs k.current k.read none))
 
   ended_goes : (e : Ending) → reading g seed es ≡ e → IsSettled g.game (length es) e → Counted (length es) e →
       (digests other : Digests) (r : Recovered) (kept : IsKept digests (length es) e r)

@@ -1,11 +1,6 @@
 -- Ends of playing that are halts.
-use Rattle.std.proofs.Common.{◌≡◌, Some, ap}
-use Rattle.std.specs.Option.{option_map_or}
-use Rattle.paw_reading.specs.declared.halt.Halt.{Halt}
-use Rattle.paw_play.specs.declared.PlayEnd.{PlayEnd}
+use Rattle.paw_play.proofs.Names.{◌≡◌, Some, ap, option_map_or, Halt, PlayEnd, end_halt, end_of_halt}
 use Rattle.paw_play.specs.declared.PlayEnd.TheVariants as end
-use Rattle.paw_play.specs.Walk.{end_halt}
-use Rattle.paw_play.specs.inner.OnTheWay.{end_of_halt}
 
 -- An end of playing that is a halt is the end that this halt makes.
 pub ends_by_halt : (o : PlayEnd) (halt : Halt) → end_halt o ≡ Some halt → o ≡ end_of_halt halt

@@ -1,16 +1,5 @@
 -- What loading a file cuts off, and what an image that was loaded says of its file.
-use Rattle.std.proofs.Common.{◌≡◌, ◌⊎◌, inl, inr, ℕ, ◌+◌, ◌≤◌, Option, Some, length, take, sym, ◌∙◌, subst, arith}
-use Rattle.std.proofs.lemmas.List.{take_all, length-take-le}
-use Rattle.paw_base.specs.Bytes.{Bytes, Name}
-use Rattle.paw_base.specs.declared.limits.TheConstants.{IMAGE_LIMIT}
-use Rattle.paw_game.specs.Game.{GameLists}
-use Rattle.paw_image.specs.Damage.{bad}
-use Rattle.paw_image.specs.Images.{IsImage}
-use Rattle.paw_image.proofs.ImageLaws.{one_game}
-use Rattle.paw_image.proofs.WholeLaws.{over_is_bad}
-use Rattle.paw_stage.specs.Stage.{Standing}
-use Rattle.paw_stage.specs.inner.Loads.{LoadsSome}
-use Rattle.paw_play.specs.ImageFiles.{Holds, HoldsDamage}
+use Rattle.paw_play.proofs.Names.{◌≡◌, ◌⊎◌, inl, inr, ℕ, ◌+◌, ◌≤◌, Option, Some, length, take, sym, ◌∙◌, subst, arith, take_all, length-take-le, Bytes, Name, IMAGE_LIMIT, GameLists, Standing, bad, IsImage, one_game, over_is_bad, LoadsSome, Holds, HoldsDamage}
 
 -- ---- what loading cuts off ----
 

@@ -1,28 +1,8 @@
 -- What a session keeps of a player.
-use Rattle.std.proofs.Common.{◌≡◌, ℕ, ◌+◌, List, [], ◌∷◌, ◌++◌, refl, sym, ap, ◌∙◌, length}
-use Rattle.std.specs.Prelude.{reverse}
-use Rattle.paw_base.specs.Bytes.{Text, Texts}
-use Rattle.paw_effects.specs.declared.act.Prompt.{Prompt}
+use Rattle.paw_play.proofs.Names.{◌≡◌, ℕ, List, [], ◌∷◌, ◌++◌, refl, sym, ap, ◌∙◌, length, reverse, Text, Texts, Prompt, StepRow, PlayerView, run_at, PlaysTo, StandsClosed, Step, Digests, Shown, frames_at, machine_kept, last_piece, State, Frame, kept_bytes, IsKept, EndingOf, IsStanding, seat_state, Story, Frames}
 use Rattle.paw_effects.specs.declared.act.Prompt.TheVariants as prompt
-use Rattle.paw_reading.specs.Run.{StepRow}
-use Rattle.paw_reading.specs.declared.halt.Halt.TheVariants as halt
-use Rattle.paw_reading.specs.Turn.{Ending, WaitsAt, Halted}
-use Rattle.paw_turn.specs.inner.Player.{PlayerView, run_at, PlaysTo, StandsClosed}
-use Rattle.paw_turn.specs.declared.Step.{Step}
 use Rattle.paw_turn.specs.declared.Step.TheVariants as step
-use Rattle.paw_journal.specs.Session.{Digests, Shown}
-use Rattle.paw_process.specs.Kept.{frames_at}
-use Rattle.paw_process.specs.inner.Kept.{machine_kept}
-use Rattle.paw_process.specs.declared.kept.Frames.{Frames}
-use Rattle.paw_state.specs.State.{last_piece}
-use Rattle.paw_state.specs.State.{State}
-use Rattle.paw_reading.specs.declared.frames.Frame.{Frame}
-use Rattle.paw_play.specs.Session.{kept_bytes, IsKept}
-use Rattle.paw_play.specs.Walk.{EndingOf}
-use Rattle.paw_turn.specs.inner.Player.{IsStanding}
-use Rattle.paw_play.specs.inner.OnTheWay.{seat_state}
 use Rattle.paw_play.proofs.Walking.{on_waits}
-use Rattle.paw_effects.specs.Story.{Story}
 
 pub last_more : (pieces : Texts) (piece : Text) → last_piece (pieces ++ piece ∷ []) ≡ piece
 last_more [] piece = refl
@@ -44,32 +24,15 @@ shown_at digests events p path next pieces is =
     ∙ ap (λ (q : Text). Shown digests (kept_bytes (parts events p next (frames_at path next.machine.turning) (length q))) q)
     (sym (last_more pieces next.piece))
 
--- Where a player waits, its session keeps the reading.
-waits_kept : {F : Type 0} (digests : Digests) (events : ℕ) (e : Ending) (p : Prompt) (next : PlayerView F) (pieces : Texts)
-    (traces : List (List StepRow)) → next.last ≡ step.Waits p →
-    e ≡ WaitsAt p (reverse next.machine.frames) (run_at next (pieces ++ next.piece ∷ []) traces []) →
-    IsKept digests events e (Shown digests (seat_state events next) next.piece)
-waits_kept digests events e p next pieces traces last is =
-    rw (is, last) (record { played = tt; shown = shown_at digests events p (reverse next.machine.frames) next pieces refl })
-
-over_kept : {F : Type 0} (digests : Digests) (events : ℕ) (e : Ending) (next : PlayerView F) (pieces : Texts) (traces : List (List StepRow)) →
-    next.last ≡ step.Ended → next.machine.frames ≡ [] →
-    e ≡ Halted halt.Over (run_at next (pieces ++ next.piece ∷ []) traces []) →
-    IsKept digests events e (Shown digests (seat_state events next) next.piece)
-over_kept digests events e next pieces traces last closed is = rw (is, last) (record {
-  played = refl;
-  shown = shown_at digests events prompt.Over [] next pieces
-      (ap (λ fs. frames_at (reverse fs) next.machine.turning) closed);
-})
-
 -- A line that brings a piece leads to a player whose session keeps the reading.
 pub step_kept : {F : Type 0} (g : Story) (digests : Digests) (events : ℕ) (whole : EndingOf) (s : Step) (next : PlayerView F) (pieces : Texts)
     (traces : List (List StepRow)) → IsStanding s → next.last ≡ s →
     StandsClosed s next.machine → PlaysTo g whole s next pieces traces → IsKept digests events (whole []) (Shown digests (seat_state events next) next.piece)
 step_kept g digests events whole (step.Waits p) next pieces traces shows last stands plays =
-    waits_kept digests events (whole []) p next pieces (traces ++ plays.0 ∷ []) last
-    (plays.1.1 [] ∙ on_waits g p next.machine (run_at next (pieces ++ next.piece ∷ []) (traces ++ plays.0 ∷ []) []) stands)
+    rw (plays.1.1 [] ∙ on_waits g p next.machine (run_at next (pieces ++ next.piece ∷ []) (traces ++ plays.0 ∷ []) []) stands, last)
+    (record { played = tt; shown = shown_at digests events p (reverse next.machine.frames) next pieces refl })
 step_kept g digests events whole step.Ended next pieces traces shows last stands plays =
-    over_kept digests events (whole []) next pieces (traces ++ plays.0 ∷ []) last stands.frames (plays.1.1 [])
+    let closed = ap (λ fs. frames_at (reverse fs) next.machine.turning) stands.frames in
+    rw (plays.1.1 [], last) (record { played = refl; shown = shown_at digests events prompt.Over [] next pieces closed })
 step_kept g digests events whole (step.Spent kind) next pieces traces shows last stands plays = absurd shows
 step_kept g digests events whole (step.TooDeep u) next pieces traces shows last stands plays = absurd shows

@@ -1,22 +1,5 @@
 -- The lines of steps, and how long they are.
-use Rattle.std.proofs.Common.{◌≡◌, ℕ, zero, suc, ◌+◌, ◌-◌, ◌||◌, ◌≤◌, ◌<◌, Bool, true, false, List, [], ◌∷◌, ◌++◌, refl}
-use Rattle.std.proofs.Common.{ap, inl, inr, length, arith, length-append, nat_le}
-use Rattle.std.specs.Prelude.{◌^◌, codes, decimal, if◌then◌else◌}
-use Rattle.std.specs.List.{slice_index_or, list_all}
-use Rattle.std.proofs.lemmas.Bool.{leb-true, cases_lt, lt-ltb}
-use Rattle.std.proofs.lemmas.Fmt.{length-decimal-le}
-use Rattle.std.proofs.lemmas.List.{get_or_past}
-use Rattle.paw_base.specs.Bytes.{Bytes, Text}
-use Rattle.paw_base.specs.declared.codes.TheConstants.{INDIRECT}
-use Rattle.paw_base.specs.Condacts.{CondactLine, is_plain_code, is_indirect, no_line, condact_lines, plain_line}
-use Rattle.paw_base.specs.Condacts.{indirect_line, line_of, name_of}
-use Rattle.paw_base.specs.inner.Condacts.{IsCode}
-use Rattle.paw_base.specs.inner.Piece.{Puts}
-use Rattle.paw_base.proofs.Table.{plain_is}
-use Rattle.paw_base.specs.declared.limits.TheConstants.{PIECE_LIMIT}
-use Rattle.paw_game.proofs.ValidGames.{first_of_and, second_of_and}
-use Rattle.paw_reading.specs.Run.{StepRow}
-use Rattle.paw_play.specs.Traces.{step_address, answer_text, step_line, more_line}
+use Rattle.paw_play.proofs.Names.{◌≡◌, ℕ, zero, suc, ◌+◌, ◌-◌, ◌||◌, ◌≤◌, ◌<◌, Bool, true, false, List, [], ◌∷◌, ◌++◌, refl, ap, inl, inr, length, arith, length-append, nat_le, ◌^◌, codes, decimal, if◌then◌else◌, slice_index_or, list_all, leb-true, cases_lt, lt-ltb, get_or_past, Bytes, Text, CondactLine, is_indirect, no_line, indirect_line, name_of, Puts, PIECE_LIMIT, StepRow, step_address, answer_text, step_line, more_line, length-decimal-le, INDIRECT, is_plain_code, condact_lines, plain_line, line_of, IsCode, plain_is, first_of_and, second_of_and}
 
 -- What fits is put.
 pub put_whole : (ok : Bool) (old new text : Bytes) → Puts old new ok text → length old + length text ≤ PIECE_LIMIT
@@ -82,12 +65,8 @@ address_short table entry at low few under =
     let t : length (decimal table) ≤ 3 = length-decimal-le 3 table (omega arith) (omega (arith, low)) (omega (arith, low)) in
     let e : length (decimal entry) ≤ 5 = length-decimal-le 5 entry (omega arith) (omega (arith, few)) (omega (arith, few)) in
     let a : length (decimal at) ≤ 3 = length-decimal-le 3 at (omega arith) (omega (arith, under)) (omega (arith, under)) in
-    let one = length-append (decimal table) (codes "." ++ (decimal entry ++ (codes "." ++ decimal at))) in
-    let two = length-append (codes ".") (decimal entry ++ (codes "." ++ decimal at)) in
-    let three = length-append (decimal entry) (codes "." ++ decimal at) in
-    let four = length-append (codes ".") (decimal at) in
     let dot : length (codes ".") ≡ 1 = refl in
-    omega (arith, t, e, a, one, two, three, four, dot)
+    omega (arith, t, e, a, dot, length-append {A = ℕ})
 
 -- A line of a step is of at most 27 bytes.
 pub line_short : (step : StepRow) → length (step_address step.table step.entry step.at) ≤ 13 → length (step_line step) ≤ 27

@@ -1,33 +1,9 @@
 -- An older session of a game that never saves stands for its lines.
-use Rattle.std.proofs.Common.{◌≡◌, ℕ, ◌-◌, Bool, true, false, [], ◌++◌, Option, Some, None, length, take, refl}
-use Rattle.std.proofs.Common.{sym, ap, ◌∙◌, arith}
-use Rattle.std.specs.Prelude.{if◌then◌else◌, nat_le}
-use Rattle.std.proofs.lemmas.List.{length-take-le, take_at}
-use Rattle.paw_base.specs.Bytes.{Bytes}
-use Rattle.paw_game.specs.Game.{GameLists}
-use Rattle.paw_game.specs.Valid.{Valid}
+use Rattle.paw_play.proofs.Names.{◌≡◌, ℕ, ◌-◌, Bool, true, false, [], ◌++◌, Option, Some, None, length, take, refl, sym, ap, ◌∙◌, arith, if◌then◌else◌, nat_le, length-take-le, take_at, Bytes, GameLists, Valid, Ending, WaitsAt, Halted, reading, Digests, Damaged, Shown, recover, slot_in_use, kept_digests, slot, shown_unless, first_unsound, slot_changes, slot_state, shown_state, two_byte_number, most_changes, state_length, first_length, zeros, form_length, slot_version, base_length, shown_made, recover_is, recover_made, State, IsValidState, FitsFields, last_piece, state_at, long_state, IsKept, no_positions, EndsKeeping, readings_keep_no_position, slot_shows, slot_long, state_long, ends_in_zeros, kept_bytes, KeepsAsOlder, OlderSessionsStand}
 use Rattle.paw_effects.specs.declared.act.Prompt.TheVariants as prompt
 use Rattle.paw_reading.specs.declared.halt.Halt.TheVariants as halt
-use Rattle.paw_reading.specs.Turn.{Ending, WaitsAt, Halted, reading}
-use Rattle.paw_reading.specs.inner.Saving.{no_positions, EndsKeeping}
-use Rattle.paw_reading.proofs.Saving.{readings_keep_no_position}
 use Rattle.paw_journal.specs.declared.refusal.SessionPart.TheVariants as part
-use Rattle.paw_journal.specs.Session.{Digests, Damaged, Shown, recover, slot_in_use, kept_digests, slot, slot_shows}
-use Rattle.paw_journal.specs.Session.{shown_unless, first_unsound, slot_changes}
-use Rattle.paw_journal.specs.Session.{slot_state, shown_state, two_byte_number, most_changes, state_length}
-use Rattle.paw_journal.specs.Session.{first_length, zeros}
-use Rattle.paw_journal.specs.Session.{form_length, slot_version, base_length}
-use Rattle.paw_journal.proofs.Recovers.{shown_made, recover_is, recover_made}
-use Rattle.paw_journal.proofs.Fills.{slot_long}
-use Rattle.paw_journal.proofs.Slots.{state_long}
-use Rattle.paw_state.specs.State.{State, IsValidState, FitsFields}
-use Rattle.paw_state.specs.State.{last_piece, state_at}
-use Rattle.paw_state.proofs.Lawful.{long_state}
-use Rattle.paw_state.proofs.Unkept.{ends_in_zeros}
-use Rattle.paw_play.specs.Session.{kept_bytes, IsKept}
-use Rattle.paw_play.specs.Older.{KeepsAsOlder, OlderSessionsStand}
-use Rattle.paw_play.proofs.Going.{IsSettled}
-use Rattle.paw_play.proofs.Settling.{reading_settles}
+use Rattle.paw_play.proofs.{Going.IsSettled, Settling.reading_settles}
 
 -- ---- what the slot in use shows ----
 

@@ -1,40 +1,9 @@
 -- An open session: what a piece that was played is in its reading, and what a commit keeps of it.
-use Rattle.std.proofs.Common.{◌≡◌, inl, inr, ℕ, suc, ◌+◌, ◌<◌, ◌≤◌, List, [], ◌∷◌, ◌++◌, Option, Some, None, refl}
-use Rattle.std.proofs.Common.{sym, ap, ◌∙◌, subst, arith, append_assoc}
-use Rattle.std.specs.Prelude.{reverse, MatchOption, Ok, Err}
-use Rattle.std.specs.List.{concat}
-use Rattle.std.proofs.lemmas.List.{append-nil}
-use Rattle.paw_base.specs.Bytes.{Bytes, Line, Lines, Text, Texts}
-use Rattle.paw_base.specs.declared.limits.TheConstants.{EVENT_LIMIT}
-use Rattle.paw_stage.specs.Stage.{Standing}
-use Rattle.paw_effects.specs.Story.{Story}
-use Rattle.paw_effects.specs.declared.act.Prompt.{Prompt}
-use Rattle.paw_reading.specs.Run.{StepRow}
+use Rattle.paw_play.proofs.Names.{◌≡◌, inl, inr, ℕ, suc, ◌+◌, ◌<◌, ◌≤◌, List, [], ◌∷◌, ◌++◌, Option, Some, None, refl, sym, ap, ◌∙◌, subst, arith, append_assoc, reverse, MatchOption, Ok, Err, concat, append-nil, Bytes, Line, Lines, Text, Texts, EVENT_LIMIT, Standing, Story, Prompt, StepRow, WaitsAt, Halted, going_on_from, text_of, PlayerView, PlaysTo, IsSeated, IsStanding, StandsClosed, run_at, Step, Digests, Recovered, Shown, recover, kept_digests, digests_of, PlayEnd, IsKept, EndingOf, PlayedSession, call_of_end, Plain, end_if_no_piece, CommitsPlayer, InCommit, MakesPlayer, InMake, seat_state, ReadsOn, HasPlayed, WaitsAfter, HaltsAfter, HoldsPlayer, KeepsAfter, IsOpen, StopsAt, TakesLineTo, InTaking, StopsAtOnce, PlaysFirst, BeginsTo, InBeginning, StopsAtState}
 use Rattle.paw_reading.specs.declared.halt.Halt.TheVariants as halt
-use Rattle.paw_reading.specs.Turn.{WaitsAt, Halted, going_on_from, text_of, pieces_of}
-use Rattle.paw_turn.specs.inner.Player.{PlayerView, PlaysTo, IsSeated, IsStanding, StandsClosed, run_at}
-use Rattle.paw_turn.specs.declared.Step.{Step}
 use Rattle.paw_turn.specs.declared.Step.TheVariants as step
-use Rattle.paw_journal.specs.Session.{Digests, Recovered, Shown, recover, kept_digests}
-use Rattle.paw_journal.specs.inner.Session.{digests_of}
-use Rattle.paw_journal.specs.declared.refusal.JournalRefusal.TheVariants as refusal
-use Rattle.paw_state.specs.State.{last_piece}
-use Rattle.paw_play.specs.declared.PlayEnd.{PlayEnd}
 use Rattle.paw_play.specs.declared.PlayEnd.TheVariants as end
-use Rattle.paw_play.specs.Session.{IsKept}
-use Rattle.paw_play.specs.Walk.{EndingOf}
-use Rattle.paw_play.specs.Played.{PlayedSession}
-use Rattle.paw_play.specs.Written.{base_after}
-use Rattle.paw_play.specs.inner.Calls.{IsNotForCall, call_of_end}
-use Rattle.paw_play.specs.inner.ShowSteps.{Plain}
-use Rattle.paw_play.specs.inner.OnTheWay.{end_if_no_piece, CommitsPlayer, InCommit, MakesPlayer, InMake}
-use Rattle.paw_play.specs.inner.Open.{seat_state, seat_base, ReadsOn, HasPlayed, WaitsAfter, HaltsAfter, HoldsPlayer, KeepsAfter}
-use Rattle.paw_play.specs.inner.Open.{IsOpen, StopsAt, TakesLineTo, InTaking, StopsAtOnce, PlaysFirst, BeginsTo}
-use Rattle.paw_play.specs.inner.Open.{InBeginning, StopsAtState}
-use Rattle.paw_play.proofs.Kept.{step_kept}
-use Rattle.paw_play.proofs.ShownSteps.{shows_piece}
-use Rattle.paw_play.proofs.Walking.{on_waits, text_shown}
-use Rattle.paw_play.proofs.Written.{base_is, piece_is, committed_same, made_same}
+use Rattle.paw_play.proofs.{Kept.step_kept, ShownSteps.shows_piece, Walking.on_waits, Walking.text_shown, Written.base_is, Written.piece_is, Written.committed_same, Written.made_same}
 
 -- ---- a piece that was played ----
 
@@ -45,16 +14,12 @@ module _ {F : Type 0} (g : Story) (whole after : EndingOf) (now : Lines) (next :
 
   reads_on : (found : Step) → next.last ≡ found → IsStanding found → PlaysTo g after found next pieces traces →
       (ts : List (List StepRow)) × ReadsOn g (λ lines. whole (now ++ lines)) next.last next (pieces ++ next.piece ∷ []) ts
-  reads_on (step.Waits p) last shows plays = (
-    traces ++ plays.0 ∷ [],
-    subst (λ s. ReadsOn g (λ lines. whole (now ++ lines)) s next (pieces ++ next.piece ∷ []) (traces ++ plays.0 ∷ [])) (sym last)
-        (λ lines. goes lines ∙ plays.1.1 lines),
-  )
-  reads_on step.Ended last shows plays = (
-    traces ++ plays.0 ∷ [],
-    subst (λ s. ReadsOn g (λ lines. whole (now ++ lines)) s next (pieces ++ next.piece ∷ []) (traces ++ plays.0 ∷ [])) (sym last)
-        (λ lines. goes lines ∙ plays.1.1 lines),
-  )
+  reads_on (step.Waits p) last shows plays =
+      let on = subst (λ s. ReadsOn g (λ lines. whole (now ++ lines)) s next (pieces ++ next.piece ∷ []) (traces ++ plays.0 ∷ [])) (sym last)
+      (λ lines. goes lines ∙ plays.1.1 lines) in (traces ++ plays.0 ∷ [], on)
+  reads_on step.Ended last shows plays =
+      let on = subst (λ s. ReadsOn g (λ lines. whole (now ++ lines)) s next (pieces ++ next.piece ∷ []) (traces ++ plays.0 ∷ [])) (sym last)
+      (λ lines. goes lines ∙ plays.1.1 lines) in (traces ++ plays.0 ∷ [], on)
   reads_on (step.Spent kind) last shows plays = absurd shows
   reads_on (step.TooDeep table) last shows plays = absurd shows
 
@@ -150,13 +115,9 @@ module _ {F : Type 0} {g : Story} {whole : EndingOf} {taken : Lines} {seat : Pla
 
     next_brings : IsStanding found → Brings g whole events taken line next
     next_brings shows =
-        let more = step_played g whole _ (taken ++ line ∷ []) next h.pieces h.traces then_seated goes_then found is shows plays (text_of (whole taken)) text_is in (
-          few,
-          waits,
-          more,
-          step_keeps g whole _ (taken ++ line ∷ []) next h.pieces h.traces then_seated goes_then found is shows plays,
-          stays shows more,
-        )
+        let more = step_played g whole _ (taken ++ line ∷ []) next h.pieces h.traces then_seated goes_then found is shows plays (text_of (whole taken)) text_is in
+        let keeps = step_keeps g whole _ (taken ++ line ∷ []) next h.pieces h.traces then_seated goes_then found is shows plays in
+        (few, waits, more, keeps, stays shows more)
 
     next_stops : (o : PlayEnd) → end_if_no_piece found ≡ Some o → StopsAt whole events taken line o
     next_stops o e =
@@ -174,10 +135,9 @@ module _ {F : Type 0} {g : Story} {whole : EndingOf} {taken : Lines} {seat : Pla
 module _ {F : Type 0} (g : Story) (whole : EndingOf) (found : Step) (next : PlayerView F) (is : next.last ≡ found) (seated : IsSeated next)
     (plays : PlaysTo g whole found next [] []) where
   pub first_brings : IsStanding found → HasPlayed g whole [] next [] next.piece × HoldsPlayer whole [] next
-  first_brings shows = (
-    step_played g whole whole [] next [] [] seated (λ lines. refl) found is shows plays [] refl,
-    step_keeps g whole whole [] next [] [] seated (λ lines. refl) found is shows plays,
-  )
+  first_brings shows =
+      let more = step_played g whole whole [] next [] [] seated (λ lines. refl) found is shows plays [] refl in
+      (more, step_keeps g whole whole [] next [] [] seated (λ lines. refl) found is shows plays)
 
   pub first_stops : (o : PlayEnd) → end_if_no_piece found ≡ Some o → StopsAtOnce whole o
   first_stops o e = step_halts g whole whole [] next [] [] [] [] refl refl found o plays e (StopsAtOnce whole) (λ kind k. (refl, k)) (λ table k. (refl, k))
@@ -192,14 +152,6 @@ pub same_digests : {a b c d : Bytes} → a ≡ c → b ≡ d → digests_of a b 
 same_digests {a} {b} {c} {d} e f = ap (λ x. digests_of x b) e ∙ ap (digests_of c) f
 
 -- ---- ends without a call that failed ----
-
-pub not_for_end : (o : PlayEnd) → call_of_end o ≡ None → IsNotForCall o
-not_for_end (end.Refused (refusal.Outside q)) e = cc
-not_for_end (end.Refused (refusal.Unmade n mark)) e = tt
-not_for_end (end.Refused (refusal.Damaged part at)) e = tt
-not_for_end (end.Refused (refusal.WrongGame kept found)) e = tt
-not_for_end (end.Refused (refusal.WrongRoutines kept found)) e = tt
-not_for_end _ e = tt
 
 pub stops_taking : (A : Type 0) {F : Type 0} (g : Story) (s : PlayedSession) (n events : ℕ) (taken : Lines) (line : Line) (old new : Standing) (seat : PlayerView F)
     (piece : Text) (o : PlayEnd) → call_of_end o ≡ None → events ≡ s.before + n → StopsAt s.whole events taken line o →
@@ -260,23 +212,17 @@ module _ {F : Type 0} {g : Story} {s : PlayedSession} {n events : ℕ} {taken : 
   pub takes_to : (A : Type 0) (a : A) (new : Standing) (last : Text) → last ≡ next.piece → CommitsPlayer (events + 1) next old new →
       TakesLineTo g s n taken line old new next last (Ok a)
   takes_to A a new last is done =
-      let kept = keeps_by in (
-        few,
-        brings.1,
-        record {
-          played = subst (HasPlayed g s.whole (taken ++ line ∷ []) next (text_of (s.whole taken))) (sym is) brings.2;
-          keeps = now_shown (recover new.disk.bytes) done.shown;
-          digests = done.digests ∙ opened.digests;
-          stops = stops_again;
-        },
-        done.exact ∙ committed_same (seat_base (events + 1) next) (base_after (s.before + suc n) (s.whole (taken ++ line ∷ []))) next.piece
-            (last_piece (pieces_of (s.whole (taken ++ line ∷ [])))) old.disk.bytes old.disk.bytes
-            (base_is s.digests (s.before + suc n) (s.whole (taken ++ line ∷ [])) (seat_state (events + 1) next) next.piece kept)
-            (piece_is s.digests (s.before + suc n) (s.whole (taken ++ line ∷ [])) (seat_state (events + 1) next) next.piece kept) refl,
-      )
-    where
-      keeps_by : KeepsAfter s (suc n) (taken ++ line ∷ []) (Shown s.digests (seat_state (events + 1) next) next.piece)
-      keeps_by = kept_as s (suc n) (events + 1) (taken ++ line ∷ []) next _ brings.3 more refl
+      let kept : KeepsAfter s (suc n) (taken ++ line ∷ []) (Shown s.digests (seat_state (events + 1) next) next.piece) =
+      kept_as s (suc n) (events + 1) (taken ++ line ∷ []) next _ brings.3 more refl in
+      let open_more : IsOpen g s (suc n) (taken ++ line ∷ []) next (text_of (s.whole taken)) last new.disk.bytes = record {
+        played = subst (HasPlayed g s.whole (taken ++ line ∷ []) next (text_of (s.whole taken))) (sym is) brings.2;
+        keeps = now_shown (recover new.disk.bytes) done.shown;
+        digests = done.digests ∙ opened.digests;
+        stops = stops_again;
+      } in
+      let bytes = committed_same _ _ _ _ _ _ (base_is s.digests (s.before + suc n) (s.whole (taken ++ line ∷ [])) (seat_state (events + 1) next) next.piece kept)
+      (piece_is s.digests (s.before + suc n) (s.whole (taken ++ line ∷ [])) (seat_state (events + 1) next) next.piece kept) refl in
+      (few, brings.1, open_more, done.exact ∙ bytes)
 
 module _ {F : Type 0} {g : Story} {next : PlayerView F} (s : PlayedSession) (none : s.before ≡ 0)
     (brings : HasPlayed g s.whole [] next [] next.piece × HoldsPlayer s.whole [] next) where
@@ -300,14 +246,13 @@ module _ {F : Type 0} {g : Story} {next : PlayerView F} (s : PlayedSession) (non
   pub begins_to : (A : Type 0) (a : A) (old new : Standing) (last : Text) → StopsAtState g.game 0 (s.whole []) → last ≡ next.piece →
       MakesPlayer s.digests next old new → BeginsTo g s new next last (Ok a)
   begins_to A a old new last stops is done =
-      let kept = brings.1 s.digests 0 in (
-        record {
-          played = subst (HasPlayed g s.whole [] next []) (sym is) brings.0;
-          keeps = first_shown (recover new.disk.bytes) done.shown;
-          digests = done.digests;
-          stops = subst (λ k. StopsAtState g.game k (s.whole [])) (omega (arith, none)) stops;
-        },
-        done.exact ∙ made_same s.digests (seat_base 0 next) (base_after 0 (s.whole [])) next.piece (last_piece (pieces_of (s.whole [])))
-            (base_is s.digests 0 (s.whole []) (seat_state 0 next) next.piece kept)
-            (piece_is s.digests 0 (s.whole []) (seat_state 0 next) next.piece kept),
-      )
+      let kept = brings.1 s.digests 0 in
+      let begun : IsOpen g s 0 [] next [] last new.disk.bytes = record {
+        played = subst (HasPlayed g s.whole [] next []) (sym is) brings.0;
+        keeps = first_shown (recover new.disk.bytes) done.shown;
+        digests = done.digests;
+        stops = subst (λ k. StopsAtState g.game k (s.whole [])) (omega (arith, none)) stops;
+      } in
+      let bytes = made_same s.digests _ _ _ _ (base_is s.digests 0 (s.whole []) (seat_state 0 next) next.piece kept)
+      (piece_is s.digests 0 (s.whole []) (seat_state 0 next) next.piece kept) in
+      (begun, done.exact ∙ bytes)

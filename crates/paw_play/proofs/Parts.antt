@@ -1,12 +1,13 @@
 -- The moments of a session in two parts: before its store is attached, and from then on.
-use Rattle.std.proofs.Common.{◌≡◌, ◌⊎◌, ℕ, ◌≤◌, refl, sym, ◌∙◌, subst, arith, inl, inr}
-use Rattle.paw_base.specs.Bytes.{Name}
-use Rattle.paw_stage.specs.Stage.{Standing, Unattached, made_if_missing}
-use Rattle.paw_stage.specs.Stage.{InAttach}
-use Rattle.paw_stage.specs.AcrossCalls.{EachMoment, InTwoParts, first_alone, both}
-use Rattle.paw_stage.specs.declared.Stage.{Ghosts}
-use Rattle.paw_stage.proofs.Time.{Passes_map, Passes_on}
-use Rattle.paw_play.specs.Play.{NotYet}
+use Rattle.paw_play.proofs.Names.{◌≡◌, ◌⊎◌, ℕ, ◌≤◌, refl, sym, ◌∙◌, subst, arith, inl, inr, Name, Standing, Unattached, made_if_missing, InAttach, EachMoment, InTwoParts, first_alone, both, Ghosts, Passes_map, Passes_on, NotYet, Passes}
+
+-- Each moment inside a call is one since its beginning.
+passes_since : {b n : ℕ} {past since : ℕ → Standing → Type 0} {P : Standing → Type 0} → Passes b n past since P → Passes b n past since (since b)
+passes_since {b} h = record {
+  later = h.later;
+  nothing_else = λ t m low is. elim (h.nothing_else t m low is) [ inl q ↦ inl q | inr q ↦ inr (q.0, q.0 b (omega arith)) ];
+  stays = h.stays;
+}
 
 -- Calls up to a turn, at which such a moment stands, and calls from there on.
 two_parts : {S : Type 0} (g : Ghosts S) (old mid new : S) (Before After : Standing → Type 0) →
@@ -20,23 +21,11 @@ two_parts g old mid new Before After only counts turned h k =
       | inl p ↦ subst After (sym (only m p)) turned
       | inr q ↦ q.1
     ])
-    (record {
-      later = omega (arith, h.later, k.later);
-      nothing_else = λ t m low is. elim (k.nothing_else t m (omega (arith, low, h.later)) is) [
-        | inl p ↦ elim (h.nothing_else t m low p) [
-          | inl q ↦ inl q
-          | inr q ↦ inr (
-            λ u early. k.stays u m (omega (arith, early, h.later)) (q.0 u early),
-            elim q.1 [
-              | inl b ↦ inl b
-              | inr e ↦ inr (k.stays (g.clock mid) m (omega arith) (subst (λ x. g.since mid (g.clock mid) x) (sym e) counts))
-            ],
-          )
-        ]
-        | inr q ↦ inr (λ u early. q.0 u (omega (arith, early, h.later)), inr (q.0 (g.clock mid) (omega arith)))
-      ];
-      stays = λ t m low past. k.stays t m (omega (arith, low, h.later)) (h.stays t m low past);
-    })
+    (Passes_on _ _ _ _ _ _ (λ m. Before m ⊎ g.since new (g.clock mid) m) (g.since new (g.clock mid))
+    (Passes_map _ _ _ _ _ (λ m. Before m ⊎ g.since new (g.clock mid) m) h (λ m i. elim i [
+      | inl b ↦ inl b
+      | inr e ↦ inr (k.stays (g.clock mid) m (omega arith) (subst (λ x. g.since mid (g.clock mid) x) (sym e) counts))
+    ])) (passes_since k) (λ m i. inr i))
 
 -- Calls that belong to the first part come before.
 pub then_two_parts : {S : Type 0} (g : Ghosts S) (old mid new : S) (Before After : Standing → Type 0) → EachMoment g old mid Before →
@@ -46,12 +35,6 @@ then_two_parts g old mid new Before After h (both turn low high all k) =
     both turn (omega (arith, h.later, low)) high all
     (Passes_on _ _ _ _ _ _ (λ m. Before m ⊎ g.since new turn m) (λ m. Before m ⊎ g.since new turn m)
     (Passes_map _ _ _ _ Before (λ m. Before m ⊎ g.since new turn m) h (λ m i. inl i)) k (λ m i. i))
-
--- A weaker word for the second part.
-pub map_two_parts : {S : Type 0} (g : Ghosts S) (old new : S) (Before After Later : Standing → Type 0) → ((m : Standing) → After m → Later m) →
-    InTwoParts g old new Before After → InTwoParts g old new Before Later
-map_two_parts g old new Before After Later f (first_alone k) = first_alone k
-map_two_parts g old new Before After Later f (both turn low high all k) = both turn low high (λ m is. f m (all m is)) k
 
 -- ---- before the store is attached ----
 

@@ -1,43 +1,9 @@
 -- A session that is open again, by what its store shows.
-use Rattle.std.proofs.Common.{◌≡◌, ℕ, ◌+◌, ◌≤◌, ◌*◌, [], ◌∷◌, refl, sym, ap, subst, inl, inr}
-use Rattle.std.specs.Prelude.{IfSome, Err}
-use Rattle.sha2.specs.Sha256.{sha256}
-use Rattle.paw_base.specs.Bytes.{Bytes, Name, Text}
-use Rattle.paw_base.specs.declared.limits.TheConstants.{READ_LIMIT}
-use Rattle.paw_game.specs.Game.{GameLists}
-use Rattle.paw_game.specs.Image.{image}
-use Rattle.paw_game.specs.Valid.{Valid}
-use Rattle.paw_world.specs.World.{World}
-use Rattle.paw_phrase.specs.Pending.{PendingLine}
-use Rattle.paw_stage.specs.AcrossCalls.{IsOneOf}
+use Rattle.paw_play.proofs.Names.{◌≡◌, ℕ, ◌+◌, ◌≤◌, ◌*◌, [], ◌∷◌, refl, sym, ap, subst, inl, inr, IfSome, Err, sha256, Bytes, Name, Text, READ_LIMIT, GameLists, image, Valid, World, PendingLine, IsOneOf, HaveAnswers, Story, Prompt, OpenTables, only_counting, PlayerView, IsSeated, IsStanding, prompt_step, seat_at, Digests, BelongsTo, recover, kept_digests, digests_of, session_shown, IsSessionRefused, outside, JournalRefusal, IsValidState, Restored, IsRead, state_read, state_of, each_of, story_digests, IsOfStory, kept_bytes, ShowsState, going_on, from_state, end_of, ReadsOn, IsOpen, ResumesTo, MayTake, StaysSeated, measure, Routines}
 use Rattle.paw_stage.specs.declared.StageCall.TheVariants as call
-use Rattle.paw_routines.specs.Measure.{measure}
-use Rattle.paw_routines.specs.Routines.{HaveAnswers}
-use Rattle.paw_routines.specs.declared.routines.Routines.{Routines}
-use Rattle.paw_effects.specs.Story.{Story}
-use Rattle.paw_effects.specs.declared.act.Prompt.{Prompt}
 use Rattle.paw_effects.specs.declared.act.Prompt.TheVariants as prompt
-use Rattle.paw_process.specs.inner.OpenTables.{OpenTables, only_counting}
-use Rattle.paw_turn.specs.inner.Player.{PlayerView, IsSeated, IsStanding}
-use Rattle.paw_turn.specs.inner.Parts.{prompt_step, seat_at}
-use Rattle.paw_journal.specs.Session.{Digests, BelongsTo, recover, kept_digests}
-use Rattle.paw_journal.specs.inner.Session.{digests_of, session_shown}
-use Rattle.paw_journal.specs.inner.Journal.{IsSessionRefused, outside}
-use Rattle.paw_journal.specs.declared.refusal.JournalRefusal.{JournalRefusal}
 use Rattle.paw_journal.specs.declared.refusal.JournalRefusal.TheVariants as refusal
-use Rattle.paw_state.specs.State.{IsValidState}
-use Rattle.paw_state.specs.declared.parts.Restored.{Restored}
-use Rattle.paw_state.specs.inner.Fit.{IsRead, state_read}
-use Rattle.paw_state.specs.inner.State.{state_of}
-use Rattle.paw_state.proofs.Ruled.{each_of}
-use Rattle.paw_play.specs.Session.{story_digests, IsOfStory, IsKept, kept_bytes}
-use Rattle.paw_play.specs.Played.{ShowsState, going_on, from_state}
-use Rattle.paw_play.specs.inner.Calls.{IsNotForCall, call_of_end}
-use Rattle.paw_play.specs.inner.OnTheWay.{end_of}
-use Rattle.paw_play.specs.inner.Open.{ReadsOn, IsOpen, ResumesTo, MayTake, StaysSeated}
-use Rattle.paw_play.proofs.Resuming.{goes_on_from}
-use Rattle.paw_play.proofs.Showing.{shows_kept, state_kept, state_stops, state_text}
-use Rattle.paw_play.proofs.Written.{piece_is}
+use Rattle.paw_play.proofs.{Resuming.goes_on_from, Showing.shows_kept, Showing.state_kept, Showing.state_comes, Written.piece_is}
 
 -- What was read of a store's state is shown there.
 pub read_shows : (g : GameLists) (digests : Digests) (bytes state buffer piece : Bytes) (r : Restored) →
@@ -71,20 +37,18 @@ module _ {F : Type 0} (g : Story) (r : Restored) (routines : Routines F) (seat :
   pub state_open : (bytes : Bytes) (name : Name) (piece : Text) → Valid g.game → ShowsState g.game (kept_digests bytes) bytes (state_read r) piece →
       IsOpen g (from_state g (state_read r) piece (kept_digests bytes) name) 0 [] seat [] piece bytes
   state_open bytes name piece valid shows =
-      let digests : Digests = kept_digests bytes in
-      let keeps = state_kept g digests bytes (state_read r) piece valid shows in
+      let comes = state_comes g (kept_digests bytes) bytes (state_read r) piece valid shows in
       record {
         played = record {
           pieces = piece ∷ [];
           traces = [];
           goes_on = rw is (reads_at g routines r.world r.machine r.pending r.events r.piece piece r.prompt);
-          text = state_text g digests bytes (state_read r) piece valid shows;
-          last = sym (piece_is digests (r.events + 0) (going_on g (state_read r) piece []) (kept_bytes (state_read r)) piece
-              (subst (IsKept digests (r.events + 0) (going_on g (state_read r) piece [])) shows.shown keeps));
+          text = comes.text;
+          last = sym (piece_is (kept_digests bytes) (r.events + 0) (going_on g (state_read r) piece []) (kept_bytes (state_read r)) piece comes.keeps);
         };
-        keeps = keeps;
+        keeps = state_kept g (kept_digests bytes) bytes (state_read r) piece valid shows;
         digests = refl;
-        stops = state_stops g digests bytes (state_read r) piece valid shows;
+        stops = comes.stops (shows.valid, shows.fits);
       }
 
   pub seat_may : (calls : _) → IsSeated seat → HaveAnswers calls routines → IsValidState g.game (state_read r) → MayTake calls r.events seat
@@ -123,18 +87,3 @@ resumes_none g bytes seat piece (refusal.WrongRoutines kept found) h c =
     (digests_of (story_digests g).game kept, h.0, h.1, h.2, refl, refl, h.3, h.4, h.5)
 resumes_none g bytes seat piece (refusal.Outside q) h (inl c) = c
 resumes_none g bytes seat piece (refusal.Outside q) h (inr c) = absurd c
-
-pub end_names : (r : JournalRefusal) → call_of_end (end_of r) ≡ outside r
-end_names (refusal.Unmade n mark) = refl
-end_names (refusal.Damaged part at) = refl
-end_names (refusal.WrongGame kept found) = refl
-end_names (refusal.WrongRoutines kept found) = refl
-end_names (refusal.Outside q) = refl
-
--- A store isn't refused for the call that failed.
-pub not_for_call : (r : JournalRefusal) → IsNotForCall (end_of r)
-not_for_call (refusal.Unmade n mark) = tt
-not_for_call (refusal.Damaged part at) = tt
-not_for_call (refusal.WrongGame kept found) = tt
-not_for_call (refusal.WrongRoutines kept found) = tt
-not_for_call (refusal.Outside q) = tt

@@ -1,36 +1,9 @@
 -- Rounds of a session, one after the other.
-use Rattle.std.proofs.Common.{◌⊎◌, ◌≡◌, inl, inr, ℕ, zero, suc, ◌+◌, ◌<◌, ◌≤◌, List, [], ◌∷◌, ◌++◌, Some, None, refl}
-use Rattle.std.proofs.Common.{sym, ap, ◌∙◌, subst}
-use Rattle.std.proofs.Common.{length, take, append_assoc, append-nil, arith}
-use Rattle.std.specs.Prelude.{◌-◌, All}
-use Rattle.std.proofs.lemmas.List.{length-take}
-use Rattle.std.proofs.lemmas.List.Elements.{All-append, All-map, All-take}
-use Rattle.paw_base.specs.Bytes.{Bytes, Line, Lines, Name, Seed}
-use Rattle.paw_base.specs.declared.limits.TheConstants.{EVENT_LIMIT, LINE_LIMIT}
-use Rattle.paw_stage.specs.Disk.{MayLeave}
-use Rattle.paw_stage.specs.Stage.{Standing, Files, Unattached, bytes_or_none}
-use Rattle.paw_stage.specs.declared.StageCall.{StageCall}
-use Rattle.paw_stage.specs.declared.StageCall.TheVariants as call
-use Rattle.paw_stage.specs.AcrossCalls.{IsOneOf}
-use Rattle.paw_effects.specs.Standing.{AreBytes}
-use Rattle.paw_effects.specs.Story.{Story}
-use Rattle.paw_reading.specs.Bounds.{IsLine}
-use Rattle.paw_journal.specs.Journal.{writing_calls}
-use Rattle.paw_journal.specs.Session.{IsUnmade, recover}
+use Rattle.paw_play.proofs.Names.{◌⊎◌, ◌≡◌, inl, inr, ℕ, zero, suc, ◌+◌, ◌<◌, ◌≤◌, List, [], ◌∷◌, ◌++◌, Some, None, refl, sym, ap, ◌∙◌, subst, length, take, append_assoc, append-nil, arith, ◌-◌, All, length-take, All-append, All-map, All-take, Bytes, Line, Lines, Name, Seed, EVENT_LIMIT, LINE_LIMIT, MayLeave, Standing, Files, Unattached, bytes_or_none, StageCall, IsOneOf, AreBytes, Story, IsLine, writing_calls, IsUnmade, recover, PlayEnd, first_lines, Stands, IsPlayedWith, PlayedSession, session_begun, from_lines, KeptBy, IsUpToDateWith, InPlay, InNewSession, RestsWith, PlaysOn, MadeAndPlayed, NewSession, GoesOn, NotYet, attached_to, store_bytes, memory, halts, unmade, plays, unattached, occupied, starts_play, unread, RoundStop, cut_at, came_to, Round, MayBeLeft, BeginsOver, FailsAtMoment, StopsWith, AreRounds, left_after, AreKept, AreKeptOf, RoundsStand}
 use Rattle.paw_journal.proofs.Recovers.{unmade as no_session}
-use Rattle.paw_play.specs.declared.PlayEnd.{PlayEnd}
+use Rattle.paw_stage.specs.declared.StageCall.TheVariants as call
 use Rattle.paw_play.specs.declared.PlayEnd.TheVariants as end
-use Rattle.paw_play.specs.Walk.{first_lines}
-use Rattle.paw_play.specs.Stands.{Stands, IsPlayedWith}
-use Rattle.paw_play.specs.Played.{PlayedSession, session_begun, from_lines}
-use Rattle.paw_play.specs.Keeping.{KeptBy, IsUpToDateWith, InPlay, InNewSession, RestsWith}
-use Rattle.paw_play.specs.Play.{PlaysOn, MadeAndPlayed, NewSession, GoesOn, NotYet, attached_to, store_bytes}
-use Rattle.paw_play.specs.Play.{memory, halts, unmade, plays, unattached, occupied, starts_play, unread}
-use Rattle.paw_play.specs.Laws.{RoundStop, cut_at, came_to, Round, MayBeLeft, BeginsOver, FailsAtMoment, StopsWith, AreRounds}
-use Rattle.paw_play.specs.Laws.{left_after}
-use Rattle.paw_play.specs.Laws.{lines_lost, AreKept, AreKeptOf, RoundsStand}
-use Rattle.paw_play.proofs.Attaching.{store_attached}
-use Rattle.paw_play.proofs.Standing.{begun_stands, later_stands}
+use Rattle.paw_play.proofs.{Attaching.store_attached, Standing.begun_stands, Standing.later_stands}
 
 -- ---- the bytes of the file ----
 

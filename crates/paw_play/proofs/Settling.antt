@@ -1,36 +1,7 @@
 -- Where a reading stops its state follows the rules.
-use Rattle.std.proofs.Common.{◌≡◌, ℕ, suc, ◌+◌, ◌*◌, ◌^◌, ◌<◌, ◌≤◌, List, [], ◌∷◌, Option, Some, None, sym, ap, ◌∙◌}
-use Rattle.std.proofs.Common.{subst, length, arith}
-use Rattle.std.specs.Prelude.{IfNone, All}
-use Rattle.std.proofs.lemmas.List.{length-map}
-use Rattle.paw_base.specs.Bytes.{Lines, Texts, ObjectPlaces, Seed}
-use Rattle.paw_base.specs.declared.limits.TheConstants.{EVENT_LIMIT, READ_LIMIT, PIECE_LIMIT}
-use Rattle.paw_game.specs.Game.{GameLists}
-use Rattle.paw_game.specs.declared.parts.ObjectRow.{ObjectRow}
-use Rattle.paw_game.specs.Valid.{Valid}
-use Rattle.paw_world.specs.World.{World, Position, IsSavedFor, IsWorld}
-use Rattle.paw_effects.specs.declared.act.Prompt.{Prompt}
+use Rattle.paw_play.proofs.Names.{◌≡◌, ℕ, suc, ◌+◌, ◌*◌, ◌^◌, ◌<◌, ◌≤◌, List, [], ◌∷◌, Option, Some, None, sym, ap, ◌∙◌, subst, length, arith, IfNone, All, length-map, Lines, Texts, ObjectPlaces, Seed, EVENT_LIMIT, READ_LIMIT, PIECE_LIMIT, GameLists, Valid, World, Position, IsSavedFor, IsWorld, Prompt, Story, ArePlacesOf, StandsIn, AreBytes, MayBePosition, IsWorldOf, Frame, Run, Ending, WaitsAt, Halted, reading, IsBounded, Counted, AreOpenAt, StandsRightly, StopsRightly, StopsBounded, pieces_of_lines, readings_stop_rightly, readings_are_bounded, last_piece, state_at, HoldsBytes, IsValidState, FitsFields, valid_of, IsPlayedWith, ObjectRow, few_objects, place_small, waiting_code, frames_fit, eleven_frames}
 use Rattle.paw_effects.specs.declared.act.Prompt.TheVariants as prompt
-use Rattle.paw_effects.specs.Story.{Story}
-use Rattle.paw_effects.specs.inner.Worlds.{ArePlacesOf, StandsIn}
-use Rattle.paw_effects.specs.Standing.{AreBytes}
-use Rattle.paw_effects.specs.inner.Standing.{MayBePosition, IsWorldOf}
-use Rattle.paw_effects.proofs.Worlds.{few_objects, place_small}
-use Rattle.paw_reading.specs.declared.frames.Frame.{Frame}
-use Rattle.paw_reading.specs.Run.{Run}
 use Rattle.paw_reading.specs.declared.halt.Halt.TheVariants as halt
-use Rattle.paw_reading.specs.Turn.{Ending, WaitsAt, Halted, reading}
-use Rattle.paw_reading.specs.inner.Bounds.{IsBounded}
-use Rattle.paw_reading.specs.inner.Pieces.{Counted}
-use Rattle.paw_reading.specs.Waits.{waiting_code}
-use Rattle.paw_reading.specs.inner.Waits.{AreOpenAt, StandsRightly, StopsRightly, StopsBounded}
-use Rattle.paw_reading.proofs.Counts.{pieces_of_lines}
-use Rattle.paw_reading.proofs.Rightly.{readings_stop_rightly, readings_are_bounded}
-use Rattle.paw_state.specs.State.{last_piece, state_at}
-use Rattle.paw_state.specs.State.{HoldsBytes, IsValidState, FitsFields}
-use Rattle.paw_state.proofs.Ruled.{valid_of}
-use Rattle.paw_play.specs.Stands.{IsPlayedWith}
-use Rattle.paw_process.proofs.Fitting.{frames_fit, eleven_frames}
 use Rattle.paw_play.proofs.Going.{Settles, IsSettled}
 
 -- No line is left where no table is open.

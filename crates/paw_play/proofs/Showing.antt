@@ -1,40 +1,7 @@
 -- What the bytes of a store show.
-use Rattle.std.proofs.Common.{◌≡◌, ℕ, ◌+◌, [], Option, Some, None, refl, sym, ap, ◌∙◌, subst, length}
-use Rattle.std.proofs.Common.{take, arith}
-use Rattle.std.specs.Prelude.{IfNone}
-use Rattle.paw_base.specs.Bytes.{Bytes, Text}
-use Rattle.paw_game.specs.Game.{GameLists}
-use Rattle.paw_game.specs.Valid.{Valid}
-use Rattle.paw_world.specs.World.{Position, IsSavedFor}
-use Rattle.paw_effects.specs.declared.act.Prompt.{Prompt}
+use Rattle.paw_play.proofs.Names.{◌≡◌, ℕ, ◌+◌, [], Option, Some, None, refl, sym, ap, ◌∙◌, subst, length, take, arith, IfNone, Bytes, Text, GameLists, Valid, Position, IsSavedFor, Prompt, Story, StandsIn, MayBePosition, IsWorldOf, OpenTables, machine_kept, machine_restored, waiting_at, WaitsAtPrompt, restored_kept, Fits, IsPending, prompt_step, StandsClosed, Digests, Shown, recover, state_length, shown_long, State, IsValidState, FitsFields, HoldsBytes, state_of, state_bytes, Restored, IsRead, state_read, each_of, bytes_give_the_state, long_state, IsKept, ShowsState, going_on, from_state, waiting_code, stands_at, restored_fits, piece_told, kept_bytes}
 use Rattle.paw_effects.specs.declared.act.Prompt.TheVariants as prompt
-use Rattle.paw_effects.specs.Story.{Story}
-use Rattle.paw_effects.specs.inner.Worlds.{StandsIn}
-use Rattle.paw_effects.specs.inner.Standing.{MayBePosition, IsWorldOf}
-use Rattle.paw_reading.specs.Turn.{text_of}
-use Rattle.paw_process.specs.inner.OpenTables.{OpenTables}
-use Rattle.paw_process.specs.Kept.{waiting_code}
-use Rattle.paw_process.specs.inner.Kept.{machine_kept}
-use Rattle.paw_process.specs.inner.Kept.{machine_restored, waiting_at, WaitsAtPrompt}
-use Rattle.paw_process.proofs.Restored.{stands_at}
-use Rattle.paw_process.proofs.Again.{restored_kept}
-use Rattle.paw_turn.specs.inner.Parts.{Fits, IsPending, prompt_step}
-use Rattle.paw_turn.specs.inner.Player.{StandsClosed}
-use Rattle.paw_turn.proofs.Seating.{restored_fits}
-use Rattle.paw_journal.specs.Session.{Digests, Shown, recover, state_length}
-use Rattle.paw_journal.proofs.ShownPieces.{shown_long}
-use Rattle.paw_state.specs.State.{State, IsValidState, FitsFields, HoldsBytes}
-use Rattle.paw_state.specs.inner.State.{state_of}
-use Rattle.paw_state.specs.State.{state_bytes}
-use Rattle.paw_state.specs.declared.parts.Restored.{Restored}
-use Rattle.paw_state.specs.inner.Fit.{IsRead, state_read}
-use Rattle.paw_state.proofs.Told.{piece_told}
-use Rattle.paw_state.proofs.Ruled.{each_of}
-use Rattle.paw_state.proofs.Lawful.{bytes_give_the_state, long_state}
-use Rattle.paw_play.specs.Session.{kept_bytes, IsKept}
-use Rattle.paw_play.specs.Played.{ShowsState, going_on, from_state}
-use Rattle.paw_play.proofs.Resuming.{goes_on_from, kept_at, stops_at, text_at}
-use Rattle.paw_play.specs.inner.Open.{StopsAtState}
+use Rattle.paw_play.proofs.{Resuming.ComesTo, Resuming.goes_on_from, Resuming.comes_there, Written.same_shown}
 
 -- A buffer begins with the bytes of a state.
 pub shows_kept : (digests : Digests) (bytes buffer piece : Bytes) (st : State) →
@@ -46,9 +13,6 @@ shows_kept digests bytes buffer piece st e k = e ∙ ap (λ b. Shown digests b p
 bytes_same : (s t : State) → kept_bytes s ≡ kept_bytes t → state_bytes s ≡ state_bytes t
 unfolding kept_bytes
 bytes_same s t e = e
-
-same_shown : (d e : Digests) (a p b q : Bytes) → Shown d a p ≡ Shown e b q → (d ≡ e) × (a ≡ b) × (p ≡ q)
-same_shown d e a p b q h = (cc, cc, cc)
 
 -- The bytes show one state and one piece, in one session.
 pub one_state : (g : Story) (d e : Digests) (bytes name : Bytes) (s t : State) (p q : Text) → Valid g.game →
@@ -128,26 +92,13 @@ module _ (g : Story) (digests : Digests) (bytes : Bytes) (st : State) (piece : T
       let told = piece_told st (long_state g.game st valid shows.valid shows.fits) shows.fits.piece in
       shown_long bytes digests (state_bytes st) piece shows.shown (omega (arith, told, shows.fits.piece)) ∙ told
 
-  -- It is kept before a line is taken.
+  -- What is known of the reading that goes on from it, with no line.
+  pub state_comes : ComesTo digests g.game st piece (going_on g st piece [])
+  state_comes =
+      subst (λ s. ComesTo digests g.game s piece (going_on g s piece [])) (sym state_is)
+      (subst (ComesTo digests g.game (state_of st.world machine st.pending st.prompt st.events st.piece) piece)
+      (sym (goes_on_from g st.world machine st.pending st.prompt st.events st.piece piece []))
+      (comes_there digests g st.world machine st.pending st.events st.piece piece long st.prompt stands))
+
   pub state_kept : IsKept digests (st.events + 0) (going_on g st piece []) (recover bytes)
-  state_kept =
-      subst (IsKept digests (st.events + 0) (going_on g st piece [])) (sym shows.shown)
-      (subst (λ s. IsKept digests (st.events + 0) (going_on g s piece []) (Shown digests (kept_bytes s) piece)) (sym state_is)
-      (subst (λ e. IsKept digests (st.events + 0) e (Shown digests (kept_bytes (state_of st.world machine st.pending st.prompt st.events st.piece)) piece))
-      (sym (goes_on_from g st.world machine st.pending st.prompt st.events st.piece piece []))
-      (kept_at digests g st.world machine st.pending st.events st.piece piece long st.prompt stands)))
-
-  -- The reading that goes on from it stops at a state of the game.
-  pub state_stops : StopsAtState g.game (st.events + 0) (going_on g st piece [])
-  state_stops =
-      subst (λ s. StopsAtState g.game (st.events + 0) (going_on g s piece [])) (sym state_is)
-      (subst (StopsAtState g.game (st.events + 0))
-      (sym (goes_on_from g st.world machine st.pending st.prompt st.events st.piece piece []))
-      (stops_at digests g st.world machine st.pending st.events st.piece piece long st.prompt stands g.game
-      (subst (λ (q : State). IsValidState g.game q × FitsFields q) state_is (shows.valid, shows.fits))))
-
-  pub state_text : text_of (going_on g st piece []) ≡ piece
-  state_text =
-      subst (λ s. text_of (going_on g s piece []) ≡ piece) (sym state_is)
-      (ap text_of (goes_on_from g st.world machine st.pending st.prompt st.events st.piece piece [])
-      ∙ text_at digests g st.world machine st.pending st.events st.piece piece long st.prompt stands)
+  state_kept = subst (IsKept digests (st.events + 0) (going_on g st piece [])) (sym shows.shown) state_comes.keeps

@@ -1,44 +1,16 @@
 -- How a walk shows pieces: each as it is, or after the text of its steps.
-use Rattle.std.proofs.Common.{◌≡◌, ℕ, zero, suc, List, [], ◌∷◌, ◌++◌, Option, Some, None, refl, sym, ap, ◌∙◌}
-use Rattle.std.proofs.Common.{length, take, arith, append_assoc, length-append}
-use Rattle.std.proofs.lemmas.List.Folds.{concat-append}
-use Rattle.std.proofs.lemmas.List.{append-nil}
-use Rattle.std.specs.Prelude.{◌-◌, flat_map, IfNone}
-use Rattle.std.specs.List.{concat}
-use Rattle.paw_base.specs.Bytes.{Text, Texts}
-use Rattle.paw_base.specs.declared.limits.TheConstants.{STEP_LIMIT}
-use Rattle.paw_base.specs.inner.Steps.{KeptSteps}
-use Rattle.paw_base.specs.inner.Steps.{kept_steps}
-use Rattle.paw_stage.specs.Stage.{Standing, InShow, with_shown}
-use Rattle.paw_effects.specs.declared.act.Prompt.{Prompt}
-use Rattle.paw_reading.specs.declared.frames.Frame.{Frame}
-use Rattle.paw_reading.specs.Run.{Run, StepRow}
-use Rattle.paw_reading.specs.declared.halt.Halt.{Halt}
-use Rattle.paw_reading.specs.Turn.{WaitsAt, Halted}
-use Rattle.paw_turn.specs.inner.Player.{PlayerView, run_at}
-use Rattle.paw_turn.specs.declared.Step.{Step}
+use Rattle.paw_play.proofs.Names.{◌≡◌, ℕ, zero, suc, List, [], ◌∷◌, ◌++◌, Option, Some, None, refl, sym, ap, ◌∙◌, length, take, arith, append_assoc, length-append, append-nil, ◌-◌, flat_map, IfNone, concat, Text, Texts, STEP_LIMIT, KeptSteps, kept_steps, Standing, InShow, with_shown, Prompt, Frame, Run, StepRow, Halt, WaitsAt, Halted, PlayerView, run_at, Step, PlayEnd, step_line, more_line, steps_text, traced_pieces, ShowSteps, Plain, Stepped, kept_text, seat_text, HaveSteps, NotesShown, shown_pieces, shown_run, shown_ending, IsStanding, end_if_no_piece, take-take, concat-append}
 use Rattle.paw_turn.specs.declared.Step.TheVariants as step
-use Rattle.paw_play.specs.declared.PlayEnd.{PlayEnd}
-use Rattle.paw_play.specs.Traces.{step_line, more_line, steps_text, traced_pieces}
-use Rattle.paw_play.specs.inner.ShowSteps.{ShowSteps, Plain, Stepped, kept_text, seat_text, HaveSteps, NotesShown}
-use Rattle.paw_play.specs.inner.ShowSteps.{shown_pieces, shown_run, shown_ending}
-use Rattle.paw_turn.specs.inner.Player.{IsStanding}
-use Rattle.paw_play.specs.inner.OnTheWay.{end_if_no_piece}
 
 -- ---- texts ----
 
 joined_more : (pieces : Texts) (piece : Text) → concat (pieces ++ piece ∷ []) ≡ concat pieces ++ piece
 joined_more pieces piece = concat-append pieces (piece ∷ []) ∙ ap (λ t. concat pieces ++ t) (append-nil piece)
 
-take_twice : (n : ℕ) (xs : List StepRow) → take n (take n xs) ≡ take n xs
-take_twice zero xs = refl
-take_twice (suc n) [] = refl
-take_twice (suc n) (x ∷ xs) = ap (λ ys. x ∷ ys) (take_twice n xs)
-
 -- What is kept of steps is shown as the steps are.
 kept_shown : (k : KeptSteps) (steps : List StepRow) → k.most ≡ STEP_LIMIT → k ≡ kept_steps k.most steps → kept_text k ≡ steps_text steps
 kept_shown k steps keeps e =
-    ap kept_text (e ∙ ap (λ n. kept_steps n steps) keeps) ∙ ap (λ xs. flat_map step_line xs ++ more_line (length steps - STEP_LIMIT)) (take_twice STEP_LIMIT steps)
+    ap kept_text (e ∙ ap (λ n. kept_steps n steps) keeps) ∙ ap (λ xs. flat_map step_line xs ++ more_line (length steps - STEP_LIMIT)) (take-take STEP_LIMIT STEP_LIMIT steps (omega arith))
 
 -- One piece more.
 traced_more : (pieces : Texts) (traces : List (List StepRow)) (piece : Text) (steps : List StepRow) → length traces ≡ length pieces →
@@ -140,8 +112,6 @@ module _ (old : Standing) (text more : Text) where
 
   pub part_after : (mid m : Standing) → mid ≡ with_shown text old → InShow mid more m → InShow old (text ++ more) m
   part_after mid m e i =
-      let k = past_part i.0 text more in (
-        k.0,
-        i.1 ∙ ap (with_shown (take i.0 more)) e ∙ ap (λ t. record old { shown = t }) (append_assoc old.shown text (take i.0 more))
-            ∙ ap (λ t. with_shown t old) k.1,
-      )
+      let k = past_part i.0 text more in
+      let both = ap (with_shown (take i.0 more)) e ∙ ap (λ t. record old { shown = t }) (append_assoc old.shown text (take i.0 more)) in
+      (k.0, i.1 ∙ both ∙ ap (λ t. with_shown t old) k.1)

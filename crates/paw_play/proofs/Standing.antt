@@ -1,49 +1,10 @@
 -- What a store that stands for some lines shows, and what comes of taking it up again.
-use Rattle.std.proofs.Common.{◌≡◌, ◌≢◌, inl, inr, ℕ, ◌+◌, ◌≤◌, List, [], ◌∷◌, ◌++◌, refl, sym, ap, ◌∙◌, subst}
-use Rattle.std.proofs.Common.{length, take, drop, arith}
-use Rattle.std.specs.Prelude.{◌-◌}
-use Rattle.std.proofs.Math.Path.{fun_ext}
-use Rattle.std.proofs.lemmas.List.{length-append, length-map, length-take-le}
-use Rattle.paw_base.specs.Bytes.{Bytes, Lines, Text, Name, Seed, Texts}
-use Rattle.paw_base.specs.declared.limits.TheConstants.{EVENT_LIMIT, LINE_LIMIT}
-use Rattle.paw_game.specs.Game.{GameLists}
-use Rattle.paw_game.specs.Valid.{Valid}
-use Rattle.paw_stage.specs.Stage.{Standing}
+use Rattle.paw_play.proofs.Names.{◌≡◌, ◌≢◌, inl, inr, ℕ, ◌+◌, ◌≤◌, List, [], ◌∷◌, ◌++◌, refl, sym, ap, ◌∙◌, subst, length, take, drop, arith, ◌-◌, length-append, length-map, length-take-le, Bytes, Lines, Text, Name, Seed, Texts, EVENT_LIMIT, LINE_LIMIT, GameLists, Valid, Standing, StepRow, Ending, WaitsAt, Halted, Unended, reading, pieces_of, ending_with_past, Counted, pieces_of_lines, State, state_bytes, Fit, Digests, Shown, recover, kept_digests, state_length, JournalRefusal, PlayEnd, last_piece, state_at, story_digests, IsOfStory, IsKept, EndingOf, first_lines, Stands, IsPlayedWith, ending_since, reading_since, PlayedSession, ShowsState, GoesOnFrom, from_shown, from_played, session_begun, from_lines, from_state, going_on, resumed_run, KeptBy, KeepsAfter, IsOpen, ResumesTo, call_of_end, OpenSession, PlayerView, None, Ok, Err, PlaysOn, Refuses, Resumed, no_state, plays_on, PlaysAgain, refused, without_memory, resumes_play, GoesOn, memory, unattached, unread, plays, attached_to, store_bytes, StandingShows, StandingGoesOn, KeptLinesStand, GoingOnIsTheReading, Story, fun_ext, going_on_ends, kept_bytes}
 use Rattle.paw_effects.specs.declared.act.Prompt.TheVariants as prompt
-use Rattle.paw_reading.specs.Run.{StepRow}
 use Rattle.paw_reading.specs.declared.halt.Halt.TheVariants as halt
-use Rattle.paw_reading.specs.Turn.{Ending, WaitsAt, Halted, Unended, reading, pieces_of}
-use Rattle.paw_reading.specs.inner.Longer.{ending_with_past}
-use Rattle.paw_reading.specs.inner.Pieces.{Counted}
-use Rattle.paw_reading.proofs.Counts.{pieces_of_lines}
-use Rattle.paw_reading.proofs.Ends.{going_on_ends}
-use Rattle.paw_state.specs.State.{State}
-use Rattle.paw_state.specs.State.{state_bytes}
-use Rattle.paw_state.specs.Fit.{Fit}
-use Rattle.paw_journal.specs.Session.{Digests, Shown, recover, kept_digests, state_length}
-use Rattle.paw_journal.specs.declared.refusal.JournalRefusal.{JournalRefusal}
 use Rattle.paw_journal.specs.declared.refusal.JournalRefusal.TheVariants as refusal
-use Rattle.paw_play.specs.declared.PlayEnd.{PlayEnd}
-use Rattle.paw_state.specs.State.{last_piece, state_at}
-use Rattle.paw_play.specs.Session.{kept_bytes, story_digests, IsOfStory, IsKept}
-use Rattle.paw_play.specs.Walk.{EndingOf, first_lines}
-use Rattle.paw_play.specs.Stands.{Stands, IsPlayedWith, ending_since, reading_since}
-use Rattle.paw_play.specs.Played.{PlayedSession, ShowsState, GoesOnFrom, from_shown, from_played, session_begun, from_lines}
-use Rattle.paw_play.specs.Played.{from_state, going_on, resumed_run}
-use Rattle.paw_play.specs.Keeping.{KeptBy}
-use Rattle.paw_play.specs.inner.Open.{KeepsAfter, IsOpen, ResumesTo}
-use Rattle.paw_play.specs.inner.Calls.{call_of_end}
-use Rattle.paw_play.specs.declared.open.OpenSession.{OpenSession}
 use Rattle.paw_play.specs.declared.PlayEnd.TheVariants as end
-use Rattle.paw_turn.specs.inner.Player.{PlayerView}
-use Rattle.std.specs.Prelude.{None, Ok, Err}
-use Rattle.paw_play.specs.Play.{PlaysOn, Refuses, Resumed, no_state, plays_on, PlaysAgain, refused, without_memory, resumes_play}
-use Rattle.paw_play.specs.Play.{GoesOn, memory, unattached, unread, plays, attached_to, store_bytes}
-use Rattle.paw_play.specs.Laws.{StandingShows, StandingGoesOn, KeptLinesStand, GoingOnIsTheReading}
-use Rattle.paw_play.proofs.Going.{IsSettled, Settles, goes_on, since_past, waiting_goes, whole_kept}
-use Rattle.paw_play.proofs.Settling.{reading_settles}
-use Rattle.paw_play.proofs.Showing.{one_state}
-use Rattle.paw_effects.specs.Story.{Story}
+use Rattle.paw_play.proofs.{Going.IsSettled, Going.Settles, Going.goes_on, Going.since_past, Going.waiting_goes, Going.whole_kept, Settling.reading_settles, Showing.one_state, Written.same_shown}
 
 -- ---- what a store shows ----
 
@@ -177,27 +138,21 @@ is_shown g name bytes _ (from_played seed es played stands) =
 
 -- ---- it is never refused ----
 
-same_digests : (d e : Digests) (s p t q : Bytes) → Shown d s p ≡ Shown e t q → d ≡ e
-same_digests d e s p t q h = cc
-
 never_refused : (g : Story) (digests : Digests) (bytes state piece : Bytes) (r : JournalRefusal) → IsOfStory g digests →
     recover bytes ≡ Shown digests state piece → ¬ Refuses (story_digests g) bytes r
 never_refused g digests bytes state piece (refusal.Unmade n mark) of is h = cc
 never_refused g digests bytes state piece (refusal.Damaged part at) of is h = cc
 never_refused g digests bytes state piece (refusal.WrongGame kept found) of is h =
-    let one : h.0 ≡ digests = same_digests h.0 digests h.1 h.2 state piece (sym h.3 ∙ is) in
+    let one : h.0 ≡ digests = (same_shown h.0 digests h.1 h.2 state piece (sym h.3 ∙ is)).0 in
     h.5 (h.4 ∙ ap (λ (d : Digests). d.game) one ∙ of.of_game)
 never_refused g digests bytes state piece (refusal.WrongRoutines kept found) of is h =
-    let one : h.0 ≡ digests = same_digests h.0 digests h.1 h.2 state piece (sym h.3 ∙ is) in
+    let one : h.0 ≡ digests = (same_shown h.0 digests h.1 h.2 state piece (sym h.3 ∙ is)).0 in
     let mine : kept ≡ digests.routines = h.5 ∙ ap (λ (d : Digests). d.routines) one in
     elim of.of_routines [
       | inl none ↦ h.6 (mine ∙ none)
       | inr own ↦ h.7 (mine ∙ own)
     ]
 never_refused g digests bytes state piece (refusal.Outside c) of is h = h
-
-same_state : (d e : Digests) (s p t q : Bytes) → Shown d s p ≡ Shown e t q → s ≡ t
-same_state d e s p t q h = cc
 
 -- A buffer that begins with the bytes of a state is fit.
 is_fit : (g : GameLists) (d e : Digests) (bytes buffer piece q : Bytes) (st : State) → ShowsState g d bytes st q →
@@ -208,7 +163,7 @@ is_fit g d e bytes buffer piece q st shows is =
       state = st;
       valid = shows.valid;
       fits = shows.fits;
-      are = same_state e d (take state_length buffer) piece (state_bytes st) q (sym is ∙ shows.shown);
+      are = (same_shown e d (take state_length buffer) piece (state_bytes st) q (sym is ∙ shows.shown)).1;
     }
 
 -- A session that goes on from these bytes.

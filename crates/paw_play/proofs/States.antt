@@ -1,14 +1,5 @@
 -- The bytes of a state, as they are committed.
-use Rattle.std.proofs.Common.{◌≡◌, ℕ, ◌++◌, length, take, sym, ap, ◌∙◌}
-use Rattle.std.proofs.Math.Seq.{take-append_seam}
-use Rattle.paw_base.specs.Bytes.{Bytes}
-use Rattle.paw_world.specs.World.{World}
-use Rattle.paw_phrase.specs.Pending.{PendingLine}
-use Rattle.paw_effects.specs.declared.act.Prompt.{Prompt}
-use Rattle.paw_process.specs.inner.OpenTables.{OpenTables}
-use Rattle.paw_journal.specs.Session.{Digests, Shown}
-use Rattle.paw_state.specs.inner.State.{state_of}
-use Rattle.paw_play.specs.Session.{kept_bytes}
+use Rattle.paw_play.proofs.Names.{◌≡◌, ℕ, ◌++◌, length, take, sym, ap, ◌∙◌, Bytes, World, PendingLine, Prompt, OpenTables, Digests, Shown, state_of, kept_bytes, take-append_seam}
 
 -- The first bytes of a buffer.
 pub cut : (bytes rest into : Bytes) (n : ℕ) → into ≡ bytes ++ rest → length bytes ≡ n → take n into ≡ bytes

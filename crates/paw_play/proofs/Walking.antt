@@ -1,39 +1,11 @@
 -- A walk, line by line.
-use Rattle.std.proofs.Common.{◌≡◌, ℕ, zero, suc, ◌+◌, ◌≤◌, ◌<◌, List, [], ◌∷◌, ◌++◌, Option, Some, None, refl, sym, ap}
-use Rattle.std.proofs.Common.{◌∙◌, subst, length, take, drop, map}
-use Rattle.std.proofs.Common.{arith, append_assoc, length-append}
-use Rattle.std.proofs.lemmas.List.{append-nil, length-reverse, take-append-drop}
-use Rattle.std.specs.Prelude.{reverse}
-use Rattle.std.specs.List.{concat}
-use Rattle.paw_base.specs.Bytes.{Bytes, Line, Lines, Texts, Seed, Text}
-use Rattle.paw_base.specs.declared.limits.TheConstants.{EVENT_LIMIT, LINE_LIMIT}
-use Rattle.paw_stage.specs.Stage.{Standing}
-use Rattle.paw_effects.specs.declared.act.Prompt.{Prompt}
+use Rattle.paw_play.proofs.Names.{◌≡◌, ℕ, zero, suc, ◌+◌, ◌≤◌, ◌<◌, List, [], ◌∷◌, ◌++◌, Option, Some, None, refl, sym, ap, ◌∙◌, subst, length, take, drop, map, arith, append_assoc, length-append, append-nil, length-reverse, take-append-drop, reverse, concat, Bytes, Line, Lines, Texts, Seed, Text, EVENT_LIMIT, LINE_LIMIT, Standing, Prompt, Frame, Run, StepRow, Halt, WaitsAt, reading, going_on_from, text_of, OpenTables, World, PlayerView, run_at, PlayHalts, PlaysTo, StandsAt, StandsClosed, IsSeated, IsNew, Step, PlayEnd, EndingOf, first_lines, with_lines_taken, text_before, PartShown, WalkWaits, WalkHalts, ShowSteps, seat_text, shown_pieces, HaveSteps, NotesShown, shown_run, shown_ending, with_shown_steps, IsStanding, IsWalking, ShowsStep, WalksTo, Story, map-append, length-drop, TakesLines, Ending, Halted, Waits, prompt_asked, on_path, at_main, plays_halted}
 use Rattle.paw_effects.specs.declared.act.Prompt.TheVariants as prompt
-use Rattle.paw_reading.specs.declared.frames.Frame.{Frame}
-use Rattle.paw_reading.specs.Run.{Run, StepRow}
-use Rattle.paw_reading.specs.declared.halt.Halt.{Halt}
 use Rattle.paw_reading.specs.declared.halt.Halt.TheVariants as halt
-use Rattle.paw_reading.specs.Reading.{Waits, prompt_asked}
-use Rattle.paw_reading.specs.GoingOn.{on_path}
-use Rattle.paw_reading.specs.Turn.{WaitsAt, at_main, reading, going_on_from, text_of}
-use Rattle.paw_process.specs.inner.OpenTables.{OpenTables}
-use Rattle.paw_world.specs.World.{World}
-use Rattle.paw_turn.specs.inner.Player.{PlayerView, run_at, PlayHalts, PlaysTo, StandsAt, StandsClosed, IsSeated, IsNew}
-use Rattle.paw_turn.specs.declared.Step.{Step}
 use Rattle.paw_turn.specs.declared.Step.TheVariants as step
-use Rattle.paw_play.specs.declared.PlayEnd.{PlayEnd}
 use Rattle.paw_play.specs.declared.PlayEnd.TheVariants as end
 use Rattle.paw_stage.specs.declared.StageCall.TheVariants as call
-use Rattle.paw_play.specs.Walk.{EndingOf, first_lines, with_lines_taken, text_before, PartShown, WalkWaits, WalkHalts}
-use Rattle.paw_play.specs.inner.ShowSteps.{ShowSteps, seat_text, shown_pieces, HaveSteps, NotesShown, shown_run, shown_ending}
-use Rattle.paw_play.specs.inner.ShowSteps.{with_shown_steps}
-use Rattle.paw_turn.specs.inner.Player.{IsStanding}
-use Rattle.paw_play.specs.inner.OnTheWay.{IsWalking, ShowsStep, WalksTo}
-use Rattle.paw_turn.proofs.Halting.{plays_halted}
-use Rattle.paw_play.proofs.ShownSteps.{pieces_more, shown_more, steps_more, shown_none, steps_none, waits_shown}
-use Rattle.paw_play.proofs.ShownSteps.{halts_shown, same_lines, text_shown_is}
-use Rattle.paw_effects.specs.Story.{Story}
+use Rattle.paw_play.proofs.ShownSteps.{pieces_more, shown_more, steps_more, shown_none, steps_none, waits_shown, halts_shown, same_lines, text_shown_is}
 
 -- ---- lines ----
 
@@ -52,22 +24,14 @@ drop_more (l ∷ lines) zero line rest h = let e : lines ≡ rest = cc in (e, om
 drop_more (l ∷ lines) (suc n) line rest h = let m = drop_more lines n line rest h in (m.0, omega (arith, m.1))
 
 pub drop_all : (lines : Lines) (n : ℕ) → drop n lines ≡ [] → n ≤ length lines → n ≡ length lines
-drop_all [] zero h k = refl
-drop_all [] (suc n) h k = absurd (omega arith)
-drop_all (l ∷ lines) zero h k = cc
-drop_all (l ∷ lines) (suc n) h k = ap suc (drop_all lines n h (omega arith))
-
-map_append : (xs : Lines) (line : Line)
-    → map (take LINE_LIMIT) (xs ++ line ∷ []) ≡ map (take LINE_LIMIT) xs ++ take LINE_LIMIT line ∷ []
-map_append [] line = refl
-map_append (x ∷ xs) line = ap (λ ys. take LINE_LIMIT x ∷ ys) (map_append xs line)
+drop_all lines n h k = omega (arith, k, ap length h, length-drop n lines)
 
 -- The lines that come after one more.
 pub lines_more : (lines : Lines) (n : ℕ) (line : Line) (rest more : Lines) → drop n lines ≡ line ∷ rest →
     first_lines (suc n) lines ++ more ≡ first_lines n lines ++ take LINE_LIMIT line ∷ more
 lines_more lines n line rest more h =
     ap (λ xs. map (take LINE_LIMIT) xs ++ more) (take_more lines n line rest h)
-    ∙ ap (λ xs. xs ++ more) (map_append (take n lines) line)
+    ∙ ap (λ xs. xs ++ more) (map-append (take LINE_LIMIT) (take n lines) (line ∷ []))
     ∙ append_assoc (first_lines n lines) (take LINE_LIMIT line ∷ []) more
 
 -- ---- what stands ----
@@ -114,35 +78,7 @@ on_waits g prompt.Again m r h = rw (path_waits g prompt.Again 0 (reverse m.frame
 on_waits g prompt.Key m r h = rw (path_waits g prompt.Key 0 (reverse m.frames) r (some_path m.frames h.tables.tables.some)) refl
 on_waits g prompt.Over m r h = absurd h
 
--- ---- a walk at a prompt ----
-
--- What was read of the lines so far waits, and its text was shown.
-waiting : {F : Type 0} (showing : ShowSteps) (g : Story) (whole : EndingOf) (n : ℕ) (first now : Standing) (seat : PlayerView F) →
-    IsWalking showing g whole first now seat n → IsSeated seat →
-    WalkWaits (with_shown_steps showing whole) first now n
-waiting showing g whole n first now seat w seated =
-    let stands : StandsAt w.prompt seat.machine = subst (λ s. StandsClosed s seat.machine) w.waits seated.machine in
-    let path : List Frame = reverse seat.machine.frames in
-    let r : Run = run_at seat w.pieces w.traces [] in (
-      w.prompt,
-      path,
-      shown_run showing r,
-      record {
-        reading = ap (with_shown_steps showing whole) (sym (append-nil (first_lines n first.lines)))
-            ∙ ap (shown_ending showing) (w.goes_on [] ∙ on_waits g w.prompt seat.machine r stands) ∙ waits_shown showing w.prompt path r;
-        there = w.there;
-        stands = w.stands ∙ ap (with_lines_taken first n) (sym (text_shown_is showing r w.pieces w.traces refl refl));
-      },
-    )
-
--- The text of what was read of the lines so far.
-pub text_so_far : {F : Type 0} (showing : ShowSteps) (g : Story) (whole : EndingOf) (n : ℕ) (first now : Standing) (seat : PlayerView F)
-    (w : IsWalking showing g whole first now seat n) → IsSeated seat →
-    text_of (with_shown_steps showing whole (first_lines n first.lines)) ≡ concat (shown_pieces showing w.pieces w.traces)
-unfolding waiting
-text_so_far showing g whole n first now seat w seated =
-    ap text_of (waiting showing g whole n first now seat w seated).3.reading
-    ∙ text_shown_is showing (run_at seat w.pieces w.traces []) w.pieces w.traces refl refl
+-- ---- a step ----
 
 -- The text of a step that brings a piece.
 pub text_shown : {F : Type 0} (showing : ShowSteps) (g : Story) (whole : EndingOf) (s : Step) (next : PlayerView F)
@@ -199,22 +135,23 @@ module _ {F : Type 0} (showing : ShowSteps) (g : Story) (whole after : EndingOf)
       all : text_of (with_shown_steps showing whole (first_lines n first.lines)) ≡ concat (shown_pieces showing pieces traces) ++ seat_text showing next
       all = ap (λ e. text_of (shown_ending showing e)) read_all ∙ text_shown showing g after s next pieces traces each keeps shows machine_stands plays
 
-  -- The reading has ended for good, and no more was shown.
+  -- The reading of the lines ends this way, and its text was shown.
+  takes : (e shown : Ending) (part : Text) → after [] ≡ e → shown_ending showing e ≡ shown → new ≡ record mid { shown = mid.shown ++ part } →
+      text_of shown ≡ concat (shown_pieces showing pieces traces) ++ part → TakesLines (with_shown_steps showing whole) first new n shown
+  takes e shown part ends is told text = record {
+    reading = ap (shown_ending showing) (read_all ∙ ends) ∙ is;
+    there = there;
+    stands = stands_with part told ∙ ap (with_lines_taken first n) (sym text);
+  }
+
+  -- It has ended for good, and no more was shown.
   halts : (most : ℕ) → n ≤ most → (halt : Halt) → PlayHalts after halt next pieces traces → new ≡ mid →
       WalkHalts (with_shown_steps showing whole) most first new halt
   halts most few halt stopped same =
-      let e = stopped.1 [] in (
-        n,
-        few,
-        shown_run showing e.0,
-        same_lines showing e.0 ∙ e.4,
-        record {
-          reading = ap (shown_ending showing) (read_all ∙ e.1) ∙ halts_shown showing halt e.0;
-          there = there;
-          stands = stands_with [] (same ∙ shown_nothing mid)
-              ∙ ap (with_lines_taken first n) (append-nil (concat (shown_pieces showing pieces traces)) ∙ sym (text_shown_is showing e.0 pieces traces e.2 e.3));
-        },
-      )
+      let e = stopped.1 [] in
+      let text = text_shown_is showing e.0 pieces traces e.2 e.3 ∙ sym (append-nil (concat (shown_pieces showing pieces traces))) in
+      let ends = takes (Halted halt e.0) (Halted halt (shown_run showing e.0)) [] e.1 (halts_shown showing halt e.0) (same ∙ shown_nothing mid) text in
+      (n, few, shown_run showing e.0, same_lines showing e.0 ∙ e.4, ends)
 
   pub comes_to : (most : ℕ) → n ≤ most → (o : Option PlayEnd) → ShowsStep mid new (seat_text showing next) s o →
       WalksTo showing g whole most first new next n o
@@ -234,18 +171,11 @@ module _ {F : Type 0} (showing : ShowSteps) (g : Story) (whole after : EndingOf)
       }
   comes_to most few (Some end.Ended) told =
       let at : PlaysTo g after step.Ended next pieces traces = subst (λ q. PlaysTo g after q next pieces traces) told.0 plays in
-      let r : Run = run_at next (pieces ++ next.piece ∷ []) (traces ++ at.0 ∷ []) [] in (
-        n,
-        few,
-        shown_run showing r,
-        same_lines showing r,
-        record {
-          reading = ap (shown_ending showing) (read_all ∙ at.1.1 []) ∙ halts_shown showing halt.Over r;
-          there = there;
-          stands = stands_with (seat_text showing next) told.1
-              ∙ ap (with_lines_taken first n) (sym (shown_more showing next pieces traces at.0 each keeps at.1.0));
-        },
-      )
+      let r : Run = run_at next (pieces ++ next.piece ∷ []) (traces ++ at.0 ∷ []) [] in
+      let text = shown_more showing next pieces traces at.0 each keeps at.1.0 in
+      let ends = takes (Halted halt.Over r) (Halted halt.Over (shown_run showing r)) (seat_text showing next) (at.1.1 [])
+      (halts_shown showing halt.Over r) told.1 text in
+      (n, few, shown_run showing r, same_lines showing r, ends)
   comes_to most few (Some (end.Spent kind)) told =
       halts most few (halt.Spent kind) (plays_halted g after s next pieces traces (halt.Spent kind) told.0 refl plays) told.1
   comes_to most few (Some (end.TooDeep table)) told =
@@ -253,88 +183,80 @@ module _ {F : Type 0} (showing : ShowSteps) (g : Story) (whole after : EndingOf)
   comes_to most few (Some (end.Outside call.Show)) told = (n, few, shown_part told.0 told.1 told.2 told.3)
   comes_to most few (Some _) told = absurd told
 
--- ---- one line more ----
+-- ---- a walk at a prompt ----
 
-module _ {F : Type 0} (showing : ShowSteps) (g : Story) (whole : EndingOf) (n : ℕ) (first now mid : Standing) (seat : PlayerView F) (given line : Bytes)
-    (w : IsWalking showing g whole first now seat n) (lines : now.lines ≡ line ∷ mid.lines)
-    (cut : given ≡ take LINE_LIMIT line) where
-  line_stands : drop n first.lines ≡ line ∷ mid.lines
-  line_stands = ap (λ (q : Standing). q.lines) (sym w.stands) ∙ lines
-
-  pub one_more : suc n ≤ length first.lines
-  one_more = (drop_more first.lines n line mid.lines line_stands).1
-
-  whole_after : (more : Lines) →
-      whole (first_lines (suc n) first.lines ++ more)
-      ≡ going_on_from g w.prompt (reverse seat.machine.frames) (run_at seat w.pieces w.traces (given ∷ more))
-  whole_after more =
-      ap whole (lines_more first.lines n line mid.lines more line_stands)
-      ∙ w.goes_on (take LINE_LIMIT line ∷ more)
-      ∙ ap (λ l. going_on_from g w.prompt (reverse seat.machine.frames) (run_at seat w.pieces w.traces (l ∷ more))) (sym cut)
-
-  pub read_after : whole (first_lines (suc n) first.lines) ≡ going_on_from g w.prompt (reverse seat.machine.frames) (run_at seat w.pieces w.traces (given ∷ []))
-  read_after = ap whole (sym (append-nil (first_lines (suc n) first.lines))) ∙ whole_after []
-
-pub walks_on : {F : Type 0} (showing : ShowSteps) (g : Story) (whole : EndingOf) (most n : ℕ) (first now mid new : Standing)
-    (seat next : PlayerView F) (given line : Bytes) (s : Step) (o : Option PlayEnd)
-    (w : IsWalking showing g whole first now seat n) → n < most → NotesShown showing next.machine.steps.most → IsSeated seat → IsSeated next → next.last ≡ s →
-    now.lines ≡ line ∷ mid.lines → given ≡ take LINE_LIMIT line
-    → mid ≡ record now { lines = mid.lines; asked = now.asked + 1 } →
-    PlaysTo g (λ more. going_on_from g w.prompt (reverse seat.machine.frames) (run_at seat w.pieces w.traces (given ∷ more))) s next w.pieces w.traces →
-    ShowsStep mid new (seat_text showing next) s o → WalksTo showing g whole most first new next (suc n) o
-walks_on showing g whole most n first now mid new seat next given line s o w few keeps seated then_seated last lines cut took plays told =
-    comes_to showing g whole (λ more. going_on_from g w.prompt (reverse seat.machine.frames) (run_at seat w.pieces w.traces (given ∷ more)))
-    (suc n) first mid new next s w.pieces w.traces w.each keeps last then_seated
-    (one_more showing g whole n first now mid seat given line w lines cut)
-    (whole_after showing g whole n first now mid seat given line w lines cut)
-    (text_so_far showing g whole n first now seat w seated)
-    (λ part e. stands_after first now mid new n (concat (shown_pieces showing w.pieces w.traces)) part line w.stands lines took e)
-    plays most (omega (arith, few)) o told
-
-module _ {F : Type 0} (showing : ShowSteps) (g : Story) (whole : EndingOf) (most n : ℕ) (first now new : Standing) (seat : PlayerView F)
+module _ {F : Type 0} {showing : ShowSteps} {g : Story} {whole : EndingOf} {n : ℕ} {first now : Standing} {seat : PlayerView F}
     (w : IsWalking showing g whole first now seat n) (seated : IsSeated seat) where
-  -- No line is left.
-  pub none_left : n < most → (now.lines ≡ []) × (new ≡ now) →
+  -- What was read of the lines so far waits, and its text was shown.
+  waiting : WalkWaits (with_shown_steps showing whole) first now n
+  waiting =
+      let stands : StandsAt w.prompt seat.machine = subst (λ s. StandsClosed s seat.machine) w.waits seated.machine in
+      let path : List Frame = reverse seat.machine.frames in
+      let r : Run = run_at seat w.pieces w.traces [] in
+      let takes : TakesLines (with_shown_steps showing whole) first now n (WaitsAt w.prompt path (shown_run showing r)) = record {
+        reading = ap (with_shown_steps showing whole) (sym (append-nil (first_lines n first.lines)))
+            ∙ ap (shown_ending showing) (w.goes_on [] ∙ on_waits g w.prompt seat.machine r stands) ∙ waits_shown showing w.prompt path r;
+        there = w.there;
+        stands = w.stands ∙ ap (with_lines_taken first n) (sym (text_shown_is showing r w.pieces w.traces refl refl));
+      } in
+      (w.prompt, path, shown_run showing r, takes)
+
+  -- No line is left, or none can be asked for.
+  pub none_left : (most : ℕ) (new : Standing) → n < most → (now.lines ≡ []) × (new ≡ now) →
       (length first.lines < most) × WalkWaits (with_shown_steps showing whole) first new (length first.lines)
-  none_left few e =
-      let all : n ≡ length first.lines = drop_all first.lines n (ap (λ (q : Standing). q.lines) (sym w.stands) ∙ e.0) w.there in
-      let at = waiting showing g whole n first now seat w seated in
-      (omega (arith, all, few), (at.0, at.1, at.2, rw (← all, e.1) at.3))
+  none_left most new few e =
+      let all : n ≡ length first.lines = drop_all first.lines n (ap (λ (q : Standing). q.lines) (sym w.stands) ∙ e.0) w.there in (
+        omega (arith, all, few),
+        subst (λ q. WalkWaits (with_shown_steps showing whole) first q (length first.lines)) (sym e.1)
+            (subst (WalkWaits (with_shown_steps showing whole) first now) all waiting),
+      )
 
-  -- The lines can't be asked for.
-  pub none_asked : n < most → new ≡ now →
-      (m : ℕ) × (m < most) × WalkWaits (with_shown_steps showing whole) first new m
-  none_asked few e =
-      let at = waiting showing g whole n first now seat w seated in
-      (n, few, (at.0, at.1, at.2, rw e at.3))
+  pub none_asked : (most : ℕ) (new : Standing) → n < most → new ≡ now → (m : ℕ) × (m < most) × WalkWaits (with_shown_steps showing whole) first new m
+  none_asked most new few e = (n, few, subst (λ q. WalkWaits (with_shown_steps showing whole) first q n) (sym e) waiting)
 
--- All the lines that a session may have were taken.
-pub long_walk : {F : Type 0} (showing : ShowSteps) (g : Story) (whole : EndingOf) (most n : ℕ) (first now : Standing) (seat : PlayerView F) →
-    IsWalking showing g whole first now seat n → IsSeated seat → n ≡ most →
-    (EVENT_LIMIT ≡ EVENT_LIMIT) × WalkWaits (with_shown_steps showing whole) first now most
-long_walk showing g whole most n first now seat w seated all =
-    let at = waiting showing g whole n first now seat w seated in
-    (refl, (at.0, at.1, at.2, rw (← all) at.3))
+  -- All the lines that a session may have were taken.
+  pub long_walk : (most : ℕ) → n ≡ most → (EVENT_LIMIT ≡ EVENT_LIMIT) × WalkWaits (with_shown_steps showing whole) first now most
+  long_walk most all = (refl, subst (WalkWaits (with_shown_steps showing whole) first now) all waiting)
+
+  -- The text of what was read of the lines so far.
+  text_so_far : text_of (with_shown_steps showing whole (first_lines n first.lines)) ≡ concat (shown_pieces showing w.pieces w.traces)
+  unfolding waiting
+  text_so_far =
+      let at = waiting in ap text_of at.3.reading ∙ text_shown_is showing (run_at seat w.pieces w.traces []) w.pieces w.traces refl refl
+
+  -- One line more.
+  module _ (mid : Standing) (given line : Bytes) (lines : now.lines ≡ line ∷ mid.lines) (cut : given ≡ take LINE_LIMIT line) where
+    line_stands : drop n first.lines ≡ line ∷ mid.lines
+    line_stands = ap (λ (q : Standing). q.lines) (sym w.stands) ∙ lines
+
+    whole_after : (more : Lines) → whole (first_lines (suc n) first.lines ++ more)
+        ≡ going_on_from g w.prompt (reverse seat.machine.frames) (run_at seat w.pieces w.traces (given ∷ more))
+    whole_after more =
+        ap whole (lines_more first.lines n line mid.lines more line_stands) ∙ w.goes_on (take LINE_LIMIT line ∷ more)
+        ∙ ap (λ l. going_on_from g w.prompt (reverse seat.machine.frames) (run_at seat w.pieces w.traces (l ∷ more))) (sym cut)
+
+    pub walks_on : (most : ℕ) (new : Standing) (next : PlayerView F) (s : Step) (o : Option PlayEnd) → n < most →
+        NotesShown showing next.machine.steps.most → IsSeated next → next.last ≡ s → mid ≡ record now { lines = mid.lines; asked = now.asked + 1 } →
+        PlaysTo g (λ more. going_on_from g w.prompt (reverse seat.machine.frames) (run_at seat w.pieces w.traces (given ∷ more))) s next w.pieces w.traces →
+        ShowsStep mid new (seat_text showing next) s o → WalksTo showing g whole most first new next (suc n) o
+    walks_on most new next s o few keeps then_seated last took plays told =
+        comes_to showing g whole (λ more. going_on_from g w.prompt (reverse seat.machine.frames) (run_at seat w.pieces w.traces (given ∷ more)))
+        (suc n) first mid new next s w.pieces w.traces w.each keeps last then_seated (drop_more first.lines n line mid.lines line_stands).1 whole_after text_so_far
+        (λ part e. stands_after first now mid new n (concat (shown_pieces showing w.pieces w.traces)) part line w.stands lines took e)
+        plays most (omega (arith, few)) o told
 
 -- ---- the first piece ----
 
 pub first_stands : (old new : Standing) (part : Text) → new ≡ record old { shown = old.shown ++ part } → new ≡ with_lines_taken old 0 part
 first_stands old new part e = let a : old.asked + 0 ≡ old.asked = omega arith in e ∙ rw a refl
 
--- After piece 0 the walk is at the first prompt, or has ended this way.
-pub walk_begins : {F : Type 0} (showing : ShowSteps) (g : Story) (whole : EndingOf) (most : ℕ) (old new : Standing) (seat : PlayerView F) (s : Step)
-    (o : Option PlayEnd) → NotesShown showing seat.machine.steps.most → IsSeated seat → seat.last ≡ s →
-    PlaysTo g whole s seat [] [] → ShowsStep old new (seat_text showing seat) s o → WalksTo showing g whole most old new seat 0 o
-walk_begins showing g whole most old new seat s o keeps seated last plays told =
-    comes_to showing g whole whole 0 old old new seat s [] [] (steps_none showing) keeps last seated (omega arith) (λ more. refl) (sym (shown_none showing))
-    (λ part e. first_stands old new part e ∙ ap (λ t. with_lines_taken old 0 (t ++ part)) (sym (shown_none showing)))
-    plays most (omega arith) o told
-
--- A player that was new has played piece 0.
+-- A player that was new has played piece 0: the walk is at the first prompt, or has ended this way.
 pub walk_starts : {F : Type 0} (showing : ShowSteps) (g : Story) (seed : Seed) (most : ℕ) (old new : Standing) (fresh seat : PlayerView F) (s : Step)
     (o : Option PlayEnd) → IsNew fresh seed → NotesShown showing seat.machine.steps.most → IsSeated seat → seat.last ≡ s →
     PlaysTo g (reading g fresh.world.seed) s seat [] [] → ShowsStep old new (seat_text showing seat) s o →
     WalksTo showing g (reading g seed) most old new seat 0 o
 walk_starts showing g seed most old new fresh seat s o is keeps seated last plays told =
     let at : fresh.world.seed ≡ seed = ap (λ (w : World). w.seed) is.world in
-    walk_begins showing g (reading g seed) most old new seat s o keeps seated last (subst (λ n. PlaysTo g (reading g n) s seat [] []) at plays) told
+    comes_to showing g (reading g seed) (reading g seed) 0 old old new seat s [] [] (steps_none showing) keeps last seated (omega arith) (λ more. refl)
+    (sym (shown_none showing)) (λ part e. first_stands old new part e ∙ ap (λ t. with_lines_taken old 0 (t ++ part)) (sym (shown_none showing)))
+    (subst (λ n. PlaysTo g (reading g n) s seat [] []) at plays) most (omega arith) o told

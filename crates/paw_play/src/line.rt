@@ -29,15 +29,14 @@ use paw_stage::{Asked, Stage, StageCall};
 use paw_state::{STATE_ROOM, write_state};
 use paw_turn::Player;
 
-/// Writes the player's state after this number of lines, and zeros after it.
-pub fn put_state<T: Tables, F: Fn(u8, u8) -> u8>(
+/// The player's state after this number of lines, and zeros after it.
+pub fn state_after<T: Tables, F: Fn(u8, u8) -> u8>(
     player: &Player<'_, T, F>,
     events: u64,
-    into: &mut [u8; STATE_ROOM],
-)
-    ensures base { into.new ≡ seat_base events player.now }
-    ensures state { take state_length into.new ≡ seat_state events player.now }
-    ensures piece { piece_length into.new ≡ length player.now.piece }
+) -> [u8; STATE_ROOM]
+    ensures base { result ≡ seat_base events player.now }
+    ensures state { take state_length result ≡ seat_state events player.now }
+    ensures piece { piece_length result ≡ length player.now.piece }
 {
     let parts = player.parts();
     write_state(
@@ -47,8 +46,7 @@ pub fn put_state<T: Tables, F: Fn(u8, u8) -> u8>(
         parts.prompt,
         events,
         player.piece().len() as u16,
-        into,
-    );
+    )
 }
 
 /// Commits the player's state and its last piece, after this number of lines.
@@ -71,8 +69,7 @@ pub fn commit<S: Stage, T: Tables, F: Fn(u8, u8) -> u8>(
     ensures short { OnOk result (length room.new.piece ≤ PIECE_LIMIT) }
     ensures kept { S.Tells stage.old → IfOk result (λ kept. KeptIn kept room.new (S.standing stage.new)) }
 {
-    let mut state = [0u8; STATE_ROOM];
-    put_state(player, events, &mut state);
+    let state = state_after(player, events);
     journal.commit(stage, room, &state, player.piece())
 }
 
@@ -97,8 +94,7 @@ pub(crate) fn make<S: Stage, T: Tables, F: Fn(u8, u8) -> u8>(
     ensures short { OnOk result (length room.new.piece ≤ PIECE_LIMIT) }
     ensures kept { S.Tells stage.old → IfOk result (λ kept. KeptIn kept room.new (S.standing stage.new)) }
 {
-    let mut state = [0u8; STATE_ROOM];
-    put_state(player, 0, &mut state);
+    let state = state_after(player, 0);
     Journal::create(stage, room, at, game, rules, &state, player.piece())
 }
 

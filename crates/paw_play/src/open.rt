@@ -14,7 +14,7 @@ ghost use Rattle.paw_turn.specs.declared.Step.TheVariants as step;
 ghost use Rattle.paw_journal.specs.Journal.{writing_calls};
 ghost use Rattle.paw_journal.specs.inner.Store.{ChangesStoreOnly};
 ghost use Rattle.paw_journal.specs.inner.Calls.{ReadsStore};
-ghost use Rattle.paw_journal.specs.inner.Journal.{KeptIn};
+ghost use Rattle.paw_journal.specs.inner.Journal.{KeptIn, outside};
 ghost use Rattle.paw_play.specs.Played.{PlayedSession, session_begun};
 ghost use Rattle.paw_play.specs.inner.Calls.{DoneWithMoments, IsNotForCall, call_of_end, end_failed_or};
 ghost use Rattle.paw_play.specs.inner.OnTheWay.{EachStory, IsAttached, end_of};
@@ -65,6 +65,7 @@ fn play_first<T: Tables, F: Fn(u8, u8) -> u8>(
     ensures stays { StaysSeated player.old player.new }
     ensures may { IfNone result (MayTake F.Fn 0 player.new) }
     ensures fine { IfSome result (λ o. call_of_end o ≡ None) }
+    ensures refused { IfSome result IsNotForCall }
     ensures meaning { EachStory F.Fn player.old.routines player.old.game (λ g.
         PlaysFirst g (reading g seed) player.new result) }
 {
@@ -117,6 +118,8 @@ pub fn begin<S: Stage, T: Tables, F: Fn(u8, u8) -> u8>(
 // How playing ends where no session is found.
 fn not_found(refusal: JournalRefusal) -> PlayEnd
     ensures value { result ≡ end_of refusal }
+    ensures call { call_of_end result ≡ outside refusal }
+    ensures refused { IsNotForCall result }
 {
     match refusal {
         JournalRefusal::Outside(call) => PlayEnd::Outside(call),
@@ -196,6 +199,7 @@ fn play_next<T: Tables, F: Fn(u8, u8) -> u8>(
     ensures stays { StaysSeated player.old player.new }
     ensures may { IfNone result (MayTake F.Fn (events + 1) player.new) }
     ensures fine { IfSome result (λ o. call_of_end o ≡ None) }
+    ensures refused { IfSome result IsNotForCall }
     ensures meaning { EachStory F.Fn player.old.routines player.old.game (λ g.
         PlaysNext g events line.now player.old player.new result) }
 {

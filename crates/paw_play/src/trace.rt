@@ -39,6 +39,7 @@ fn put_name(text: &mut Piece, code: u8) -> bool
 }
 
 // Puts the address of a condact.
+#[tactic(auto, using(crate::proofs::Lines::address_short))]
 fn put_address(text: &mut Piece, table: u8, entry: u16, at: u8) -> bool
     ensures puts { Puts text.old text.new result (step_address table entry at) }
     ensures short { length (step_address table entry at) ≤ 13 }
@@ -62,6 +63,7 @@ fn put_answer(text: &mut Piece, yes: bool) -> bool
 }
 
 // Puts the line of a step, if it fits.
+#[tactic(auto, using(crate::proofs::Lines::line_short))]
 fn put_line(text: &mut Piece, step: StepRow) -> bool
     ensures puts { Puts text.old text.new result (step_line step) }
     ensures short { length (step_line step) ≤ 27 }

@@ -31,6 +31,7 @@ use std::alloc::Global;
 pub(crate) fn end_without_piece(step: Step) -> Option<PlayEnd>
     ensures value { result ≡ end_if_no_piece step }
     ensures fine { failed_so_far result ≡ None }
+    ensures refused { IfSome result IsNotForCall }
 {
     match halt_of(step) {
         None | Some(Halt::Over) => None,

@@ -1,22 +1,15 @@
-use Rattle.std.proofs.Common.{◌≡◌, ◌≤◌, ap, ◌∙◌, length, sym, subst}
-use Rattle.std.proofs.lemmas.Result.{on_ok_weaker}
-use Rattle.paw_base.specs.declared.limits.TheConstants.{PIECE_LIMIT}
-use Rattle.paw_stage.specs.Stage.{Standing}
-use Rattle.paw_journal.specs.Session.{Recovered, recover, kept_digests, session_committed}
-use Rattle.paw_journal.specs.inner.Store.{InStore, CrashLeavesSuch, IsOldOrNew}
-use Rattle.paw_journal.proofs.Calls.{writes_weaker}
-use Rattle.paw_play.specs.inner.Open.{seat_base}
+use Rattle.paw_play.proofs.Names.{◌≡◌, ◌≤◌, ap, ◌∙◌, length, sym, subst, on_ok_weaker, PIECE_LIMIT, Standing, Recovered, recover, kept_digests, session_committed, InStore, CrashLeavesSuch, IsOldOrNew, writes_weaker, seat_base}
 use Rattle.paw_play.proofs.States.{shown_as}
 use Rattle.paw_play.proofs.line.commit.Goals as goal
 
 pub returns-clause-call : goal.returns-clause-call
 returns-clause-call g c =
     let old : Standing = g.S.Stage.standing c.args.stage.now in
-    let same = shown_as (kept_digests old.disk.bytes) c.put_state.ensures.state c.piece.ensures.value in
+    let same = shown_as (kept_digests old.disk.bytes) c.state_after-state.ensures.state c.piece.ensures.value in
     writes_weaker c.commit.ensures.call
     (λ tells done. record {
       exact =
-          done.exact ∙ (ap (λ x. session_committed x c.piece.result.now old.disk.bytes) c.put_state.ensures.base
+          done.exact ∙ (ap (λ x. session_committed x c.piece.result.now old.disk.bytes) c.state_after-state.ensures.base
           ∙ ap (λ x. session_committed (seat_base c.args.events c.args.player.now) x old.disk.bytes) c.piece.ensures.value);
       shown = done.shown ∙ same;
       digests = done.digests;

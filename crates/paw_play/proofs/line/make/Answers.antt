@@ -1,13 +1,5 @@
-use Rattle.std.proofs.Common.{◌≡◌, ◌≤◌, ◌∙◌, length, sym, subst}
-use Rattle.std.proofs.lemmas.Result.{on_ok_weaker}
-use Rattle.paw_base.specs.declared.limits.TheConstants.{PIECE_LIMIT}
-use Rattle.paw_stage.specs.Stage.{Standing}
-use Rattle.paw_journal.specs.Session.{Digests, Recovered}
-use Rattle.paw_journal.specs.inner.Session.{digests_of}
-use Rattle.paw_journal.specs.inner.Store.{InStore, CrashLeavesSuch, IsUnmadeOr}
-use Rattle.paw_journal.proofs.Calls.{writes_weaker}
-use Rattle.paw_play.proofs.States.{shown_as}
-use Rattle.paw_play.proofs.Written.{made_same}
+use Rattle.paw_play.proofs.Names.{◌≡◌, ◌≤◌, ◌∙◌, length, sym, subst, on_ok_weaker, PIECE_LIMIT, Standing, Digests, Recovered, digests_of, InStore, CrashLeavesSuch, IsUnmadeOr, writes_weaker}
+use Rattle.paw_play.proofs.{States.shown_as, Written.made_same}
 use Rattle.paw_play.proofs.line.make.Goals as goal
 
 pub create-requires-clause-rests : goal.create-requires-clause-rests
@@ -20,10 +12,10 @@ pub returns-clause-call : goal.returns-clause-call
 returns-clause-call g c =
     let old : Standing = g.S.Stage.standing c.args.stage.now in
     let whose : Digests = digests_of c.args.game.now c.args.rules.now in
-    let same = shown_as whose c.put_state.ensures.state c.piece.ensures.value in
+    let same = shown_as whose c.state_after-state.ensures.state c.piece.ensures.value in
     writes_weaker c.create.ensures.call
     (λ tells done. record {
-      exact = done.exact ∙ made_same whose _ _ _ _ c.put_state.ensures.base c.piece.ensures.value;
+      exact = done.exact ∙ made_same whose _ _ _ _ c.state_after-state.ensures.base c.piece.ensures.value;
       shown = done.shown ∙ same;
       digests = done.digests;
     })

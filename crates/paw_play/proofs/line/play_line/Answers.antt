@@ -1,15 +1,6 @@
-use Rattle.paw_journal.specs.Journal.{writing_calls}
-use Rattle.std.proofs.Common.{◌<◌, ◌-◌, None, refl, ap, arith, inl, inr, ◌+◌}
-use Rattle.paw_base.specs.declared.limits.TheConstants.{EVENT_LIMIT}
-use Rattle.paw_stage.specs.Stage.{Standing}
+use Rattle.paw_play.proofs.Names.{writing_calls, ◌<◌, None, refl, ap, arith, inl, inr, ◌+◌, EVENT_LIMIT, Standing, Passes_map, Passes_on, serves_done, serves_among, serves_then, in_front, walk_calls, InPlay, end_failed_or}
 use Rattle.paw_stage.specs.declared.Asked.TheVariants as asked
-use Rattle.paw_stage.proofs.Time.{Passes_map, Passes_on}
-use Rattle.paw_effects.specs.Story.{Story, story_of}
-use Rattle.paw_journal.proofs.Serving.{serves_done, serves_among, serves_then, in_front}
-use Rattle.paw_play.specs.Calls.{walk_calls}
-use Rattle.paw_play.specs.Keeping.{InPlay}
-use Rattle.paw_play.specs.inner.Calls.{end_failed_or}
-use Rattle.paw_play.proofs.Playing.{in_show, in_ask, shown_ends, none_left, none_asked, in_take, open_still, comes_to, keeps_standing, holds_since}
+use Rattle.paw_play.proofs.{Doing.done_by, Doing.done_then, Playing.in_show, Playing.in_ask, Playing.shown_ends, Playing.none_left, Playing.none_asked, Playing.in_take, Playing.open_still, Playing.comes_to, Playing.keeps_standing, Playing.holds_since}
 use Rattle.paw_play.proofs.line.play_line.Goals as goal
 
 pub take-requires-clause-kept : goal.take-requires-clause-kept
@@ -44,38 +35,31 @@ returns-in-Line-clause-holds g c = holds_since c.take.result (c.args.session.eve
 
 pub returns-in-Some-clause-promises : goal.returns-in-Some-clause-promises
 returns-in-Some-clause-promises g c = λ tells X answers s n first w events.
-    record {
-      meaning = shown_ends w _ c.args.session.events c.requires.may.seated events c.in-Some.end (c.in-Some.ensures.meaning tells);
-      any_moment = Passes_map _ _ _ _ _ (InPlay s first) (c.in-Some.ensures.time tells) (in_show w);
-    }
+    done_by (shown_ends w _ c.args.session.events c.requires.may.seated events c.in-Some.end (c.in-Some.ensures.meaning tells))
+    (c.in-Some.ensures.time tells) (in_show w)
 
 pub returns-in-End-clause-promises : goal.returns-in-End-clause-promises
 returns-in-End-clause-promises g c = λ tells X answers s n first w events.
     let shown = c.in_default.ensures.meaning tells in
-    let a = c.in-End.ensures.answer (c.show_last_piece.ensures.serves.tells.0 tells) in
-    record {
-      meaning = none_left w _ shown.2 c.requires.may.seated (EVENT_LIMIT - s.before) (omega (arith, shown.1, events)) _ shown.0 _ a;
-      any_moment = Passes_on _ _ _ _ _ _ (InPlay s first) _
-          (Passes_map _ _ _ _ _ (InPlay s first) (c.in_default.ensures.time tells) (in_show w))
-          (c.in-End.ensures.time (c.show_last_piece.ensures.serves.tells.0 tells))
-          (in_ask w _ shown.2 c.requires.may.seated (omega (arith, shown.1, events)) _ asked.End c.ask.new.into a);
-    }
+    let then = c.show_last_piece.ensures.serves.tells.0 tells in
+    let few : s.before + n < EVENT_LIMIT = omega (arith, shown.1, events) in
+    let a = c.in-End.ensures.answer then in
+    done_then _ (none_left w _ shown.2 c.requires.may.seated few _ shown.0 _ a)
+    (Passes_map _ _ _ _ _ (InPlay s first) (c.in_default.ensures.time tells) (in_show w)) (c.in-End.ensures.time then)
+    (in_ask w _ shown.2 c.requires.may.seated few _ asked.End c.ask.new.into a)
 
 pub returns-in-Failed-clause-promises : goal.returns-in-Failed-clause-promises
 returns-in-Failed-clause-promises g c = λ tells X answers s n first w events.
     let shown = c.in_default.ensures.meaning tells in
-    let a = c.in-Failed.ensures.answer (c.show_last_piece.ensures.serves.tells.0 tells) in
-    record {
-      meaning = none_asked w _ shown.2 c.requires.may.seated (EVENT_LIMIT - s.before) (omega (arith, shown.1, events)) _ shown.0 _ a;
-      any_moment = Passes_on _ _ _ _ _ _ (InPlay s first) _
-          (Passes_map _ _ _ _ _ (InPlay s first) (c.in_default.ensures.time tells) (in_show w))
-          (c.in-Failed.ensures.time (c.show_last_piece.ensures.serves.tells.0 tells))
-          (in_ask w _ shown.2 c.requires.may.seated (omega (arith, shown.1, events)) _ asked.Failed c.ask.new.into a);
-    }
+    let then = c.show_last_piece.ensures.serves.tells.0 tells in
+    let few : s.before + n < EVENT_LIMIT = omega (arith, shown.1, events) in
+    let a = c.in-Failed.ensures.answer then in
+    done_then _ (none_asked w _ shown.2 c.requires.may.seated few _ shown.0 _ a)
+    (Passes_map _ _ _ _ _ (InPlay s first) (c.in_default.ensures.time tells) (in_show w)) (c.in-Failed.ensures.time then)
+    (in_ask w _ shown.2 c.requires.may.seated few _ asked.Failed c.ask.new.into a)
 
 pub returns-in-Line-clause-promises : goal.returns-in-Line-clause-promises
 returns-in-Line-clause-promises g c = λ tells X answers s n first w events.
-    let story : Story = story_of c.args.player.now.game X in
     let shown = c.in_default.ensures.meaning tells in
     let then = c.show_last_piece.ensures.serves.tells.0 tells in
     let now = c.ask.ensures.tells.0 then in
@@ -84,14 +68,11 @@ returns-in-Line-clause-promises g c = λ tells X answers s n first w events.
     let seated = c.requires.may.seated in
     let mid : Standing = g.S.Stage.standing c.show_last_piece.new.stage in
     let asking : Standing = g.S.Stage.standing c.ask.new.self in
-    let p = c.take.ensures.promises now X answers s n _ _
-    (open_still w mid shown.2 seated asking a.0 _ a.1 a.2.same a.3 few) events in
-    record {
-      meaning = comes_to w mid shown.2 seated asking a.0 _ a.1 a.2.same a.3 few _ c.take.new.player c.take.new.room.piece
-          (c.take.ensures.beside now) _ shown.0 c.take.result p.meaning (c.args.session.events + 1) c.take.new.room c.take.ensures.holds now c.take.ensures.still (ap g.S.Stage.standing);
-      any_moment = Passes_on _ _ _ _ _ _ (InPlay s first) _
-          (Passes_on _ _ _ _ _ _ (InPlay s first) _
-          (Passes_map _ _ _ _ _ (InPlay s first) (c.in_default.ensures.time tells) (in_show w))
-          (c.in-Line.ensures.time then) (in_ask w mid shown.2 seated few asking (asked.Line c.in-Line.n) c.ask.new.into a))
-          p.any_moment (in_take w mid shown.2 seated asking a.0 _ a.1 a.2.same a.3 few);
-    }
+    let p = c.take.ensures.promises now X answers s n _ _ (open_still w mid shown.2 seated few asking a.0 _ a.1 a.2.same a.3) events in
+    done_then _
+    (comes_to w mid shown.2 seated few asking a.0 _ a.1 a.2.same a.3 _ c.take.new.player c.take.new.room.piece (c.take.ensures.beside now) _ shown.0
+    c.take.result p.meaning (c.args.session.events + 1) c.take.new.room c.take.ensures.holds now c.take.ensures.still (ap g.S.Stage.standing))
+    (Passes_on _ _ _ _ _ _ (InPlay s first) _
+    (Passes_map _ _ _ _ _ (InPlay s first) (c.in_default.ensures.time tells) (in_show w))
+    (c.in-Line.ensures.time then) (in_ask w mid shown.2 seated few asking (asked.Line c.in-Line.n) c.ask.new.into a))
+    p.any_moment (in_take w mid shown.2 seated few asking a.0 _ a.1 a.2.same a.3)

@@ -1,4 +1,4 @@
-use Rattle.std.proofs.Common.{sym, ◌∙◌}
+use Rattle.paw_play.proofs.Names.{sym, ◌∙◌}
 use Rattle.paw_play.proofs.Digits.{seed_is}
 use Rattle.paw_play.proofs.numbers.seed_of.Goals as goal
 

@@ -1,12 +1,5 @@
-use Rattle.std.proofs.Common.{◌≡◌, ◌∙◌, ℕ, [], sym, ap, subst, arith}
-use Rattle.paw_game.specs.Game.{GameLists}
-use Rattle.paw_world.specs.World.{World}
-use Rattle.paw_routines.specs.Routines.{AreAnswersOf, HaveAnswers}
-use Rattle.paw_effects.specs.Story.{story_of}
-use Rattle.paw_reading.specs.Turn.{reading}
-use Rattle.paw_turn.specs.inner.Player.{PlaysTo, IsStanding}
-use Rattle.paw_play.proofs.Opened.{first_played}
-use Rattle.paw_play.proofs.ShownSteps.{may_if_none}
+use Rattle.paw_play.proofs.Names.{◌≡◌, ◌∙◌, sym, ap, subst, arith, World, AreAnswersOf, HaveAnswers, IsStanding, Story, story_of, reading}
+use Rattle.paw_play.proofs.{Opened.first_played, ShownSteps.may_if_none}
 use Rattle.paw_play.proofs.open.play_first.Goals as goal
 
 pub returns-clause-may : goal.returns-clause-may
@@ -24,10 +17,7 @@ returns-clause-may g c =
 pub returns-clause-meaning : goal.returns-clause-meaning
 returns-clause-meaning g c = λ X answers.
     let own = subst (λ r. AreAnswersOf g.F.Fn r X) (sym c.renew.ensures.routines) answers in
-    let at = ap (λ (w : World). w.seed) c.renew.ensures.new.world in
-    first_played (story_of c.args.player.now.game X) (reading (story_of c.args.player.now.game X) c.args.seed) c.start-step.result c.start-step.new.self
-    c.start-step.ensures.last c.start-step.ensures.seated
-    (subst (λ (n : ℕ). PlaysTo (story_of c.args.player.now.game X) (reading (story_of c.args.player.now.game X) n) c.start-step.result c.start-step.new.self [] []) at
-    (subst (λ (h : GameLists). PlaysTo (story_of h X) (reading (story_of h X) c.renew.new.self.world.seed) c.start-step.result c.start-step.new.self [] [])
-    c.renew.ensures.game (c.start-step.ensures.meaning X own)))
-    c.end_without_piece.result c.end_without_piece.ensures.value
+    let seeded = ap (λ (w : World). w.seed) c.renew.ensures.new.world in
+    let story : Story = story_of c.args.player.now.game X in
+    first_played story (reading story c.args.seed) c.start-step.result c.start-step.new.self c.start-step.ensures.last c.start-step.ensures.seated
+    (rw (c.renew.ensures.game, seeded) at (c.start-step.ensures.meaning X own)) c.end_without_piece.result c.end_without_piece.ensures.value

@@ -1,13 +1,5 @@
-use Rattle.paw_turn.specs.inner.Player.{IsStanding}
-use Rattle.std.proofs.Common.{[], ◌<◌, refl, sym, subst, arith}
-use Rattle.paw_base.specs.declared.limits.TheConstants.{EVENT_LIMIT}
-use Rattle.paw_reading.specs.Bounds.{IsLine}
-use Rattle.paw_turn.proofs.Standing.{bytes_each, valid_story}
-use Rattle.paw_play.proofs.Following.{follows_on}
-use Rattle.paw_routines.specs.Routines.{HaveAnswers}
-use Rattle.paw_turn.specs.inner.Parts.{prompt_at}
-use Rattle.paw_play.proofs.Opened.{over_stops, full_stops, next_played}
-use Rattle.paw_play.proofs.ShownSteps.{may_if_none}
+use Rattle.paw_play.proofs.Names.{IsStanding, [], ◌<◌, refl, sym, subst, arith, EVENT_LIMIT, IsLine, bytes_each, valid_story, HaveAnswers, prompt_at}
+use Rattle.paw_play.proofs.{Following.follows_on, Opened.over_stops, Opened.full_stops, Opened.next_played, ShownSteps.may_if_none}
 use Rattle.paw_play.proofs.open.play_next.Goals as goal
 
 pub returns-then-is_over-clause-meaning : goal.returns-then-is_over-clause-meaning

@@ -1,21 +1,5 @@
-use Rattle.std.proofs.Common.{◌≡◌, ◌∙◌, refl, sym, ap, subst, arith}
-use Rattle.std.specs.Prelude.{Result, Ok, Err, IsOk, Option}
-use Rattle.paw_game.specs.Game.{GameLists}
-use Rattle.paw_stage.specs.Stage.{Standing}
-use Rattle.paw_stage.specs.declared.StageCall.{StageCall}
-use Rattle.paw_effects.specs.Story.{Story, story_of}
-use Rattle.paw_turn.specs.inner.Parts.{Fits}
-use Rattle.paw_journal.specs.Session.{recover, kept_digests, piece_length}
-use Rattle.paw_journal.proofs.ShownPieces.{buffer_long}
-use Rattle.paw_journal.specs.inner.Session.{session_shown}
-use Rattle.paw_journal.specs.inner.Calls.{ReadsStore}
-use Rattle.paw_state.specs.declared.StateFault.{StateFault}
-use Rattle.paw_state.specs.declared.parts.Restored.{Restored}
-use Rattle.paw_state.specs.Fit.{Fit, Unfit}
-use Rattle.paw_state.specs.inner.Fit.{IsRead, state_read}
-use Rattle.paw_play.specs.Session.{IsOfStory}
-use Rattle.paw_play.proofs.Showing.{read_fits}
-use Rattle.paw_play.proofs.Reopening.{read_shows, state_open, seat_may, of_story, refused_story, resumes_none, end_names, not_for_call, stays_at}
+use Rattle.paw_play.proofs.Names.{Name, ◌≡◌, ◌∙◌, refl, sym, ap, subst, arith, Result, Ok, Err, IsOk, GameLists, Standing, Story, story_of, Fits, recover, kept_digests, piece_length, buffer_long, session_shown, Restored, IsRead, state_read, StateFault}
+use Rattle.paw_play.proofs.{Showing.read_fits, Reopening.read_shows, Reopening.state_open, Reopening.seat_may, Reopening.of_story, Reopening.refused_story, Reopening.resumes_none, Reopening.stays_at}
 use Rattle.paw_play.proofs.open.resume.Goals as goal
 
 not_ok : (r : Result Restored StateFault) (e : StateFault) → r ≡ Err e → IsOk r → ⊥
@@ -29,12 +13,7 @@ pub find-requires-clause-attached : goal.find-requires-clause-attached
 find-requires-clause-attached g c = λ tells. (c.requires.attached tells).long
 
 pub returns-in-Err-clause-reads : goal.returns-in-Err-clause-reads
-returns-in-Err-clause-reads g c =
-    rw c.not_found.ensures.value
-    (subst (λ (f : Option StageCall). ReadsStore g.S.Stage f c.args.stage.now c.find.new.stage) (sym (end_names c.in-Err.refusal)) c.in-Err.ensures.call)
-
-pub returns-in-Err-clause-refused : goal.returns-in-Err-clause-refused
-returns-in-Err-clause-refused g c = rw c.not_found.ensures.value (not_for_call c.in-Err.refusal)
+returns-in-Err-clause-reads g c = rw c.not_found.ensures.call c.in-Err.ensures.call
 
 pub returns-in-Err-clause-meaning : goal.returns-in-Err-clause-meaning
 returns-in-Err-clause-meaning g c = λ tells X answers.
@@ -50,18 +29,13 @@ returns-in-Err-read_state-clause-meaning g c = λ tells X answers.
     let story : Story = story_of c.args.player.now.game X in
     let own = c.requires.player.digests in
     let still = c.in-Ok.ensures.call.still tells in
-    let kept = c.in-Ok.ensures.kept tells in
-    let fault = c.in-Err-read_state.fault in (
-      subst (λ (q : Standing). IsOfStory story (kept_digests q.disk.bytes)) still
-          (of_story story c.args.game.now c.args.rules.now (g.S.Stage.standing c.find.new.stage).disk.bytes own.digest (own.measured X answers) (c.in-Ok.ensures.belongs tells)),
-      c.find.new.room.state,
-      c.find.new.room.piece,
-      subst (λ (q : Standing). recover q.disk.bytes ≡ session_shown (kept_digests q.disk.bytes) c.find.new.room.state c.find.new.room.piece) still kept.shown,
-      λ fit. not_ok (Err fault) fault refl (c.in-Err-read_state.ensures.fit.1
-          (subst (λ (h : GameLists). Fit h c.state.result.now) c.requires.same (subst (Fit c.args.player.now.game) (sym c.state.ensures.value) fit))),
-      subst (λ b. Unfit c.args.player.now.game b fault.at) c.state.ensures.value
-          (subst (λ (h : GameLists). Unfit h c.state.result.now fault.at) (sym c.requires.same) c.in-Err-read_state.ensures.fault),
-    )
+    let fault = c.in-Err-read_state.fault in
+    let of = rw still at (of_story story c.args.game.now c.args.rules.now (g.S.Stage.standing c.find.new.stage).disk.bytes own.digest
+    (own.measured X answers) (c.in-Ok.ensures.belongs tells)) in
+    let shown = rw still at ((c.in-Ok.ensures.kept tells).shown) in
+    let read = c.in-Err-read_state.ensures in
+    let unfit = rw (← c.requires.same, c.state.ensures.value) at read.fault in
+    (of, c.find.new.room.state, c.find.new.room.piece, shown, λ fit. not_ok (Err fault) fault refl (read.fit.1 (rw (← c.requires.same, c.state.ensures.value) fit)), unfit)
 
 pub seat-requires-clause-fits : goal.seat-requires-clause-fits
 seat-requires-clause-fits g c =
@@ -95,20 +69,15 @@ returns-clause-meaning g c = λ tells X answers.
     let story : Story = story_of c.args.player.now.game X in
     let own = c.requires.player.digests in
     let old : Standing = g.S.Stage.standing c.args.stage.now in
-    let state = c.find.new.room.state in
     let piece = c.find.new.room.piece in
     let r = c.in-Ok-read_state.restored in
     let still = c.in-Ok.ensures.call.still tells in
-    let shown = subst (λ (q : Standing). recover q.disk.bytes ≡ session_shown (kept_digests q.disk.bytes) state piece) still
-    (c.in-Ok.ensures.kept tells).shown in
+    let shown = rw still at ((c.in-Ok.ensures.kept tells).shown) in
     let read = subst (λ (h : GameLists). IsRead h c.state.result.now r) (sym c.requires.same) c.in-Ok-read_state.ensures.read in
-    let shows = read_shows c.args.player.now.game (kept_digests old.disk.bytes) old.disk.bytes state c.state.result.now piece r shown
-    c.state.ensures.value read in (
-      subst (λ (q : Standing). IsOfStory story (kept_digests q.disk.bytes)) still
-          (of_story story c.args.game.now c.args.rules.now (g.S.Stage.standing c.find.new.stage).disk.bytes own.digest (own.measured X answers) (c.in-Ok.ensures.belongs tells)),
-      state_read r,
-      shows,
-      refl,
-      λ name. state_open story r c.args.player.now.routines c.seat.new.player c.seat.ensures.value old.disk.bytes name piece
-          c.requires.player.seated.valid shows,
-    )
+    let shows = read_shows c.args.player.now.game (kept_digests old.disk.bytes) old.disk.bytes c.find.new.room.state c.state.result.now piece r shown
+    c.state.ensures.value read in
+    let of = rw still at (of_story story c.args.game.now c.args.rules.now (g.S.Stage.standing c.find.new.stage).disk.bytes own.digest
+    (own.measured X answers) (c.in-Ok.ensures.belongs tells)) in
+    let opens = λ (name : Name). state_open story r c.args.player.now.routines c.seat.new.player c.seat.ensures.value old.disk.bytes name piece
+    c.requires.player.seated.valid shows in
+    (of, state_read r, shows, refl, opens)

@@ -1,11 +1,5 @@
-use Rattle.std.proofs.Common.{◌≡◌, ◌+◌, ◌-◌, ◌∙◌, suc, arith, subst, sym, refl, None}
-use Rattle.paw_stage.proofs.Time.{Passes_on, Passes_none}
-use Rattle.paw_routines.specs.Routines.{AreAnswersOf}
-use Rattle.paw_effects.specs.Story.{story_of}
-use Rattle.paw_journal.proofs.Serving.{serves_none, serves_then}
-use Rattle.paw_play.specs.Keeping.{InPlay}
-use Rattle.paw_play.specs.inner.Calls.{call_of_end}
-use Rattle.paw_play.specs.inner.OnTheWay.{IsPlaying}
+use Rattle.paw_play.proofs.Names.{◌≡◌, ◌+◌, ◌-◌, ◌∙◌, suc, arith, subst, sym, refl, None, AreAnswersOf, story_of, serves_none, serves_then, call_of_end, IsPlaying}
+use Rattle.paw_play.proofs.Doing.{done_none, done_then}
 use Rattle.paw_play.proofs.play.play_lines.Goals as goal
 
 pub loop-init : goal.loop-init
@@ -18,11 +12,8 @@ loop-init g c = record {
   kept = c.requires.kept;
   promises = λ tells X answers s first start events.
       let none : 0 ≡ c.args.session.events - s.before = omega (arith, events) in
-      record {
-        meaning = subst (λ k. IsPlaying (story_of c.args.player.now.game X) s first (g.S.Stage.standing c.args.stage.now) c.args.player.now
-            c.args.room.now.piece k) none start;
-        any_moment = Passes_none _ _ _;
-      };
+      done_none (subst (IsPlaying (story_of c.args.player.now.game X) s first (g.S.Stage.standing c.args.stage.now) c.args.player.now
+      c.args.room.now.piece) none start);
 }
 
 pub play_line-requires-clause-kept : goal.play_line-requires-clause-kept
@@ -37,7 +28,7 @@ returns-in-Err-clause-promises g c = λ tells X answers s first start events.
     s (c.loop.counter - s.before) first
     (subst (λ k. IsPlaying (story_of k X) s first (g.S.Stage.standing c.loop.stage) c.loop.player c.loop.room.piece (c.loop.counter - s.before))
     (sym i.stays.game) so_far.meaning) at in
-    record { meaning = then.meaning; any_moment = Passes_on _ _ _ _ _ _ (InPlay s first) _ so_far.any_moment then.any_moment (λ m j. j) }
+    done_then _ then.meaning so_far.any_moment then.any_moment (λ m j. j)
 
 pub loop-preserved : goal.loop-preserved
 loop-preserved g c =
@@ -61,13 +52,10 @@ loop-preserved g c =
           s (c.loop.counter - s.before) first
           (subst (λ k. IsPlaying (story_of k X) s first (g.S.Stage.standing c.loop.stage) c.loop.player c.loop.room.piece (c.loop.counter - s.before))
           (sym i.stays.game) so_far.meaning) at in
-          record {
-            meaning = subst (λ k. IsPlaying (story_of k X) s first (g.S.Stage.standing c.play_line.new.stage) c.play_line.new.player
-                c.play_line.new.room.piece (c.loop.counter + 1 - s.before)) i.stays.game
-                (subst (λ k. IsPlaying (story_of c.loop.player.game X) s first (g.S.Stage.standing c.play_line.new.stage) c.play_line.new.player
-                c.play_line.new.room.piece k) more then.meaning);
-            any_moment = Passes_on _ _ _ _ _ _ (InPlay s first) _ so_far.any_moment then.any_moment (λ m j. j);
-          };
+          done_then _ (subst (λ k. IsPlaying (story_of k X) s first (g.S.Stage.standing c.play_line.new.stage) c.play_line.new.player
+          c.play_line.new.room.piece (c.loop.counter + 1 - s.before)) i.stays.game
+          (subst (IsPlaying (story_of c.loop.player.game X) s first (g.S.Stage.standing c.play_line.new.stage) c.play_line.new.player
+          c.play_line.new.room.piece) more then.meaning)) so_far.any_moment then.any_moment (λ m j. j);
     }
 
 pub returns-clause-promises : goal.returns-clause-promises

@@ -1,15 +1,4 @@
-use Rattle.std.proofs.Common.{◌≡◌, ◌-◌, ◌≤◌, None}
-use Rattle.paw_stage.specs.Stage.{Standing}
-use Rattle.paw_stage.specs.AcrossCalls.{FailsOnlyBy}
-use Rattle.paw_routines.specs.Routines.{AreAnswersOf}
-use Rattle.paw_effects.specs.Story.{story_of}
-use Rattle.paw_journal.specs.inner.Journal.{KeptIn}
-use Rattle.paw_play.specs.Calls.{play_calls}
-use Rattle.paw_play.specs.Played.{PlayedSession}
-use Rattle.paw_play.specs.Keeping.{InPlay}
-use Rattle.paw_play.specs.inner.Calls.{DoneWithMoments}
-use Rattle.paw_play.specs.inner.OnTheWay.{IsPlaying}
-use Rattle.paw_play.specs.inner.Open.{MayTake, StaysSeated}
+use Rattle.paw_play.proofs.Names.{◌≡◌, ◌-◌, ◌≤◌, None, Standing, FailsOnlyBy, AreAnswersOf, story_of, KeptIn, play_calls, PlayedSession, InPlay, DoneWithMoments, IsPlaying, MayTake, StaysSeated}
 use Rattle.paw_play.proofs.play.play_lines.Given as goal
 
 -- As many lines were taken as the session says.

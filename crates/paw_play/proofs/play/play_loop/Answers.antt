@@ -1,18 +1,6 @@
-use Rattle.std.proofs.Common.{◌<◌, ◌∙◌, [], ◌∷◌, None, refl, sym, ap, subst, length, arith}
-use Rattle.paw_stage.proofs.Time.{Passes_map}
-use Rattle.paw_stage.specs.Stage.{Standing}
-use Rattle.paw_play.specs.Played.{PlayedSession, session_begun}
-use Rattle.paw_play.specs.Keeping.{InNewSession}
-use Rattle.paw_play.specs.Play.{MadeAndPlayed, unattached, occupied, starts_play}
-use Rattle.paw_play.specs.inner.OnTheWay.{IsRestingStore}
-use Rattle.paw_play.proofs.Attaching.{store_attached, store_empty, at_new_attach, new_from}
-use Rattle.paw_play.proofs.Failing.{stands_in_parts}
-use Rattle.paw_play.proofs.Parts.{then_attached, attach_failed}
+use Rattle.paw_play.proofs.Names.{◌<◌, ◌∙◌, [], ◌∷◌, None, refl, sym, ap, subst, length, arith, Passes_map, Standing, PlayedSession, session_begun, InNewSession, unattached, occupied, starts_play, IsRestingStore, behind, in_front, serves_among, serves_still, serves_then, the_only_one, play_calls, call_of_end, story_of}
+use Rattle.paw_play.proofs.{Attaching.store_attached, Attaching.store_empty, Attaching.at_new_attach, Attaching.new_from, Failing.stands_in_parts, Parts.then_attached, Parts.attach_failed}
 use Rattle.paw_stage.specs.declared.StageCall.TheVariants as call
-use Rattle.paw_journal.proofs.Serving.{behind, in_front, serves_among, serves_still, serves_then, the_only_one}
-use Rattle.paw_play.specs.Calls.{play_calls}
-use Rattle.paw_play.specs.inner.Calls.{call_of_end}
-use Rattle.paw_effects.specs.Story.{story_of}
 use Rattle.paw_play.proofs.play.play_loop.Goals as goal
 
 pub returns-in-Err-clause-plays : goal.returns-in-Err-clause-plays
@@ -30,13 +18,11 @@ play_in-requires-clause-attached g c = λ tells.
 
 pub returns-clause-plays : goal.returns-clause-plays
 returns-clause-plays g c = λ tells X answers.
-    let old : Standing = g.S.Stage.standing c.args.stage.now in
     let name = c.args.name.now in
     let a = c.in-Ok.ensures.attached tells in
-    let store : IsRestingStore name (g.S.Stage.standing c.attach.new.stage) = subst (IsRestingStore name) (sym a.1) (store_attached old name) in
-    starts_play c.play_in.result (store_empty old _ name c.in-Ok.at.length a (omega (arith, c.if-at-ne0.false)))
-    (subst (λ q. MadeAndPlayed (session_begun (story_of (g.T.Tables.game c.args.tables.now) X) c.args.seed name) q (g.S.Stage.standing c.play_in.new.stage)
-    c.play_in.result) a.1 (c.play_in.ensures.promises (c.attach.ensures.serves.tells.0 tells) X answers name store).meaning)
+    let store = subst (IsRestingStore name) (sym a.1) (store_attached (g.S.Stage.standing c.args.stage.now) name) in
+    starts_play c.play_in.result (store_empty (g.S.Stage.standing c.args.stage.now) _ name c.in-Ok.at.length a (omega (arith, c.if-at-ne0.false)))
+    (rw a.1 at ((c.play_in.ensures.promises (c.attach.ensures.serves.tells.0 tells) X answers name store).meaning))
 
 pub returns-in-Err-clause-any_moment : goal.returns-in-Err-clause-any_moment
 returns-in-Err-clause-any_moment g c = λ tells X answers empty.
@@ -50,38 +36,30 @@ returns-then-at-ne0-clause-any_moment g c = λ tells X answers empty.
 pub returns-clause-any_moment : goal.returns-clause-any_moment
 returns-clause-any_moment g c = λ tells X answers empty.
     let old : Standing = g.S.Stage.standing c.args.stage.now in
-    let after_attach : Standing = g.S.Stage.standing c.attach.new.stage in
     let name = c.args.name.now in
     let a = c.in-Ok.ensures.attached tells in
     let now = c.attach.ensures.serves.tells.0 tells in
     let s : PlayedSession = session_begun (story_of (g.T.Tables.game c.args.tables.now) X) c.args.seed name in
-    let store : IsRestingStore name after_attach = subst (IsRestingStore name) (sym a.1) (store_attached old name) in
-    then_attached g.S.Stage g.met.S.Stage.only_now g.met.S.Stage.counts_now c.args.stage.now c.attach.new.stage c.play_in.new.stage
-    name (InNewSession s old) now (at_new_attach s old after_attach a.1 empty) (c.in-Ok.ensures.time tells)
-    (Passes_map _ _ _ _ _ _ (c.play_in.ensures.promises now X answers name store).any_moment
+    let store = subst (IsRestingStore name) (sym a.1) (store_attached old name) in
+    then_attached g.S.Stage g.met.S.Stage.only_now g.met.S.Stage.counts_now _ _ _ name (InNewSession s old) now (at_new_attach s old _ a.1 empty)
+    (c.in-Ok.ensures.time tells) (Passes_map _ _ _ _ _ _ (c.play_in.ensures.promises now X answers name store).any_moment
     (λ m i. new_from s old m (subst (λ q. InNewSession s q m) a.1 i)))
 
 -- ---- what stands at the end ----
 
 pub returns-in-Err-clause-stands : goal.returns-in-Err-clause-stands
 returns-in-Err-clause-stands g c = λ tells X answers empty.
-    stands_in_parts g.S.Stage g.met.S.Stage.only_now g.met.S.Stage.counts_now g.met.S.Stage.may_stay g.met.S.Stage.files_hold
-    c.args.stage.now c.attach.new.stage c.args.name.now
-    (InNewSession (session_begun (story_of (g.T.Tables.game c.args.tables.now) X) c.args.seed c.args.name.now) (g.S.Stage.standing c.args.stage.now)) tells
+    stands_in_parts g.S.Stage g.met.S.Stage.only_now g.met.S.Stage.counts_now g.met.S.Stage.may_stay g.met.S.Stage.files_hold _ _ c.args.name.now _ tells
     (c.attach.ensures.serves.tells.0 tells) (returns-in-Err-clause-any_moment g c tells X answers empty)
 
 pub returns-then-at-ne0-clause-stands : goal.returns-then-at-ne0-clause-stands
 returns-then-at-ne0-clause-stands g c = λ tells X answers empty.
-    stands_in_parts g.S.Stage g.met.S.Stage.only_now g.met.S.Stage.counts_now g.met.S.Stage.may_stay g.met.S.Stage.files_hold
-    c.args.stage.now c.attach.new.stage c.args.name.now
-    (InNewSession (session_begun (story_of (g.T.Tables.game c.args.tables.now) X) c.args.seed c.args.name.now) (g.S.Stage.standing c.args.stage.now)) tells
+    stands_in_parts g.S.Stage g.met.S.Stage.only_now g.met.S.Stage.counts_now g.met.S.Stage.may_stay g.met.S.Stage.files_hold _ _ c.args.name.now _ tells
     (c.attach.ensures.serves.tells.0 tells) (returns-then-at-ne0-clause-any_moment g c tells X answers empty)
 
 pub returns-clause-stands : goal.returns-clause-stands
 returns-clause-stands g c = λ tells X answers empty.
-    stands_in_parts g.S.Stage g.met.S.Stage.only_now g.met.S.Stage.counts_now g.met.S.Stage.may_stay g.met.S.Stage.files_hold
-    c.args.stage.now c.play_in.new.stage c.args.name.now
-    (InNewSession (session_begun (story_of (g.T.Tables.game c.args.tables.now) X) c.args.seed c.args.name.now) (g.S.Stage.standing c.args.stage.now)) tells
+    stands_in_parts g.S.Stage g.met.S.Stage.only_now g.met.S.Stage.counts_now g.met.S.Stage.may_stay g.met.S.Stage.files_hold _ _ c.args.name.now _ tells
     (c.play_in.ensures.serves.tells.0 (c.attach.ensures.serves.tells.0 tells)) (returns-clause-any_moment g c tells X answers empty)
 
 pub returns-in-Err-clause-serves : goal.returns-in-Err-clause-serves

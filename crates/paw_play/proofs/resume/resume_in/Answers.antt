@@ -1,34 +1,13 @@
-use Rattle.paw_journal.specs.Session.{kept_digests}
-use Rattle.paw_play.specs.Played.{PlayedSession, from_state}
-use Rattle.std.proofs.Common.{◌∙◌, [], ◌∷◌, inl, inr, sym, ap, subst}
-use Rattle.sha2.specs.Sha256.{sha256}
-use Rattle.paw_game.specs.Game.{GameLists}
-use Rattle.paw_game.specs.Image.{image}
-use Rattle.paw_game.specs.Valid.{Valid}
-use Rattle.paw_stage.specs.Stage.{Standing}
+use Rattle.paw_play.proofs.Names.{Standing, kept_digests, PlayedSession, from_state, ◌∙◌, [], ◌∷◌, inl, inr, sym, subst, Valid, Passes_map, Passes_on, Passes_none, AreAnswersOf, Story, story_of, behind, serves_among, serves_then, the_only_one, play_calls, InPlay, store_bytes, attached_to, without_memory, call_of_end, Ok, Err, GameLists, IsPlaying, ResumesTo}
 use Rattle.paw_stage.specs.declared.StageCall.TheVariants as call
-use Rattle.paw_stage.proofs.Time.{Passes_map, Passes_on, Passes_none}
-use Rattle.paw_routines.specs.Routines.{AreAnswersOf, HaveAnswers}
-use Rattle.paw_effects.specs.Story.{Story, story_of}
-use Rattle.paw_journal.proofs.Serving.{behind, serves_among, serves_then, the_only_one}
-use Rattle.paw_play.specs.Calls.{play_calls}
-use Rattle.paw_play.specs.Keeping.{InPlay}
-use Rattle.paw_play.specs.Play.{store_bytes, attached_to, without_memory}
-use Rattle.paw_play.specs.inner.Calls.{call_of_end}
-use Rattle.std.specs.Prelude.{Ok, Err}
-use Rattle.paw_play.specs.inner.Open.{ResumesTo}
-use Rattle.paw_play.specs.inner.OnTheWay.{IsPlaying}
 use Rattle.paw_play.proofs.Again.{not_again, opens_again, plays_again, in_again, in_search}
 use Rattle.paw_play.proofs.resume.resume_in.Goals as goal
 
 pub resume-requires-clause-player : goal.resume-requires-clause-player
 resume-requires-clause-player g c = record {
   seated = c.in-Ok.ensures.seated;
-  answers = subst (HaveAnswers g.F.Fn) (sym c.in-Ok.ensures.routines) c.requires.answers;
-  digests = record {
-    digest = c.requires.game ∙ sym (ap (λ h. sha256 (image h)) c.in-Ok.ensures.game);
-    measured = λ X answers. c.measure.ensures.value X (subst (λ r. AreAnswersOf g.F.Fn r X) c.in-Ok.ensures.routines answers);
-  };
+  answers = rw c.in-Ok.ensures.routines c.requires.answers;
+  digests = rw (c.in-Ok.ensures.game, c.in-Ok.ensures.routines) (record { digest = c.requires.game; measured = c.measure.ensures.value });
 }
 
 pub play_lines-requires-clause-kept : goal.play_lines-requires-clause-kept

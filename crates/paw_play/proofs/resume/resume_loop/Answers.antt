@@ -1,16 +1,6 @@
-use Rattle.std.proofs.Common.{[], ◌∷◌, refl}
-use Rattle.paw_stage.specs.Stage.{Standing}
+use Rattle.paw_play.proofs.Names.{[], ◌∷◌, refl, Story, story_of, in_front, serves_among, serves_then, the_only_one, play_calls, unattached, call_of_end}
 use Rattle.paw_stage.specs.declared.StageCall.TheVariants as call
-use Rattle.paw_effects.specs.Story.{Story, story_of}
-use Rattle.paw_journal.proofs.Serving.{in_front, serves_among, serves_then, the_only_one}
-use Rattle.paw_play.specs.Calls.{play_calls}
-use Rattle.paw_play.specs.Keeping.{InPlay}
-use Rattle.paw_play.specs.Play.{unattached}
-use Rattle.paw_play.specs.inner.Calls.{call_of_end}
-use Rattle.paw_play.proofs.Again.{in_search}
-use Rattle.paw_play.proofs.Failing.{stands_in_parts}
-use Rattle.paw_play.proofs.Parts.{attach_failed, then_attached}
-use Rattle.paw_play.proofs.Standing.{again_goes_on}
+use Rattle.paw_play.proofs.{Again.in_search, Failing.stands_in_parts, Parts.attach_failed, Parts.then_attached, Standing.again_goes_on}
 use Rattle.paw_play.proofs.resume.resume_loop.Goals as goal
 
 pub resume_in-requires-clause-attached : goal.resume_in-requires-clause-attached
@@ -43,27 +33,23 @@ returns-in-Err-clause-any_moment g c = λ tells X answers s from.
 pub returns-clause-any_moment : goal.returns-clause-any_moment
 returns-clause-any_moment g c = λ tells X answers s from.
     let story : Story = story_of (g.T.Tables.game c.args.tables.now) X in
-    let old : Standing = g.S.Stage.standing c.args.stage.now in
-    let mid : Standing = g.S.Stage.standing c.attach.new.stage in
     let name = c.args.name.now in
     let now = c.attach.ensures.serves.tells.0 tells in
     let is = (c.in-Ok.ensures.attached tells).1 in
-    then_attached g.S.Stage g.met.S.Stage.only_now g.met.S.Stage.counts_now c.args.stage.now c.attach.new.stage c.resume_in.new.stage name (InPlay s old) now
-    (in_search story name old mid s c.counts-counts.ensures.valid from is mid refl) (c.in-Ok.ensures.time tells)
-    ((c.resume_in.ensures.promises now X answers old name is).1 s from)
+    then_attached g.S.Stage g.met.S.Stage.only_now g.met.S.Stage.counts_now _ _ _ name _ now
+    (in_search story name _ _ s c.counts-counts.ensures.valid from is _ refl) (c.in-Ok.ensures.time tells)
+    ((c.resume_in.ensures.promises now X answers _ name is).1 s from)
 
 -- ---- what stands at the end ----
 
 pub returns-in-Err-clause-stands : goal.returns-in-Err-clause-stands
 returns-in-Err-clause-stands g c = λ tells X answers s from.
-    stands_in_parts g.S.Stage g.met.S.Stage.only_now g.met.S.Stage.counts_now g.met.S.Stage.may_stay g.met.S.Stage.files_hold
-    c.args.stage.now c.attach.new.stage c.args.name.now (InPlay s (g.S.Stage.standing c.args.stage.now)) tells
+    stands_in_parts g.S.Stage g.met.S.Stage.only_now g.met.S.Stage.counts_now g.met.S.Stage.may_stay g.met.S.Stage.files_hold _ _ c.args.name.now _ tells
     (c.attach.ensures.serves.tells.0 tells) (returns-in-Err-clause-any_moment g c tells X answers s from)
 
 pub returns-clause-stands : goal.returns-clause-stands
 returns-clause-stands g c = λ tells X answers s from.
-    stands_in_parts g.S.Stage g.met.S.Stage.only_now g.met.S.Stage.counts_now g.met.S.Stage.may_stay g.met.S.Stage.files_hold
-    c.args.stage.now c.resume_in.new.stage c.args.name.now (InPlay s (g.S.Stage.standing c.args.stage.now)) tells
+    stands_in_parts g.S.Stage g.met.S.Stage.only_now g.met.S.Stage.counts_now g.met.S.Stage.may_stay g.met.S.Stage.files_hold _ _ c.args.name.now _ tells
     (c.resume_in.ensures.serves.tells.0 (c.attach.ensures.serves.tells.0 tells)) (returns-clause-any_moment g c tells X answers s from)
 
 pub returns-in-Err-clause-serves : goal.returns-in-Err-clause-serves

@@ -1,8 +1,4 @@
-use Rattle.std.proofs.Common.{◌≡◌}
-use Rattle.std.specs.Prelude.{Result, Ok, Err, OnOk, OnErr}
-use Rattle.paw_base.specs.Bytes.{Text}
-use Rattle.paw_stage.specs.declared.Failed.{Failed}
-use Rattle.paw_stage.specs.Stage.{Standing, ShowsTo, InShow, with_shown}
+use Rattle.paw_play.proofs.Names.{◌≡◌, Result, Ok, Err, OnOk, OnErr, Text, Standing, ShowsTo, InShow, with_shown, Failed}
 use Rattle.paw_play.proofs.show.show.Goals as goal
 
 -- What a show that was done leaves, and one that failed.

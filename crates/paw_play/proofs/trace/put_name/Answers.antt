@@ -1,6 +1,4 @@
-use Rattle.std.proofs.Common.{sym, subst}
-use Rattle.paw_base.specs.Bytes.{Text}
-use Rattle.paw_base.specs.inner.Piece.{Puts}
+use Rattle.paw_play.proofs.Names.{sym, subst, Text, Puts}
 use Rattle.paw_play.proofs.Lines.{no_name}
 use Rattle.paw_play.proofs.trace.put_name.Goals as goal
 

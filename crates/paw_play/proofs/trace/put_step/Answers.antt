@@ -1,5 +1,4 @@
-use Rattle.std.proofs.Common.{◌≡◌, ◌++◌, length, arith, ap, ◌∙◌, length-append}
-use Rattle.paw_play.specs.Traces.{step_line}
+use Rattle.paw_play.proofs.Names.{◌≡◌, ◌++◌, length, arith, ap, ◌∙◌, length-append, step_line}
 use Rattle.paw_play.proofs.Lines.{put_whole}
 use Rattle.paw_play.proofs.trace.put_step.Goals as goal
 

@@ -1,5 +1,4 @@
-use Rattle.std.proofs.lemmas.List.{take_min}
-use Rattle.paw_base.specs.declared.limits.TheConstants.{STEP_LIMIT}
+use Rattle.paw_play.proofs.Names.{take_min, STEP_LIMIT}
 use Rattle.paw_play.proofs.trace.steps_to_show.Goals as goal
 
 pub returns-clause-value : goal.returns-clause-value

@@ -1,9 +1,4 @@
-use Rattle.std.proofs.Common.{◌≡◌, ℕ, List, ◌+◌, ◌≤◌, ◌++◌, length, take, arith, ap, ◌∙◌}
-use Rattle.std.specs.Prelude.{◌-◌, flat_map}
-use Rattle.std.proofs.lemmas.List.{take_all}
-use Rattle.paw_base.specs.declared.limits.TheConstants.{STEP_LIMIT, PIECE_LIMIT}
-use Rattle.paw_reading.specs.Run.{StepRow}
-use Rattle.paw_play.specs.Traces.{step_line, more_line}
+use Rattle.paw_play.proofs.Names.{◌≡◌, ℕ, List, ◌+◌, ◌≤◌, ◌++◌, length, take, arith, ap, ◌∙◌, ◌-◌, flat_map, take_all, STEP_LIMIT, PIECE_LIMIT, StepRow, step_line, more_line}
 use Rattle.paw_play.proofs.Lines.{put_whole, more_short}
 use Rattle.paw_play.proofs.trace.write_steps.Goals as goal
 

@@ -1,6 +1,4 @@
-use Rattle.std.proofs.Common.{◌≡◌, ◌*◌, ◌≤◌, length, take}
-use Rattle.std.specs.Prelude.{flat_map}
-use Rattle.paw_play.specs.Traces.{step_line}
+use Rattle.paw_play.proofs.Names.{◌≡◌, ◌*◌, ◌≤◌, length, take, flat_map, step_line}
 use Rattle.paw_play.proofs.trace.write_steps.Given as goal
 
 -- The lines so far, each of at most 27 bytes.

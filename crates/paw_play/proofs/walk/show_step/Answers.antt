@@ -1,4 +1,4 @@
-use Rattle.paw_journal.proofs.Serving.{serves_none}
+use Rattle.paw_play.proofs.Names.{serves_none}
 use Rattle.paw_play.proofs.walk.show_step.Goals as goal
 
 pub returns-in-Some-clause-serves : goal.returns-in-Some-clause-serves

@@ -1,14 +1,4 @@
-use Rattle.std.proofs.Common.{◌≡◌, ◌+◌, ◌*◌, ◌≤◌, None}
-use Rattle.paw_base.specs.Bytes.{RoutineAnswers}
-use Rattle.paw_base.specs.declared.limits.TheConstants.{READ_LIMIT}
-use Rattle.paw_stage.specs.Stage.{Standing}
-use Rattle.paw_stage.specs.AcrossCalls.{FailsOnlyBy}
-use Rattle.paw_turn.specs.inner.Player.{IsSeated}
-use Rattle.paw_play.specs.Calls.{walk_calls}
-use Rattle.paw_play.specs.Walk.{EndingOf}
-use Rattle.paw_play.specs.inner.OnTheWay.{IsWalking}
-use Rattle.paw_routines.specs.Routines.{AreAnswersOf, HaveAnswers}
-use Rattle.paw_effects.specs.Story.{story_of}
+use Rattle.paw_play.proofs.Names.{◌≡◌, ◌+◌, ◌*◌, ◌≤◌, None, RoutineAnswers, READ_LIMIT, Standing, FailsOnlyBy, IsSeated, walk_calls, EndingOf, IsWalking, AreAnswersOf, HaveAnswers, story_of}
 use Rattle.paw_play.proofs.walk.walk_lines.Given as goal
 
 -- This number of lines was taken.

@@ -1,14 +1,5 @@
-use Rattle.std.proofs.Common.{◌∙◌, Some, None, sym, subst}
-use Rattle.paw_base.specs.declared.limits.TheConstants.{EVENT_LIMIT}
-use Rattle.paw_routines.specs.Routines.{AreAnswersOf, HaveAnswers}
-use Rattle.paw_reading.specs.Turn.{reading}
-use Rattle.paw_play.specs.Walk.{Walks}
-use Rattle.paw_play.specs.inner.ShowSteps.{with_shown_steps, NotesShown}
-use Rattle.paw_play.specs.inner.OnTheWay.{IsWalking}
+use Rattle.paw_play.proofs.Names.{◌∙◌, Some, None, sym, subst, EVENT_LIMIT, AreAnswersOf, HaveAnswers, NotesShown, serves_then, story_of, call_of_end, reading, Walks, IsWalking, with_shown_steps}
 use Rattle.paw_play.proofs.Walking.{walk_starts}
-use Rattle.paw_journal.proofs.Serving.{serves_then}
-use Rattle.paw_effects.specs.Story.{story_of}
-use Rattle.paw_play.specs.inner.Calls.{call_of_end}
 use Rattle.paw_play.proofs.walk.walk_loop.Goals as goal
 
 pub start-step-requires-clause-answers : goal.start-step-requires-clause-answers
@@ -22,11 +13,9 @@ pub returns-in-Some-clause-walks : goal.returns-in-Some-clause-walks
 returns-in-Some-clause-walks g c = λ tells X answers.
     let own = subst (λ r. AreAnswersOf g.F.Fn r X) (sym c.in-Ok-player.ensures.routines) answers in
     let keeps = subst (NotesShown g.P.Preface.showing) (sym c.start-step.ensures.most) c.in-Ok-player.ensures.keeps in
-    subst (λ k. Walks (with_shown_steps g.P.Preface.showing (reading (story_of k X) c.args.seed)) EVENT_LIMIT (g.S.Stage.standing c.args.stage.now)
-    (g.S.Stage.standing c.show_step.new.stage) c.in-Some.end) c.in-Ok-player.ensures.game
-    (walk_starts g.P.Preface.showing (story_of c.in-Ok-player.player.game X) c.args.seed EVENT_LIMIT _ _ c.in-Ok-player.player
-    c.start-step.new.self c.start-step.result (Some c.in-Some.end) c.in-Ok-player.ensures.new keeps c.start-step.ensures.seated
-    c.start-step.ensures.last (c.start-step.ensures.meaning X own) (c.in-Some.ensures.meaning tells))
+    rw c.in-Ok-player.ensures.game at (walk_starts g.P.Preface.showing (story_of c.in-Ok-player.player.game X) c.args.seed EVENT_LIMIT _ _
+    c.in-Ok-player.player c.start-step.new.self c.start-step.result (Some c.in-Some.end) c.in-Ok-player.ensures.new keeps
+    c.start-step.ensures.seated c.start-step.ensures.last (c.start-step.ensures.meaning X own) (c.in-Some.ensures.meaning tells))
 
 pub returns-clause-walks : goal.returns-clause-walks
 returns-clause-walks g c = λ tells X answers.
