@@ -1,31 +1,7 @@
 -- Each plays as if alone.
-use Rattle.std.proofs.Common.{◌≡◌, ◌⊎◌, inl, inr, suc, ◌+◌, ◌≤◌, List, [], ◌∷◌, ◌++◌, Option, Some, None, Bool, true}
-use Rattle.std.proofs.Common.{false}
-use Rattle.std.proofs.Common.{refl, sym, ap, ◌∙◌, subst, length, map, nat_le, arith, append_assoc}
-use Rattle.std.specs.Prelude.{codes, if◌then◌else◌}
-use Rattle.std.specs.Str.{bytes_eq}
-use Rattle.std.proofs.lemmas.List.{append-nil, length-append}
-use Rattle.std.proofs.lemmas.Slice.Eq.{bytes_eq-Decides}
-use Rattle.paw_base.specs.Bytes.{Lines, Text, Texts, Name, Seed}
-use Rattle.paw_base.specs.declared.limits.TheConstants.{EVENT_LIMIT}
-use Rattle.paw_effects.specs.Story.{Story}
-use Rattle.paw_effects.specs.declared.act.Prompt.{Prompt}
-use Rattle.paw_reading.specs.declared.frames.Frame.{Frame}
-use Rattle.paw_reading.specs.Run.{Run, StepRow}
+use Rattle.paw_host.proofs.Cited.{◌≡◌, inl, inr, suc, ◌+◌, ◌≤◌, List, [], ◌∷◌, ◌++◌, Option, Some, None, refl, sym, ap, ◌∙◌, subst, length, map, arith, append_assoc, if◌then◌else◌, append-nil, length-append, Lines, Text, Texts, Name, Seed, Story, Prompt, Frame, Run, StepRow, Ending, WaitsAt, Halted, Unended, reading, pieces_of, ending_followed, ending_with_past, goes_on_with, Counted, pieces_of_lines, going_on_is_reading, longer_reading, last_piece, Request, request_of, Absent, At, Sessions, Answer, gone_on, sessions_with, asked_first, answered_first, EachPlaysAlone, PiecesAreAnswered, asked_of, answered_to, session_after, answers_of, answer, sessions_after}
 use Rattle.paw_reading.specs.declared.halt.Halt.TheVariants as halt
-use Rattle.paw_reading.specs.Turn.{Ending, WaitsAt, Halted, Unended, reading, pieces_of}
-use Rattle.paw_reading.specs.inner.Turn.{ending_followed}
-use Rattle.paw_reading.specs.inner.Longer.{ending_with_past, goes_on_with}
-use Rattle.paw_reading.specs.inner.Pieces.{Counted}
-use Rattle.paw_reading.proofs.Counts.{pieces_of_lines}
-use Rattle.paw_reading.proofs.Followed.{going_on_is_reading}
-use Rattle.paw_reading.proofs.Past.{longer_reading}
-use Rattle.paw_state.specs.State.{last_piece}
-use Rattle.paw_host.specs.Names.{Request, request_of}
-use Rattle.paw_host.specs.Replies.{Absent, At, Sessions, Answer, gone_on, answer, is_over, sessions_with}
-use Rattle.paw_host.specs.Replies.{sessions_after}
-use Rattle.paw_host.specs.Laws.{asked_first, asked_of, answered_first, answered_to, session_after, answers_of}
-use Rattle.paw_host.specs.Laws.{EachPlaysAlone, PiecesAreAnswered}
+use Rattle.paw_host.proofs.{Named.by_name, Texts.StaysOrGoes, Texts.line_goes}
 
 -- ---- one name among others ----
 
@@ -34,13 +10,9 @@ session_first : (g : Story) (seed : Seed) (sessions : Sessions) (name : Name) (o
 unfolding session_after
 session_first g seed sessions name None later = refl
 session_first g seed sessions name (Some r) later =
-    elim (bytes_eq name r.name) as (λ b. bytes_eq name r.name ≡ b →
-    session_after g seed (if b then (answer g seed (sessions r.name) r.text).session else sessions name) later
-    ≡ session_after g seed (sessions name) (if b then r.text ∷ later else later)) [
-      | true ↦ λ t. let same : name ≡ r.name = (bytes_eq-Decides name r.name).0 t in
-          ap (λ n. session_after g seed (answer g seed (sessions n) r.text).session later) (sym same)
-      | false ↦ λ t. refl
-    ] refl
+    by_name (λ b. session_after g seed (if b then (answer g seed (sessions r.name) r.text).session else sessions name) later
+    ≡ session_after g seed (sessions name) (if b then r.text ∷ later else later)) name r.name
+    (λ same. ap (λ n. session_after g seed (answer g seed (sessions n) r.text).session later) (sym same)) (λ other. refl)
 
 session_alone : (g : Story) (seed : Seed) (sessions : Sessions) (name : Name) (lines : Lines) →
     sessions_after g seed sessions lines name ≡ session_after g seed (sessions name) (asked_of name lines)
@@ -56,15 +28,12 @@ answers_first : (g : Story) (seed : Seed) (sessions : Sessions) (name : Name) (o
 unfolding answers_of
 answers_first g seed sessions name None later = refl
 answers_first g seed sessions name (Some r) later =
-    elim (bytes_eq name r.name) as (λ b. bytes_eq name r.name ≡ b →
-    (if b then (answer g seed (sessions r.name) r.text).body ∷ answers_of g seed
+    by_name (λ b. (if b then (answer g seed (sessions r.name) r.text).body ∷ answers_of g seed
     (if b then (answer g seed (sessions r.name) r.text).session else sessions name) later
     else answers_of g seed (if b then (answer g seed (sessions r.name) r.text).session else sessions name) later)
-    ≡ answers_of g seed (sessions name) (if b then r.text ∷ later else later)) [
-      | true ↦ λ t. let same : name ≡ r.name = (bytes_eq-Decides name r.name).0 t in
-          ap (λ n. (answer g seed (sessions n) r.text).body ∷ answers_of g seed (answer g seed (sessions n) r.text).session later) (sym same)
-      | false ↦ λ t. refl
-    ] refl
+    ≡ answers_of g seed (sessions name) (if b then r.text ∷ later else later)) name r.name
+    (λ same. ap (λ n. (answer g seed (sessions n) r.text).body ∷ answers_of g seed (answer g seed (sessions n) r.text).session later) (sym same))
+    (λ other. refl)
 
 answers_alone : (g : Story) (seed : Seed) (sessions : Sessions) (name : Name) (lines : Lines) →
     answered_to g seed sessions name lines ≡ answers_of g seed (sessions name) (asked_of name lines)
@@ -137,26 +106,11 @@ one_more g seed es text p q path at r s h k =
 
 -- ---- texts that were all taken ----
 
-taken_by : (seed : Seed) (es : Lines) (text : Text) (e : Ending) (over full : Bool) →
-    ((if over then record { body = codes "over"; session = At seed es } else if full then record { body = codes "full"; session = At seed es }
-    else gone_on (At seed es) (At seed (es ++ text ∷ [])) e).session ≡ At seed es)
-    ⊎ (◌≡◌ {A = Answer} (if over then record { body = codes "over"; session = At seed es }
-    else if full then record { body = codes "full"; session = At seed es }
-    else gone_on (At seed es) (At seed (es ++ text ∷ [])) e) (record { body = last_piece (pieces_of e); session = At seed (es ++ text ∷ []) }))
-taken_by seed es text e true full = inl refl
-taken_by seed es text e false true = inl refl
-taken_by seed es text (WaitsAt p path r) false false = inr refl
-taken_by seed es text (Halted halt.Over r) false false = inr refl
-taken_by seed es text (Halted (halt.Spent kind) r) false false = inl refl
-taken_by seed es text (Halted (halt.TooDeep table) r) false false = inl refl
-taken_by seed es text Unended false false = inr refl
-
 -- A text isn't taken, or its piece is the answer.
-answered_by : (g : Story) (seed : Seed) (es : Lines) (text : Text) → ((answer g seed (At seed es) (Some text)).session ≡ At seed es)
-    ⊎ (answer g seed (At seed es) (Some text)
-    ≡ record { body = last_piece (pieces_of (reading g seed (es ++ text ∷ []))); session = At seed (es ++ text ∷ []) })
+answered_by : (g : Story) (seed : Seed) (es : Lines) (text : Text) → StaysOrGoes (At seed es) (At seed (es ++ text ∷ []))
+    (last_piece (pieces_of (reading g seed (es ++ text ∷ [])))) (answer g seed (At seed es) (Some text))
 unfolding answer
-answered_by g seed es text = taken_by seed es text (reading g seed (es ++ text ∷ [])) (is_over (reading g seed es)) (nat_le EVENT_LIMIT (length es))
+answered_by g seed es text = line_goes g seed es text
 
 same_lines : (seed : Seed) (es fs : Lines) → At seed es ≡ At seed fs → es ≡ fs
 same_lines seed es fs h = cc

@@ -1,24 +1,6 @@
 -- Hosting that is begun again after a crash.
-use Rattle.std.proofs.Common.{◌≡◌, ◌⊎◌, inl, inr, ℕ, zero, suc, ◌<◌, ◌^◌, Some, [], ◌∷◌, Bool, true, false, refl}
-use Rattle.std.proofs.Common.{take}
-use Rattle.std.specs.Prelude.{All}
-use Rattle.std.proofs.lemmas.List.Elements.{All-nil, All-head, All-tail, All-take}
-use Rattle.paw_base.specs.Bytes.{Bytes, Lines, Text, Name, Seed}
-use Rattle.paw_effects.specs.Story.{Story}
-use Rattle.paw_effects.specs.Standing.{AreBytes}
-use Rattle.paw_reading.specs.Bounds.{IsLine, ValidStory}
-use Rattle.paw_stage.specs.Stage.{file_bytes}
-use Rattle.paw_stage.specs.Stage.{Standing}
-use Rattle.paw_journal.specs.Session.{IsUnmade, recover}
-use Rattle.paw_host.specs.Names.{request_of, is_name, store_name}
-use Rattle.paw_host.specs.Replies.{NamedSession, Absent, At, From, Refused, Sessions, sessions_with, sessions_after}
-use Rattle.paw_host.specs.Promise.{Stores, MayBe, EachLeft, LeftOfMaking, IsUpToDate}
-use Rattle.paw_host.specs.Laws.{before_last, AfterCrash, as_before, as_after, at_no_lines, half_made, MayBeBegunAgain}
-use Rattle.paw_host.specs.Laws.{NoFileIsLeftOut}
-use Rattle.paw_host.specs.inner.Lines.{AllMay}
-use Rattle.paw_host.proofs.Continuing.{all_may}
-use Rattle.paw_host.proofs.Hosting.{asks_line}
-use Rattle.paw_host.proofs.Reaching.{not_shown}
+use Rattle.paw_host.proofs.Cited.{◌≡◌, ◌⊎◌, inl, inr, ℕ, zero, suc, ◌<◌, ◌^◌, Some, [], ◌∷◌, Bool, true, false, refl, take, All, All-nil, All-head, All-tail, All-take, Bytes, Lines, Text, Name, Seed, Story, AreBytes, IsLine, ValidStory, file_bytes, Standing, IsUnmade, recover, request_of, is_name, store_name, NamedSession, Absent, At, From, Refused, Sessions, sessions_with, Stores, MayBe, EachLeft, LeftOfMaking, IsUpToDate, before_last, AfterCrash, as_before, as_after, at_no_lines, half_made, MayBeBegunAgain, NoFileIsLeftOut, AllMay, sessions_after}
+use Rattle.paw_host.proofs.{Continuing.all_may, Hosting.asks_line, Reaching.not_shown}
 
 -- Whatever lines were taken, each session may be.
 may_after : (g : Story) (seed : Seed) (first : Sessions) (lines : Lines) → ValidStory g → seed < 2 ^ 64 → All AreBytes lines → AllMay g first →
@@ -57,12 +39,8 @@ in_making : (g : Story) (seed : Seed) (before after : NamedSession) (bytes : Byt
 in_making g seed Absent (At own lines) bytes valid small (inl h) = half g seed own lines bytes h
 in_making g seed Absent (At own lines) bytes valid small (inr h) =
     (At seed [], (record { valid = valid; fits = small; lines = All-nil IsLine }, h, at_no_lines refl tt))
-in_making g seed Absent Absent bytes valid small h = absurd h
-in_making g seed Absent (Refused kept) bytes valid small h = absurd h
-in_making g seed Absent (From st piece) bytes valid small h = absurd h
-in_making g seed (At own lines) after bytes valid small h = absurd h
-in_making g seed (From st piece) after bytes valid small h = absurd h
-in_making g seed (Refused kept) after bytes valid small h = absurd h
+in_making g seed Absent _ bytes valid small h = absurd h
+in_making g seed _ after bytes valid small h = absurd h
 
 found : (g : Story) (seed : Seed) (before after : NamedSession) (bytes : Bytes) (Attached : Type 0) → ValidStory g → seed < 2 ^ 64 → MayBe g before →
     MayBe g after →

@@ -1,29 +1,7 @@
 -- Answers of a session that was kept.
-use Rattle.std.proofs.Common.{◌≡◌, inl, ◌<◌, [], ◌++◌, refl, sym, ap, ◌∙◌, subst, length, arith, Option, None}
-use Rattle.std.specs.Prelude.{codes, Ok, Err}
-use Rattle.paw_base.specs.Bytes.{Bytes, Text, Seed}
-use Rattle.paw_game.specs.Valid.{Valid}
-use Rattle.paw_effects.specs.Story.{Story}
-use Rattle.paw_reading.specs.Turn.{pieces_of}
-use Rattle.paw_stage.specs.Disk.{IsStable}
-use Rattle.paw_stage.specs.Stage.{Standing}
-use Rattle.paw_turn.specs.inner.Player.{PlayerView}
-use Rattle.paw_journal.specs.Session.{recover}
-use Rattle.paw_journal.proofs.Disks.{stable_leaves}
-use Rattle.paw_state.specs.State.{last_piece}
-use Rattle.paw_play.specs.declared.PlayEnd.{PlayEnd}
+use Rattle.paw_host.proofs.Cited.{◌≡◌, inl, ◌<◌, [], ◌++◌, refl, sym, ap, ◌∙◌, subst, length, arith, Option, None, codes, Ok, Err, Bytes, Text, Seed, Valid, Story, pieces_of, IsStable, EachMoment, Ghosts, StageCall, Passes_map, PlayerView, recover, ReadsStore, stable_leaves, last_piece, PlayEnd, OpenSession, ShowsSome, PlayedSession, from_shown, from_played, from_lines, from_state, call_of_end, IsOpen, ResumesTo, open_from, refuses_none, NamedSession, Absent, At, From, Refused, Stores, MayBe, IsPlayedAs, after_lines, after_state, end_word, TakesTexts, Answers, InFile, StoresEither, answer}
 use Rattle.paw_play.specs.declared.PlayEnd.TheVariants as end
-use Rattle.paw_play.specs.declared.open.OpenSession.{OpenSession}
-use Rattle.paw_play.specs.Laws.{ShowsSome}
-use Rattle.paw_play.specs.Played.{PlayedSession, from_shown, from_played, from_lines, from_state}
-use Rattle.paw_play.specs.inner.Calls.{call_of_end}
-use Rattle.paw_play.specs.inner.Open.{IsOpen, ResumesTo}
-use Rattle.paw_play.proofs.Standing.{open_from, refuses_none}
-use Rattle.paw_host.specs.Replies.{NamedSession, Absent, At, From, Refused, answer}
-use Rattle.paw_host.specs.Promise.{Stores, MayBe}
-use Rattle.paw_host.specs.inner.Answers.{IsPlayedAs, after_lines, after_state, end_word, TakesTexts, Answers, InFile, StoresEither}
-use Rattle.paw_host.proofs.Played.{piece_shown, same_piece, takes_texts}
-use Rattle.paw_host.proofs.Reaching.{not_shown, unmade}
+use Rattle.paw_host.proofs.{Played.piece_shown, Played.same_piece, Played.takes_texts, Reaching.not_shown, Reaching.unmade}
 
 -- ---- a session that is resumed ----
 
@@ -80,14 +58,16 @@ kept_told {g} {a} {s} {piece} {bytes} plays opened seed old new stores grown =
     told (From st q) is kept = record { body = last (same_piece _ _ _ _ _ _ (sym opened.keeps.shown ∙ kept.shows.shown)); stores = kept }
     told _ is kept = absurd is
 
--- While nothing is written.
-pub still_in_file : (g : Story) (before after : NamedSession) (old m : Standing) → IsStable old.disk → Stores g before old.disk.bytes → m
-    ≡ old →
-    InFile (StoresEither g before after) old m
-still_in_file g before after old m settled stores e = subst (InFile (StoresEither g before after) old) (sym e) (record {
-  asked = refl;
-  shown = refl;
-  attached = refl;
-  files = λ n other. refl;
-  disk = λ left may. inl (subst (Stores g before) (sym (stable_leaves old.disk left settled may)) stores);
-})
+-- While it is read.
+pub in_reading : {S : Type 0} {stage : Ghosts S} {failed : Option StageCall} {old new : S} (g : Story) (before after : NamedSession) →
+    ReadsStore stage failed old new → stage.Tells old → IsStable (stage.standing old).disk → Stores g before (stage.standing old).disk.bytes →
+    EachMoment stage old new (InFile (StoresEither g before after) (stage.standing old))
+in_reading {stage} {old} g before after reads tells settled stores =
+    Passes_map _ _ _ _ _ (InFile (StoresEither g before after) (stage.standing old)) (reads.crash tells)
+    (λ m e. subst (InFile (StoresEither g before after) (stage.standing old)) (sym e) (record {
+      asked = refl;
+      shown = refl;
+      attached = refl;
+      files = λ n other. refl;
+      disk = λ left may. inl (subst (Stores g before) (sym (stable_leaves (stage.standing old).disk left settled may)) stores);
+    }))

@@ -1,35 +1,14 @@
 -- What calls in a row did to the stage, and in which state the store is after them.
-use Rattle.std.proofs.Common.{◌≡◌, ◌+◌, ◌++◌, ◌∙◌, List, ◌∷◌, [], Option, None, Result, refl, ap, length, length-append}
-use Rattle.std.proofs.lemmas.Result.{on_ok_weaker}
-use Rattle.std.specs.Prelude.{OnOk, Ok, Err}
-use Rattle.paw_base.specs.Bytes.{Name, Text}
-use Rattle.paw_stage.specs.declared.Stage.{Ghosts}
-use Rattle.paw_stage.specs.declared.StageCall.{StageCall}
+use Rattle.paw_host.proofs.Cited.{◌≡◌, ◌+◌, ◌++◌, ◌∙◌, List, ◌∷◌, [], Option, None, Result, refl, ap, length, length-append, on_ok_weaker, OnOk, Ok, Err, Name, Text, Ghosts, StageCall, EachMoment, IsOneOf, FailsOnlyBy, Passes_map, Passes_on, DoneWithMoments, Standing, with_store_opened, writing_calls, IsAtRest, failed_stage_call, ChangesStoreOnly, ReadsStore, beside_same, in_front, serves_among, serves_then, IsAside, answer_calls, IsAttachedStable, LeavesStage}
 use Rattle.paw_stage.specs.declared.StageCall.TheVariants as call
-use Rattle.paw_stage.specs.AcrossCalls.{IsOneOf, FailsOnlyBy}
-use Rattle.paw_stage.specs.Stage.{Standing, with_store_opened}
-use Rattle.paw_journal.specs.Journal.{writing_calls}
-use Rattle.paw_journal.specs.inner.Journal.{IsAtRest, failed_stage_call}
-use Rattle.paw_journal.specs.inner.Store.{ChangesStoreOnly}
-use Rattle.paw_journal.specs.inner.Calls.{ReadsStore}
-use Rattle.paw_journal.proofs.Moved.{beside_none, beside_same}
-use Rattle.paw_journal.proofs.Serving.{serves_among, serves_none, serves_then}
-use Rattle.paw_host.specs.inner.Answers.{IsAside, answer_calls}
-use Rattle.paw_host.specs.inner.Store.{IsAttachedStable, LeavesStage}
-use Rattle.paw_host.proofs.Calls.{reads_among}
 use Rattle.paw_host.proofs.Reaching.{attached_still, aside_beside}
-
--- Where nothing is called, the store is left as it was.
-pub leaves_none : {S : Type 0} (g : Ghosts S) (calls : List StageCall) (Left : Standing → Standing → Type 0) (s : S) →
-    (g.Tells s → Left (g.standing s) (g.standing s)) → LeavesStage g calls None ChangesStoreOnly Left s s
-leaves_none g calls Left s left = record { serves = serves_none g calls s; beside = λ tells. beside_none (g.standing s); left = left }
 
 -- Calls that read and change nothing are among those that may also write.
 pub leaves_read : {S : Type 0} (g : Ghosts S) (failed : Option StageCall) (Left : Standing → Standing → Type 0) (old new : S) →
     ReadsStore g failed old new → (g.Tells old → Left (g.standing old) (g.standing new)) →
     LeavesStage g (call.Read ∷ writing_calls) failed ChangesStoreOnly Left old new
 leaves_read g failed Left old new reads left = record {
-  serves = serves_among g (call.Read ∷ []) (call.Read ∷ writing_calls) failed old new reads_among reads.serves;
+  serves = serves_among g (call.Read ∷ []) (call.Read ∷ writing_calls) failed old new (in_front (call.Read ∷ []) writing_calls) reads.serves;
   beside = λ tells. beside_same (g.standing old) (g.standing new) (reads.still tells);
   left = left;
 }
@@ -57,6 +36,30 @@ pub on_ok_said : {A Said P : Type 0} (result : Result A StageCall) → OnOk resu
 on_ok_said (Ok a) said holds = holds refl said
 on_ok_said (Err c) said holds = tt
 
+pub on_ok_both : {A E P Q R : Type 0} (result : Result A E) → OnOk result P → OnOk result Q → (P → Q → R) → OnOk result R
+on_ok_both (Ok a) p q holds = holds p q
+on_ok_both (Err e) p q holds = tt
+
 -- The length of a text that has grown.
 pub grown_length : (before piece after : Text) → after ≡ before ++ piece → length after ≡ length before + length piece
 grown_length before piece after grown = ap length grown ∙ length-append before piece
+
+-- ---- calls in a row ----
+
+-- Calls none of which failed, and then others.
+pub serves_next : {S : Type 0} {g : Ghosts S} {first next calls : List StageCall} {failed : Option StageCall} {old mid new : S} →
+    FailsOnlyBy g first None old mid → FailsOnlyBy g next failed mid new → ((c : StageCall) → IsOneOf next c → IsOneOf calls c) →
+    FailsOnlyBy g calls failed old new
+serves_next a b among = serves_then _ _ _ _ _ _ _ a (serves_among _ _ _ _ _ _ among b)
+
+-- What calls promise, by less.
+pub promised : {S : Type 0} {g : Ghosts S} {old new : S} {Done Less : Type 0} {Inside Within : Standing → Type 0} →
+    DoneWithMoments g old new Done Inside → (Done → Less) → ((m : Standing) → Inside m → Within m) → DoneWithMoments g old new Less Within
+promised {Inside} {Within} h less within = record { meaning = less h.meaning; any_moment = Passes_map _ _ _ _ Inside Within h.any_moment within }
+
+-- What they promise after others.
+pub promised_after : {S : Type 0} {g : Ghosts S} {old mid new : S} {Done Less : Type 0} {Inside Within : Standing → Type 0} →
+    DoneWithMoments g mid new Done Inside → EachMoment g old mid Within → (Done → Less) → ((m : Standing) → Inside m → Within m) →
+    DoneWithMoments g old new Less Within
+promised_after {Inside} {Within} h before less within =
+    record { meaning = less h.meaning; any_moment = Passes_on _ _ _ _ _ _ Within Inside before h.any_moment within }

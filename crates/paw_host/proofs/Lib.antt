@@ -1,5 +1,7 @@
+mod Cited
 pub mod Played
 pub mod Staying
+pub mod Texts
 pub mod Named
 pub mod Reaching
 pub mod Leaving
@@ -8,7 +10,6 @@ pub mod Answering
 pub mod Keeping
 pub mod Hosting
 pub mod Continuing
-pub mod Calls
 pub mod Loading
 pub mod Alone
 pub mod Crashing

@@ -1,20 +1,7 @@
 -- The game of an image file, and why there is none.
-use Rattle.std.proofs.Common.{◌≡◌, ap, subst}
-use Rattle.paw_base.specs.Bytes.{Bytes, Name, RoutineAnswers, Seed}
-use Rattle.paw_base.specs.declared.limits.TheConstants.{IMAGE_LIMIT}
-use Rattle.paw_game.specs.Game.{GameLists}
-use Rattle.paw_effects.specs.Story.{story_of}
-use Rattle.paw_stage.specs.Stage.{Standing}
+use Rattle.paw_host.proofs.Cited.{◌≡◌, ap, subst, Bytes, Name, RoutineAnswers, Seed, IMAGE_LIMIT, GameLists, story_of, Standing, LoadsSome, Holds, damage_loaded, same_game, Sessions, BeginsWith, Ends, Hosts, HostsFile, hosts, damaged, absent, failed, without_memory, HostOutcome, ReadsNoImage, OpensNone}
 use Rattle.paw_stage.specs.declared.StageCall.TheVariants as call
-use Rattle.paw_stage.specs.inner.Loads.{LoadsSome}
-use Rattle.paw_play.specs.ImageFiles.{Holds}
-use Rattle.paw_play.proofs.ImageFiles.{damage_loaded, same_game}
-use Rattle.paw_host.specs.Replies.{Sessions}
-use Rattle.paw_host.specs.Promise.{BeginsWith}
-use Rattle.paw_host.specs.Hosts.{Ends, Hosts, HostsFile, hosts, damaged, absent, failed, without_memory}
-use Rattle.paw_host.specs.declared.outcome.HostOutcome.{HostOutcome}
 use Rattle.paw_host.specs.declared.outcome.HostOutcome.TheVariants as outcome
-use Rattle.paw_host.specs.inner.Opens.{ReadsNoImage, OpensNone}
 
 -- ---- the file ----
 

@@ -1,13 +1,5 @@
 -- Names are text.
-use Rattle.std.proofs.Common.{◌≡◌, inl, inr, ℕ, zero, suc, ◌<◌, [], ◌∷◌, ◌++◌, true, arith, codes, length, get_or}
-use Rattle.std.proofs.Common.{nat_le, nat_lt}
-use Rattle.std.specs.Char.{is_ascii_digit, is_ascii_lowercase}
-use Rattle.std.specs.List.{list_all}
-use Rattle.std.specs.Str.{IsUtf8}
-use Rattle.std.proofs.lemmas.Bool.{and_parts, or_cases, leb-true}
-use Rattle.std.proofs.lemmas.Str.{IsUtf8-from_ascii}
-use Rattle.paw_base.specs.Bytes.{Name}
-use Rattle.paw_host.specs.Names.{is_name_byte, is_name, store_name}
+use Rattle.paw_host.proofs.Cited.{◌≡◌, inl, inr, ℕ, zero, suc, ◌<◌, [], ◌∷◌, ◌++◌, true, arith, codes, length, get_or, nat_le, nat_lt, ◌≢◌, ◌∙◌, Bool, false, refl, sym, bytes_eq, bytes_eq-Decides, is_ascii_digit, is_ascii_lowercase, list_all, IsUtf8, and_parts, or_cases, leb-true, IsUtf8-from_ascii, Name, is_name_byte, is_name, store_name}
 
 ascii_byte : (b : ℕ) → is_name_byte b ≡ true → b < 128
 ascii_byte b h = elim (or_cases (is_ascii_lowercase b) (is_ascii_digit b) h) [
@@ -36,3 +28,12 @@ store_text name h =
 -- A name is short.
 pub name_short : (name : Name) → is_name name ≡ true → nat_le (length name) 16 ≡ true
 name_short name h = (and_parts (nat_le (length name) 16) _ (and_parts (nat_lt 0 (length name)) _ h).1).0
+
+-- ---- two names ----
+
+-- What holds where they are the same, and where they are not, holds of whether they are.
+pub by_name : (P : Bool → Type 0) (a b : Name) → (a ≡ b → P true) → (a ≢ b → P false) → P (bytes_eq a b)
+by_name P a b same other = elim (bytes_eq a b) as (λ t. bytes_eq a b ≡ t → P t) [
+  | true ↦ λ t. same ((bytes_eq-Decides a b).0 t)
+  | false ↦ λ t. other (λ e. let yes : bytes_eq a b ≡ true = (bytes_eq-Decides a b).1 e in let no : true ≡ false = sym yes ∙ t in cc)
+] refl

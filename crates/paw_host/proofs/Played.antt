@@ -1,37 +1,8 @@
 -- The session that is played for a name: what it says at once, and what a text brings there.
-use Rattle.std.proofs.Common.{◌≡◌, inl, inr, ℕ, ◌+◌, ◌<◌, ◌≤◌, [], ◌∷◌, ◌++◌, refl, sym, ap, ◌∙◌, subst, false}
-use Rattle.std.proofs.Common.{List, length, length-append, arith, Some, None}
-use Rattle.std.specs.Prelude.{Ok, Err}
-use Rattle.std.proofs.lemmas.List.{append-nil}
-use Rattle.std.proofs.lemmas.Bool.{le-leb, lt-leb}
-use Rattle.paw_base.specs.Bytes.{Bytes, Lines, Seed, Text}
-use Rattle.paw_base.specs.declared.limits.TheConstants.{EVENT_LIMIT}
-use Rattle.paw_stage.specs.Stage.{Standing}
-use Rattle.paw_effects.specs.Story.{Story}
-use Rattle.paw_effects.specs.declared.act.Prompt.{Prompt}
-use Rattle.paw_reading.specs.declared.frames.Frame.{Frame}
-use Rattle.paw_reading.specs.Run.{Run}
-use Rattle.paw_reading.specs.declared.halt.Halt.{Halt}
+use Rattle.paw_host.proofs.Cited.{◌≡◌, inl, inr, ℕ, ◌+◌, ◌<◌, [], ◌∷◌, ◌++◌, refl, sym, ap, ◌∙◌, subst, false, List, length, length-append, arith, Some, None, Ok, Err, append-nil, le-leb, lt-leb, Bytes, Lines, Seed, Text, EVENT_LIMIT, Standing, Story, Prompt, Frame, Run, Halt, Ending, WaitsAt, Halted, Unended, reading, pieces_of, Counted, pieces_of_lines, PlayerView, Digests, Recovered, Shown, recover, last_piece, PlayEnd, story_digests, IsOfStory, IsKept, IsPlayed, Stands, ending_since, PlayedSession, going_on, session_begun, call_of_end, BeginsTo, HaltsAfter, InBeginning, InTaking, IsOpen, KeepsAfter, StopsAtState, TakesLineTo, WaitsAfter, whole_kept, begun_keeps, later_keeps, NamedSession, Absent, At, From, Answer, from_end, gone_on, unless_closed, begun_answer, is_over, Stores, IsPlayedAs, begun, after_lines, after_state, end_word, TakesTexts, ending_with, session_with, Answers, InFile, LeftOfBeginning, StoresEither, answer}
 use Rattle.paw_reading.specs.declared.halt.Halt.TheVariants as halt
-use Rattle.paw_reading.specs.Turn.{Ending, WaitsAt, Halted, Unended, reading, pieces_of}
-use Rattle.paw_reading.specs.inner.Pieces.{Counted}
-use Rattle.paw_reading.proofs.Counts.{pieces_of_lines}
-use Rattle.paw_turn.specs.inner.Player.{PlayerView}
-use Rattle.paw_journal.specs.Session.{Digests, Recovered, Shown, recover}
-use Rattle.paw_state.specs.State.{last_piece}
-use Rattle.paw_play.specs.declared.PlayEnd.{PlayEnd}
 use Rattle.paw_play.specs.declared.PlayEnd.TheVariants as end
-use Rattle.paw_play.specs.Session.{story_digests, IsOfStory, IsKept, IsPlayed}
-use Rattle.paw_play.specs.Stands.{Stands, ending_since}
-use Rattle.paw_play.specs.Played.{PlayedSession, going_on, session_begun}
-use Rattle.paw_play.specs.inner.Calls.{call_of_end}
-use Rattle.paw_play.specs.inner.Open.{BeginsTo, HaltsAfter, InBeginning, InTaking, IsOpen, KeepsAfter, StopsAtState, TakesLineTo, WaitsAfter}
-use Rattle.paw_play.proofs.Going.{whole_kept}
-use Rattle.paw_play.proofs.Standing.{begun_keeps, later_keeps}
-use Rattle.paw_host.specs.Replies.{NamedSession, Absent, At, From, Answer, from_end, gone_on, unless_closed, begun_answer, answer, is_over}
-use Rattle.paw_host.specs.Promise.{Stores}
-use Rattle.paw_host.specs.inner.Answers.{IsPlayedAs, begun, after_lines, after_state, end_word, TakesTexts, ending_so_far, ending_with, lines_taken, session_with}
-use Rattle.paw_host.specs.inner.Answers.{Answers, InFile, LeftOfBeginning, StoresEither}
+use Rattle.paw_host.proofs.Reaching.{in_file}
 
 -- ---- answers by how a reading ended ----
 
@@ -61,14 +32,6 @@ same_wait n (WaitsAt q fs s) p path r h = refl
 same_wait n (Halted halt s) p path r h = cc
 same_wait n Unended p path r h = cc
 
--- The answer of an open session to a text.
-open_answer : (g : Story) (seed : Seed) (a : NamedSession) (text : Text) → TakesTexts a → answer g seed a (Some text)
-    ≡ unless_closed a (ending_so_far g a) (lines_taken a) (gone_on a (session_with g a text) (ending_with g a (text ∷ [])))
-unfolding answer
-open_answer g seed (At own es) text is = refl
-open_answer g seed (From st piece) text is = refl
-open_answer g seed _ text is = absurd is
-
 -- ---- the session that is played ----
 
 pub takes_texts : {g : Story} {a : NamedSession} {s : PlayedSession} → IsPlayedAs g a s → TakesTexts a
@@ -76,15 +39,15 @@ takes_texts (begun seed name) = tt
 takes_texts (after_lines seed es digests name of) = tt
 takes_texts (after_state st piece digests name of) = tt
 
-count_of : {g : Story} {a : NamedSession} {s : PlayedSession} → IsPlayedAs g a s → s.before ≡ lines_taken a
-count_of (begun seed name) = refl
-count_of (after_lines seed es digests name of) = refl
-count_of (after_state st piece digests name of) = refl
-
-so_far_is : {g : Story} {a : NamedSession} {s : PlayedSession} → IsPlayedAs g a s → ending_so_far g a ≡ ending_with g a []
-so_far_is (begun seed name) = refl
-so_far_is {g} (after_lines seed es digests name of) = ap (reading g seed) (sym (append-nil es))
-so_far_is (after_state st piece digests name of) = refl
+-- The answer to a text.
+open_answer : {g : Story} {a : NamedSession} {s : PlayedSession} → IsPlayedAs g a s → (seed : Seed) (text : Text) → answer g seed a (Some text)
+    ≡ unless_closed a (ending_with g a []) s.before (gone_on a (session_with g a text) (ending_with g a (text ∷ [])))
+unfolding answer
+open_answer (begun own name) seed text = refl
+open_answer {g} (after_lines own es digests name of) seed text =
+    ap (λ l. unless_closed (At own es) (reading g own l) (length es) (gone_on (At own es) (At own (es ++ text ∷ [])) (reading g own (es ++ text ∷ []))))
+    (sym (append-nil es))
+open_answer (after_state st piece digests name of) seed text = refl
 
 -- What it keeps of the lines that follow, the session of the name keeps of all.
 kept_all : {g : Story} {a : NamedSession} {s : PlayedSession} → IsPlayedAs g a s → (m : ℕ) (fs : Lines) (r : Recovered) → IsKept s.digests m (s.whole fs) r →
@@ -140,21 +103,16 @@ alike g _ bytes left is h e = absurd is
 module _ {g : Story} {a : NamedSession} {s : PlayedSession} (plays : IsPlayedAs g a s) (seed : Seed) (text : Text) where
   taken_is : s.before + 0 < EVENT_LIMIT → WaitsAfter s.whole [] →
       answer g seed a (Some text) ≡ gone_on a (session_with g a text) (ending_with g a (text ∷ []))
-  taken_is few waits =
-      let low : lines_taken a < EVENT_LIMIT = omega (arith, few, count_of plays) in
-      open_answer g seed a text (takes_texts plays)
-      ∙ rw (ap is_over (so_far_is plays) ∙ waits_all plays waits, lt-leb EVENT_LIMIT (lines_taken a) low) refl
+  taken_is few waits = open_answer plays seed text ∙ rw (waits_all plays waits, lt-leb EVENT_LIMIT s.before (omega (arith, few))) refl
 
   -- A text that brings no piece is answered with a word.
   pub text_refused : (A : Type 0) {F : Type 0} (old new : Standing) (seat : PlayerView F) (piece : Text) (o : PlayEnd) →
       TakesLineTo {A = A} g s 0 [] text old new seat piece (Err o) → call_of_end o ≡ None →
       answer g seed a (Some text) ≡ record { body = end_word o; session = a }
   text_refused A old new seat piece end.Ended h none =
-      open_answer g seed a text (takes_texts plays) ∙ rw (ap is_over (so_far_is plays ∙ (halts_all plays [] _ halt.Over h).1)) refl
+      open_answer plays seed text ∙ rw (ap is_over (halts_all plays [] _ halt.Over h).1) refl
   text_refused A old new seat piece (end.Long most) h none =
-      let full : EVENT_LIMIT ≤ lines_taken a = omega (arith, h.0, count_of plays) in
-      open_answer g seed a text (takes_texts plays)
-      ∙ rw (ap is_over (so_far_is plays) ∙ waits_all plays h.2, le-leb EVENT_LIMIT (lines_taken a) full) refl
+      open_answer plays seed text ∙ rw (waits_all plays h.2, le-leb EVENT_LIMIT s.before (omega (arith, h.0))) refl
   text_refused A old new seat piece (end.Spent kind) h none =
       taken_is h.0 h.1 ∙ ap (gone_on a (session_with g a text)) (halts_all plays (text ∷ []) _ (halt.Spent kind) h.2).1
   text_refused A old new seat piece (end.TooDeep table) h none =
@@ -182,16 +140,10 @@ module _ {g : Story} {a : NamedSession} {s : PlayedSession} (plays : IsPlayedAs 
   -- While it is taken.
   pub text_in_file : (old m : Standing) → Stores g a old.disk.bytes → KeepsAfter s 0 [] (recover old.disk.bytes) → InTaking g s 0 [] text old m →
       InFile (StoresEither g a (answer g seed a (Some text)).session) old m
-  text_in_file old m stores keeps i = record {
-    asked = i.asked;
-    shown = i.shown;
-    attached = i.attached;
-    files = i.files;
-    disk = λ left may. elim (i.disk left may) [
-      | inl k ↦ inl (alike g a old.disk.bytes left (takes_texts plays) stores (k.shown ∙ sym keeps.shown))
-      | inr k ↦ inr (subst (λ (x : Answer). Stores g x.session left) (sym (kept_is k.2 k.3 (recover left) k.0)) (text_stores plays text left k.2 k.4 k.0))
-    ];
-  }
+  text_in_file old m stores keeps i = in_file i (λ left h. elim h [
+    | inl k ↦ inl (alike g a old.disk.bytes left (takes_texts plays) stores (k.shown ∙ sym keeps.shown))
+    | inr k ↦ inr (subst (λ (x : Answer). Stores g x.session left) (sym (kept_is k.2 k.3 (recover left) k.0)) (text_stores plays text left k.2 k.4 k.0))
+  ])
 
 -- ---- a session that is begun ----
 
@@ -222,13 +174,7 @@ module _ (g : Story) (seed : Seed) where
 
   -- While it is begun.
   pub first_in_file : (old m : Standing) → InBeginning (session_begun g seed []) old m → InFile (LeftOfBeginning g seed) old m
-  first_in_file old m i = record {
-    asked = i.asked;
-    shown = i.shown;
-    attached = i.attached;
-    files = i.files;
-    disk = λ left may. elim (i.disk left may) [
-      | inl u ↦ inr (played_begins (reading g seed []) u.0, inl u.1)
-      | inr k ↦ inr (played_begins (reading g seed []) k.played, inr (begun_keeps g seed [] [] 0 left refl (omega arith) k))
-    ];
-  }
+  first_in_file old m i = in_file i (λ left h. elim h [
+    | inl u ↦ inr (played_begins (reading g seed []) u.0, inl u.1)
+    | inr k ↦ inr (played_begins (reading g seed []) k.played, inr (begun_keeps g seed [] [] 0 left refl (omega arith) k))
+  ])

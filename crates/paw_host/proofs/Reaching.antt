@@ -1,38 +1,20 @@
 -- From a store at rest to one that is attached, and what a crash leaves of all files meanwhile.
-use Rattle.std.proofs.Common.{◌≡◌, ◌≢◌, ◌⊎◌, inl, inr, [], Option, Some, None, true, false, refl, sym, ap, ◌∙◌}
-use Rattle.std.proofs.Common.{subst, bytes_eq, length, ◌∷◌}
-use Rattle.std.specs.Prelude.{if◌then◌else◌}
-use Rattle.std.proofs.lemmas.Slice.Eq.{bytes_eq-Decides}
-use Rattle.paw_base.specs.Bytes.{Bytes, Name, Seed}
-use Rattle.paw_stage.specs.Disk.{IsStable, stable}
-use Rattle.paw_stage.specs.Stage.{Standing, Files, file_bytes, bytes_or_none, made_if_missing, with_store_opened, Unattached}
-use Rattle.paw_stage.specs.Stage.{InAttach}
-use Rattle.paw_journal.specs.Session.{IsUnmade, Recovered, Shown, Digests, recover, recover_by}
-use Rattle.paw_journal.specs.inner.Store.{ChangesStoreOnly}
-use Rattle.paw_journal.proofs.Disks.{stable_is, stable_leaves}
-use Rattle.paw_effects.specs.Story.{Story}
-use Rattle.paw_play.specs.Laws.{MayBeLeft}
-use Rattle.paw_play.proofs.Attaching.{other_file}
-use Rattle.paw_host.specs.Replies.{NamedSession, Absent, At, From, Refused}
-use Rattle.paw_host.specs.Promise.{Stores}
-use Rattle.paw_host.specs.inner.Answers.{InFile, InAnswer, IsAside, LeftOf, StoresEither}
+use Rattle.paw_host.proofs.Cited.{◌≡◌, ◌≢◌, ◌⊎◌, inl, inr, [], Option, Some, None, refl, sym, ap, ◌∙◌, subst, length, ◌∷◌, if◌then◌else◌, Bytes, Name, Seed, Disk, MayLeave, stable, Standing, Files, file_bytes, bytes_or_none, made_if_missing, with_store_opened, Unattached, InAttach, IsUnmade, Recovered, Shown, Digests, ChangesStoreOnly, stable_is, stable_leaves, beside_none, in_later, Story, MayBeLeft, other_file, NamedSession, Absent, At, From, Refused, Stores, InFile, InAnswer, IsAside, LeftOf, StoresEither, Rests, recover, recover_by}
+use Rattle.paw_host.proofs.Named.{by_name}
 
--- While a store is attached the file of its name has its bytes.
-abbrev pub FilesHold : Standing → Type 0
-FilesHold s = (n : Name) → s.attached ≡ Some n → file_bytes s n ≡ s.disk.bytes
-
--- A moment at which nothing is done yet: a crash leaves of each file the bytes that it had.
+-- A moment at which nothing is done yet: all rests, and each file has the bytes that it had.
 pub record IsBefore (name : Name) (old m : Standing) : Type 0 where
   pub asked : m.asked ≡ old.asked
   pub shown : m.shown ≡ old.shown
   pub files : (f : Name) → f ≢ name → m.files f ≡ old.files f
   pub attached : (m.attached ≡ old.attached) ⊎ (m.attached ≡ Some name) ⊎ (m.attached ≡ None)
-  pub left : (f bytes : Bytes) → MayBeLeft f m bytes → bytes ≡ file_bytes old f
+  pub rests : Rests m
+  pub same : (f : Name) → file_bytes m f ≡ file_bytes old f
 
 -- At rest.
-pub rest_left : (s : Standing) → IsStable s.disk → FilesHold s → (f bytes : Bytes) → MayBeLeft f s bytes → bytes ≡ file_bytes s f
-rest_left s settled holds f bytes (inl h) = stable_leaves s.disk bytes settled h.1 ∙ sym (holds f h.0)
-rest_left s settled holds f bytes (inr h) = h.1
+pub rest_left : (s : Standing) → Rests s → (f bytes : Bytes) → MayBeLeft f s bytes → bytes ≡ file_bytes s f
+rest_left s rests f bytes (inl h) = stable_leaves s.disk bytes rests.stable h.1 ∙ sym (rests.files f h.0)
+rest_left s rests f bytes (inr h) = h.1
 
 -- ---- the attach ----
 
@@ -40,10 +22,8 @@ made_by : (name f : Name) (files : Files) (file : Option Bytes) → files name �
     bytes_or_none (made_if_missing name file files f) ≡ bytes_or_none (files f)
 made_by name f files (Some bytes) e = refl
 made_by name f files None e =
-    elim (bytes_eq f name) as (λ b. bytes_eq f name ≡ b → bytes_or_none (if b then Some [] else files f) ≡ bytes_or_none (files f)) [
-      | true ↦ λ t. let same : f ≡ name = (bytes_eq-Decides f name).0 t in sym (ap bytes_or_none (ap files same ∙ e))
-      | false ↦ λ t. refl
-    ] refl
+    by_name (λ b. bytes_or_none (if b then Some [] else files f) ≡ bytes_or_none (files f)) f name (λ same. sym (ap bytes_or_none (ap files same ∙ e)))
+    (λ other. refl)
 
 made_bytes : (old : Standing) (name f : Name) → bytes_or_none ((with_store_opened name old).files f) ≡ file_bytes old f
 made_bytes old name f = made_by name f old.files (old.files name) refl
@@ -51,18 +31,9 @@ made_bytes old name f = made_by name f old.files (old.files name) refl
 same_name : (name f : Name) → ◌≡◌ {A = Option Name} (Some name) (Some f) → name ≡ f
 same_name name f e = cc
 
-opened_left : (old : Standing) (name f bytes : Bytes) → MayBeLeft f (with_store_opened name old) bytes → bytes ≡ file_bytes old f
-opened_left old name f bytes (inl h) =
-    stable_leaves (stable (file_bytes old name)) bytes (stable_is (file_bytes old name)) h.1 ∙ ap (file_bytes old) (same_name name f h.0)
-opened_left old name f bytes (inr h) = h.1 ∙ made_bytes old name f
-
-none_left : (old : Standing) (f bytes : Bytes) → MayBeLeft f (record old { attached = None; disk = stable [] }) bytes → bytes ≡ file_bytes old f
-none_left old f bytes (inl h) = let no : ◌≡◌ {A = Option Name} None (Some f) = h.0 in cc
-none_left old f bytes (inr h) = h.1
-
-module _ (old new : Standing) (name : Name) (settled : IsStable old.disk) (holds : FilesHold old) where
+module _ (old new : Standing) (name : Name) (rests : Rests old) where
   before_it : IsBefore name old old
-  before_it = record { asked = refl; shown = refl; files = λ f ne. refl; attached = inl refl; left = rest_left old settled holds }
+  before_it = record { asked = refl; shown = refl; files = λ f ne. refl; attached = inl refl; rests = rests; same = λ f. refl }
 
   made_it : IsBefore name old (record old { files = made_if_missing name (old.files name) old.files })
   made_it = record {
@@ -70,19 +41,34 @@ module _ (old new : Standing) (name : Name) (settled : IsStable old.disk) (holds
     shown = refl;
     files = λ f ne. other_file old name f ne;
     attached = inl refl;
-    left = λ f bytes may. elim may [
-      | inl h ↦ rest_left old settled holds f bytes (inl h)
-      | inr h ↦ h.1 ∙ made_bytes old name f
-    ];
+    rests = record { stable = rests.stable; files = λ f e. made_bytes old name f ∙ rests.files f e };
+    same = made_bytes old name;
   }
 
   opened_it : IsBefore name old (with_store_opened name old)
-  opened_it = record { asked = refl; shown = refl; files = λ f ne. other_file old name f ne; attached = inr (inl refl); left = opened_left old name }
+  opened_it = record {
+    asked = refl;
+    shown = refl;
+    files = λ f ne. other_file old name f ne;
+    attached = inr (inl refl);
+    rests = record {
+      stable = stable_is (file_bytes old name);
+      files = λ f e. made_bytes old name f ∙ ap (file_bytes old) (sym (same_name name f e));
+    };
+    same = made_bytes old name;
+  }
 
   unattached_it : Unattached old new → IsBefore name old new
   unattached_it (inl e) = subst (λ q. IsBefore name old q) (sym e) before_it
   unattached_it (inr e) = subst (λ q. IsBefore name old q) (sym e)
-      (record { asked = refl; shown = refl; files = λ f ne. refl; attached = inr (inr refl); left = none_left old })
+      (record {
+        asked = refl;
+        shown = refl;
+        files = λ f ne. refl;
+        attached = inr (inr refl);
+        rests = record { stable = stable_is []; files = λ f e. let no : ◌≡◌ {A = Option Name} None (Some f) = e in cc };
+        same = λ f. refl;
+      })
 
   -- Inside the attach.
   pub in_attach : (new ≡ with_store_opened name old) ⊎ Unattached old new → (m : Standing) → InAttach old new name m → IsBefore name old m
@@ -93,6 +79,17 @@ module _ (old new : Standing) (name : Name) (settled : IsStable old.disk) (holds
     | inr u ↦ unattached_it u
   ])
 
+-- ---- a moment of the attached store ----
+
+-- What holds of whatever a crash leaves of it, by less, and from a store beside which nothing has changed.
+pub in_file_on : {Left Then : Bytes → Type 0} {old mid m : Standing} → ChangesStoreOnly old mid → InFile Left mid m →
+    ((bytes : Bytes) → Left bytes → Then bytes) → InFile Then old m
+in_file_on {Left} {Then} {old} {mid} {m} beside i f = in_later old mid (λ (d : Disk). (image : Bytes) → MayLeave d image → Left image)
+    (λ (d : Disk). (image : Bytes) → MayLeave d image → Then image) m beside (λ d h image may. f image (h image may)) i
+
+pub in_file : {Left Then : Bytes → Type 0} {old m : Standing} → InFile Left old m → ((bytes : Bytes) → Left bytes → Then bytes) → InFile Then old m
+in_file {old} i f = in_file_on (beside_none old) i f
+
 -- ---- a session that is asked for something ----
 
 module _ (g : Story) (seed : Seed) (name : Name) (before after : NamedSession) (old : Standing) (stores : Stores g before (file_bytes old name)) where
@@ -102,9 +99,9 @@ module _ (g : Story) (seed : Seed) (name : Name) (before after : NamedSession) (
     asked = i.asked;
     shown = i.shown;
     files = i.files;
-    others = λ f ne bytes may. i.left f bytes may;
+    others = λ f ne bytes may. rest_left m i.rests f bytes may ∙ i.same f;
     attached = i.attached;
-    left = λ bytes may. inl (subst (Stores g before) (sym (i.left name bytes may)) stores);
+    left = λ bytes may. inl (subst (Stores g before) (sym (rest_left m i.rests name bytes may ∙ i.same name)) stores);
   }
 
   -- Once the store is attached.
@@ -140,16 +137,8 @@ pub answer_in_kept : (g : Story) (seed : Seed) (name : Name) (before after : Nam
     Stores g before (file_bytes old name) → mid ≡ with_store_opened name old → InFile (StoresEither g before after) mid m →
     InAnswer g seed name before after old m
 answer_in_kept g seed name before after old mid m stores is i =
-    answer_in_file g seed name before after old stores m (either_left (subst (λ q. InFile (StoresEither g before after) q m) is i))
-  where
-    either_left : InFile (StoresEither g before after) (with_store_opened name old) m → InFile (LeftOf g seed before after) (with_store_opened name old) m
-    either_left j = record {
-      asked = j.asked;
-      shown = j.shown;
-      attached = j.attached;
-      files = j.files;
-      disk = λ bytes may. elim (j.disk bytes may) [ inl h ↦ inl h | inr h ↦ inr (inl h) ];
-    }
+    answer_in_file g seed name before after old stores m
+    (in_file (subst (λ q. InFile (StoresEither g before after) q m) is i) (λ bytes h. elim h [ inl b ↦ inl b | inr a ↦ inr (inl a) ]))
 
 -- ---- what it leaves ----
 

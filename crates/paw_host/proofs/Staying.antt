@@ -1,13 +1,5 @@
 -- A player that stays at its game.
-use Rattle.std.proofs.Common.{◌≡◌, ℕ, sym, subst, ◌∙◌, refl}
-use Rattle.std.specs.Fn.{Shared}
-use Rattle.paw_base.specs.Bytes.{Bytes}
-use Rattle.paw_game.specs.Game.{GameLists}
-use Rattle.paw_routines.specs.Routines.{HaveAnswers}
-use Rattle.paw_routines.specs.declared.routines.Routines.{Routines}
-use Rattle.paw_turn.specs.inner.Player.{PlayerView, IsSeated}
-use Rattle.paw_host.specs.inner.Seats.{IsHosted}
-use Rattle.paw_play.specs.inner.Open.{AreDigestsOf, StaysSeated}
+use Rattle.paw_host.proofs.Cited.{◌≡◌, ℕ, sym, subst, ◌∙◌, refl, Shared, Bytes, GameLists, HaveAnswers, Routines, PlayerView, IsSeated, IsHosted, AreDigestsOf, StaysSeated}
 
 pub stays_same : {F : Type 0} {a : PlayerView F} → IsSeated a → StaysSeated a a
 stays_same h = record { seated = h; game = refl; routines = refl }

@@ -10,9 +10,8 @@ ghost use Rattle.paw_play.specs.Calls.{session_calls};
 ghost use Rattle.paw_host.specs.Outcomes.{host_failure};
 ghost use Rattle.paw_host.specs.Words.{asked_call};
 ghost use Rattle.paw_play.specs.inner.OnTheWay.{EachStory};
-ghost use Rattle.paw_host.specs.Replies.{Sessions};
-ghost use Rattle.paw_host.specs.Promise.{BeginsWith, InHost};
-ghost use Rattle.paw_host.specs.Hosts.{Ends, Hosts, HostsFile, HostsAtEachMoment};
+ghost use Rattle.paw_host.specs.Hosts.{Ends, HostsFile, HostsAtEachMoment};
+ghost use Rattle.paw_host.specs.inner.Lines.{HostsWithMoments};
 ghost use Rattle.paw_host.specs.Laws.{CrashLeaves};
 ghost use Rattle.paw_play.specs.inner.Open.{AreDigestsOf};
 ghost use Rattle.paw_host.specs.declared.outcome.HostOutcome.TheVariants as outcome;
@@ -41,13 +40,8 @@ fn host_game<S: Stage, T: Tables, F: Fn(u8, u8) -> u8>(
     ensures form { result ≢ outcome.Usage }
     ensures serves { FailsOnlyBy S.Stage session_calls (host_failure result) stage.old stage.new }
     ensures ends { IfTelling S.Stage stage.old stage.new (λ old new. Ends old new result) }
-    ensures meaning { IfTelling S.Stage stage.old stage.new (λ old new.
-        EachStory F.Fn routines.now (T.game hosted.now.tables.now) (λ g. (first : Sessions) →
-        BeginsWith g first old → Hosts g hosted.now.seed first old new result)) }
-    ensures any_moment { IfTelling S.Stage stage.old stage.new (λ old new.
-        EachStory F.Fn routines.now (T.game hosted.now.tables.now) (λ g. (first : Sessions) →
-        BeginsWith g first old →
-        EachMoment S.Stage stage.old stage.new (InHost g hosted.now.seed first old))) }
+    ensures promises { S.Tells stage.old → EachStory F.Fn routines.now (T.game hosted.now.tables.now) (λ g.
+        HostsWithMoments S.Stage stage.old stage.new g hosted.now.seed result) }
 {
     match Seats::new(alloc, hosted.tables, routines, hosted.seed) {
         Ok(mut seats) => seats.serve_all(stage, hosted),

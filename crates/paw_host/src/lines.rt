@@ -3,15 +3,14 @@
 ghost use Rattle.std.specs.Prelude.{◌≡◌, ◌≢◌, ◌≤◌, [], Some, true, codes, length, IfOk, OnOk, IfSome, IfNone};
 ghost use Rattle.paw_base.specs.declared.limits.TheConstants.{LINE_LIMIT};
 ghost use Rattle.paw_stage.specs.Disk.{IsStable};
-ghost use Rattle.paw_stage.specs.AcrossCalls.{IfTelling, EachMoment, FailsOnlyBy};
+ghost use Rattle.paw_stage.specs.AcrossCalls.{IfTelling, FailsOnlyBy};
 ghost use Rattle.paw_turn.specs.inner.Player.{IsSeated};
 ghost use Rattle.paw_journal.specs.inner.Journal.{failed_stage_call};
 ghost use Rattle.paw_play.specs.Calls.{session_calls};
 ghost use Rattle.paw_play.specs.inner.OnTheWay.{EachStory};
 ghost use Rattle.paw_host.specs.Names.{is_name, request_in};
-ghost use Rattle.paw_host.specs.Replies.{Sessions, reply_text as spoken};
-ghost use Rattle.paw_host.specs.Promise.{AllStore, BeginsWith, InHost};
-ghost use Rattle.paw_host.specs.Hosts.{Ends, Hosts};
+ghost use Rattle.paw_host.specs.Replies.{reply_text as spoken};
+ghost use Rattle.paw_host.specs.Hosts.{Ends};
 ghost use Rattle.paw_host.specs.Outcomes.{host_failure};
 ghost use Rattle.paw_host.specs.declared.outcome.HostOutcome.TheVariants as outcome;
 ghost use Rattle.paw_host.specs.inner.Names.{asks};
@@ -19,7 +18,7 @@ ghost use Rattle.paw_host.specs.inner.Answers.{answer_calls};
 ghost use Rattle.paw_host.specs.inner.Seats.{IsHosted};
 ghost use Rattle.paw_play.specs.inner.Open.{StaysSeated};
 ghost use Rattle.paw_host.specs.inner.Store.{LeavesStage};
-ghost use Rattle.paw_host.specs.inner.Lines.{AllMay, AnswersRequest, Doing, EachServing, SameLines, ServesTo, TakesTo};
+ghost use Rattle.paw_host.specs.inner.Lines.{DoesRequest, HostsWithMoments, SameLines, ServesLine, TakesTo};
 ghost use Rattle.paw_host.specs.inner.Lines.{host_failure_so_far};
 
 use crate::answer::{Hosted, answer};
@@ -95,20 +94,13 @@ impl<'a, T: Tables, F: Fn(u8, u8) -> u8> Seats<'a, T, F> {
         ensures stays { StaysSeated self.old.player self.new.player }
         ensures leaves { LeavesStage S.Stage answer_calls (failed_stage_call result) SameLines
             (λ old new. OnOk result (IsStable new.disk)) stage.old stage.new }
-        ensures done { IfTelling S.Stage stage.old stage.new (λ old new.
-            EachStory F.Fn self.old.player.routines self.old.player.game (λ g. (sessions : Sessions) →
-            AllMay g sessions → AllStore g sessions old →
-            OnOk result
-            (AnswersRequest g hosted.now.seed sessions (Some (asks request.entry)) self.new.reply old new))) }
-        ensures any_moment { IfTelling S.Stage stage.old stage.new (λ old new.
-            EachStory F.Fn self.old.player.routines self.old.player.game (λ g. (sessions : Sessions) →
-            AllMay g sessions → AllStore g sessions old →
-            EachMoment S.Stage stage.old stage.new
-            (Doing g hosted.now.seed sessions (Some (asks request.entry)) old))) }
+        ensures promises { S.Tells stage.old → EachStory F.Fn self.old.player.routines self.old.player.game (λ g.
+            DoesRequest S.Stage stage.old stage.new g hosted.now.seed (Some (asks request.entry)) self.new.reply
+            result) }
     {
         begin_reply(&mut self.reply, request.name);
         self.store.set(request.name);
-        match answer(
+        let answered = answer(
             stage,
             &mut self.player,
             &mut self.room,
@@ -116,12 +108,9 @@ impl<'a, T: Tables, F: Fn(u8, u8) -> u8> Seats<'a, T, F> {
             hosted,
             self.store.as_str(),
             request.text,
-        ) {
-            Ok(_) => {}
-            Err(call) => return Err(call),
-        }
+        );
         self.reply.push(b"\n");
-        Ok(())
+        answered
     }
 
     // Does what a line asks for, and makes the reply.
@@ -138,14 +127,8 @@ impl<'a, T: Tables, F: Fn(u8, u8) -> u8> Seats<'a, T, F> {
         ensures stays { StaysSeated self.old.player self.new.player }
         ensures leaves { LeavesStage S.Stage answer_calls (failed_stage_call result) SameLines
             (λ old new. OnOk result (IsStable new.disk)) stage.old stage.new }
-        ensures done { IfTelling S.Stage stage.old stage.new (λ old new.
-            EachStory F.Fn self.old.player.routines self.old.player.game (λ g. (sessions : Sessions) →
-            AllMay g sessions → AllStore g sessions old →
-            OnOk result (AnswersRequest g hosted.now.seed sessions (request_in line.now) self.new.reply old new))) }
-        ensures any_moment { IfTelling S.Stage stage.old stage.new (λ old new.
-            EachStory F.Fn self.old.player.routines self.old.player.game (λ g. (sessions : Sessions) →
-            AllMay g sessions → AllStore g sessions old →
-            EachMoment S.Stage stage.old stage.new (Doing g hosted.now.seed sessions (request_in line.now) old))) }
+        ensures promises { S.Tells stage.old → EachStory F.Fn self.old.player.routines self.old.player.game (λ g.
+            DoesRequest S.Stage stage.old stage.new g hosted.now.seed (request_in line.now) self.new.reply result) }
     {
         match request_in(line) {
             Some(request) => self.answer(stage, hosted, request),
@@ -166,13 +149,8 @@ impl<'a, T: Tables, F: Fn(u8, u8) -> u8> Seats<'a, T, F> {
         ensures serves { FailsOnlyBy S.Stage session_calls (host_failure_so_far result) stage.old stage.new }
         ensures synced { S.Tells stage.old → IfNone result (IsStable (S.standing stage.new).disk) }
         ensures takes { IfTelling S.Stage stage.old stage.new (λ old new. TakesTo old new result) }
-        ensures meaning { IfTelling S.Stage stage.old stage.new (λ old new.
-            EachStory F.Fn self.old.player.routines self.old.player.game (λ g.
-            EachServing g hosted.now.seed old (λ first start n. ServesTo g hosted.now.seed first start new n result))) }
-        ensures any_moment { IfTelling S.Stage stage.old stage.new (λ old new.
-            EachStory F.Fn self.old.player.routines self.old.player.game (λ g.
-            EachServing g hosted.now.seed old (λ first start n.
-            EachMoment S.Stage stage.old stage.new (InHost g hosted.now.seed first start)))) }
+        ensures promises { S.Tells stage.old → EachStory F.Fn self.old.player.routines self.old.player.game (λ g.
+            ServesLine S.Stage stage.old stage.new g hosted.now.seed result) }
     {
         let mut line = [0u8; LINE_LIMIT];
         let n = match stage.ask(&mut line) {
@@ -203,13 +181,8 @@ impl<'a, T: Tables, F: Fn(u8, u8) -> u8> Seats<'a, T, F> {
         ensures form { result ≢ outcome.Usage }
         ensures serves { FailsOnlyBy S.Stage session_calls (host_failure result) stage.old stage.new }
         ensures ends { IfTelling S.Stage stage.old stage.new (λ old new. Ends old new result) }
-        ensures meaning { IfTelling S.Stage stage.old stage.new (λ old new.
-            EachStory F.Fn self.old.player.routines self.old.player.game (λ g. (first : Sessions) →
-            BeginsWith g first old → Hosts g hosted.now.seed first old new result)) }
-        ensures any_moment { IfTelling S.Stage stage.old stage.new (λ old new.
-            EachStory F.Fn self.old.player.routines self.old.player.game (λ g. (first : Sessions) →
-            BeginsWith g first old →
-            EachMoment S.Stage stage.old stage.new (InHost g hosted.now.seed first old))) }
+        ensures promises { S.Tells stage.old → EachStory F.Fn self.old.player.routines self.old.player.game (λ g.
+            HostsWithMoments S.Stage stage.old stage.new g hosted.now.seed result) }
     {
         for _ in 0..HOST_LIMIT {
             if let Some(outcome) = self.serve(stage, hosted) {

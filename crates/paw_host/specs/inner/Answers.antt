@@ -1,5 +1,5 @@
 -- What an answer stands on, inside a call.
-use Rattle.std.specs.Prelude.{◌≡◌, ◌≢◌, ◌⊎◌, ℕ, ◌+◌, List, [], ◌∷◌, ◌++◌, length, codes, Some, None, Result, OnOk}
+use Rattle.std.specs.Prelude.{◌≡◌, ◌≢◌, ◌⊎◌, ℕ, ◌+◌, List, [], ◌∷◌, ◌++◌, codes, Some, None, Result, OnOk}
 use Rattle.paw_base.specs.Bytes.{Bytes, Lines, Name, Seed, Text}
 use Rattle.paw_stage.specs.declared.Stage.{Ghosts}
 use Rattle.paw_stage.specs.Disk.{Disk, MayLeave}
@@ -7,7 +7,7 @@ use Rattle.paw_stage.specs.Stage.{Standing, file_bytes}
 use Rattle.paw_stage.specs.declared.StageCall.{StageCall}
 use Rattle.paw_stage.specs.declared.StageCall.TheVariants as call
 use Rattle.paw_effects.specs.Story.{Story}
-use Rattle.paw_reading.specs.Turn.{Ending, Unended, reading}
+use Rattle.paw_reading.specs.Turn.{Unended, reading}
 use Rattle.paw_turn.specs.inner.Player.{PlayerView}
 use Rattle.paw_journal.specs.Session.{Digests, IsUnmade, recover}
 use Rattle.paw_journal.specs.Journal.{writing_calls}
@@ -39,23 +39,11 @@ TakesTexts (At seed es) = Unit {0}
 TakesTexts (From st piece) = Unit {0}
 TakesTexts _ = ⊥
 
--- How the reading of a session has ended so far.
-abbrev pub ending_so_far : Story → NamedSession → Ending
-ending_so_far g (At seed es) = reading g seed es
-ending_so_far g (From st piece) = going_on g st piece []
-ending_so_far g _ = Unended
-
--- How it ends with more lines.
+-- How the reading of a session ends with these lines more.
 abbrev pub ending_with : Story → NamedSession → EndingOf
 ending_with g (At seed es) fs = reading g seed (es ++ fs)
 ending_with g (From st piece) fs = going_on g st piece fs
 ending_with g _ fs = Unended
-
--- The number of lines that a session has taken.
-abbrev pub lines_taken : NamedSession → ℕ
-lines_taken (At seed es) = length es
-lines_taken (From st piece) = st.events
-lines_taken _ = 0
 
 -- What becomes of a session once a text has brought a piece.
 abbrev pub session_with : Story → NamedSession → Text → NamedSession

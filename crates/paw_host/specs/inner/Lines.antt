@@ -1,15 +1,19 @@
 -- What stands on the way from line to line.
-use Rattle.std.specs.Prelude.{◌≡◌, ◌≢◌, ℕ, suc, ◌+◌, ◌<◌, ◌^◌, true, [], ◌∷◌, length, take, All, Option, Some, None}
+use Rattle.std.specs.Prelude.{◌≡◌, ◌≢◌, ℕ, suc, ◌+◌, ◌<◌, ◌^◌, true, [], ◌∷◌, length, take, All, Option, Some, None, Result}
+use Rattle.std.specs.Prelude.{OnOk}
 use Rattle.paw_base.specs.Bytes.{Line, Name, Seed, Text}
 use Rattle.paw_effects.specs.Story.{Story}
 use Rattle.paw_effects.specs.Standing.{AreBytes}
-use Rattle.paw_stage.specs.Disk.{IsStable}
 use Rattle.paw_stage.specs.Stage.{Standing}
+use Rattle.paw_stage.specs.declared.Stage.{Ghosts}
 use Rattle.paw_stage.specs.declared.StageCall.{StageCall}
+use Rattle.paw_play.specs.inner.Calls.{DoneWithMoments}
 use Rattle.paw_host.specs.Names.{Request, is_name, store_name}
 use Rattle.paw_host.specs.Replies.{Sessions, reply_to, sessions_with, sessions_after}
-use Rattle.paw_host.specs.Promise.{MayBe, AllStore, EachLeft, Answered, attached_with, MayAttach}
+use Rattle.paw_host.specs.Promise.{MayBe, AllStore, BeginsWith, EachLeft, Answered, InHost, attached_with, MayAttach}
+use Rattle.paw_host.specs.Hosts.{Hosts}
 use Rattle.paw_host.specs.Outcomes.{host_failure}
+use Rattle.paw_host.specs.inner.Store.{Rests}
 use Rattle.paw_host.specs.declared.outcome.HostOutcome.{HostOutcome}
 use Rattle.paw_host.specs.declared.outcome.HostOutcome.TheVariants as outcome
 
@@ -60,7 +64,7 @@ pub record InWork (g : Story) (seed : Seed) (before after : Sessions) (request :
 pub record IsServing (g : Story) (seed : Seed) (first : Sessions) (old now : Standing) (n : ℕ) : Type 0 where
   pub answered : Answered g seed first old now n
   pub may : AllMay g (sessions_after g seed first (take n old.lines))
-  pub settled : IsStable now.disk
+  pub rests : Rests now
 
 -- After one line more the host waits for the next one; or no line was left. Where a call failed the moments say what
 -- stands.
@@ -80,8 +84,24 @@ AnswersRequest g seed sessions request text old new =
 abbrev pub Doing : Story → Seed → Sessions → Option Request → Standing → Standing → Type 0
 Doing g seed sessions request old m = InWork g seed sessions (sessions_with g seed sessions request) request old m
 
--- A fact about each host that waits for a line and has answered n of the lines that there were when it started.
-abbrev pub EachServing : Story → Seed → Standing → (Sessions → Standing → ℕ → Type 0) → Type 0
-EachServing g seed now Holds =
-    (first : Sessions) (start : Standing) (n : ℕ) → seed < 2 ^ 64 → All AreBytes start.lines →
-    IsServing g seed first start now n → Holds first start n
+-- For all sessions that may be: what is asked for is done where no call failed, and each moment is one of that.
+abbrev pub DoesRequest : {S A E : Type 0} → Ghosts S → S → S → Story → Seed → Option Request → Text → Result A E →
+    Type 0
+DoesRequest stage old new g seed request text result =
+    (sessions : Sessions) → AllMay g sessions → AllStore g sessions (stage.standing old) →
+    DoneWithMoments stage old new
+    (OnOk result (AnswersRequest g seed sessions request text (stage.standing old) (stage.standing new)))
+    (Doing g seed sessions request (stage.standing old))
+
+-- For all sessions with which it may begin: how the host ends, and that each moment is one of its own.
+abbrev pub HostsWithMoments : {S : Type 0} → Ghosts S → S → S → Story → Seed → HostOutcome → Type 0
+HostsWithMoments stage old new g seed result = (first : Sessions) → BeginsWith g first (stage.standing old) →
+    DoneWithMoments stage old new (Hosts g seed first (stage.standing old) (stage.standing new) result)
+    (InHost g seed first (stage.standing old))
+
+-- For each host that waits for a line, and has answered n of the lines that there were when it started: what one line
+-- more does, and that each moment is one of the host.
+abbrev pub ServesLine : {S : Type 0} → Ghosts S → S → S → Story → Seed → Option HostOutcome → Type 0
+ServesLine stage old new g seed result = (first : Sessions) (start : Standing) (n : ℕ) → seed < 2 ^ 64 →
+    All AreBytes start.lines → IsServing g seed first start (stage.standing old) n →
+    DoneWithMoments stage old new (ServesTo g seed first start (stage.standing new) n result) (InHost g seed first start)

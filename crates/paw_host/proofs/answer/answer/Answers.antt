@@ -1,20 +1,6 @@
-use Rattle.std.proofs.Common.{◌≡◌, ◌⊎◌, ◌∙◌, sym, subst, inl, inr, Some}
-use Rattle.std.proofs.lemmas.Result.{on_ok_weaker}
-use Rattle.std.specs.Option.{option_copied}
-use Rattle.paw_base.specs.Bytes.{RoutineAnswers}
-use Rattle.paw_stage.specs.Stage.{Standing, Unattached, file_bytes, with_store_opened}
-use Rattle.paw_stage.specs.AcrossCalls.{EachMoment}
-use Rattle.paw_stage.proofs.Time.{Passes_map, Passes_on}
-use Rattle.paw_journal.specs.inner.Journal.{failed_stage_call}
-use Rattle.paw_journal.proofs.Serving.{serves_among}
-use Rattle.paw_effects.specs.Story.{Story, story_of}
-use Rattle.paw_host.specs.Replies.{NamedSession, Absent, answer}
-use Rattle.paw_host.specs.Promise.{Stores}
-use Rattle.paw_host.specs.inner.Answers.{Answers, InAnswer, InFile, LeftOf}
-use Rattle.paw_host.proofs.Calls.{writes_answer, reads_answer, attaches_answer}
-use Rattle.paw_host.proofs.Leaving.{leaves_attached}
-use Rattle.paw_host.proofs.Reaching.{in_attach, answer_before, answer_in_new, answer_in_kept, none_stored, no_bytes}
-use Rattle.paw_host.proofs.Reaching.{attached_still, aside_unattached}
+use Rattle.paw_host.proofs.Cited.{◌≡◌, ◌⊎◌, ◌∙◌, [], ◌∷◌, sym, subst, inl, inr, Some, on_ok_weaker, option_copied, RoutineAnswers, Standing, Unattached, file_bytes, with_store_opened, EachMoment, Passes_map, failed_stage_call, writing_calls, behind, in_front, serves_among, Story, story_of, NamedSession, Absent, answer, Stores, Answers, InAnswer, InFile, LeftOf}
+use Rattle.paw_stage.specs.declared.StageCall.TheVariants as call
+use Rattle.paw_host.proofs.{Leaving.leaves_attached, Leaving.promised_after, Reaching.in_attach, Reaching.answer_before, Reaching.answer_in_new, Reaching.answer_in_kept, Reaching.none_stored, Reaching.no_bytes, Reaching.attached_still, Reaching.aside_unattached}
 use Rattle.paw_host.proofs.answer.answer.Given.{Over}
 use Rattle.paw_host.proofs.answer.answer.Goals.{After-attach}
 use Rattle.paw_host.proofs.answer.answer.Goals as goal
@@ -34,14 +20,14 @@ attaches g c tells X before after stores how =
     let name = c.args.store.now in
     Passes_map _ _ _ _ _ (InAnswer story c.args.hosted.now.seed name before after old) (c.attach.ensures.time tells)
     (λ m i. answer_before story c.args.hosted.now.seed name before after old stores m
-    (in_attach old (g.S.Stage.standing c.attach.new.stage) name (c.requires.synced tells)
-    (λ n e. g.met.S.Stage.files_hold c.args.stage.now n tells e) how m i))
+    (in_attach old (g.S.Stage.standing c.attach.new.stage) name
+    (record { stable = c.requires.synced tells; files = λ n e. g.met.S.Stage.files_hold c.args.stage.now n tells e }) how m i))
 
 -- ---- the attach failed ----
 
 pub returns-in-Err-clause-leaves : goal.returns-in-Err-clause-leaves
 returns-in-Err-clause-leaves g c = record {
-  serves = serves_among g.S.Stage _ _ (Some c.in-Err.call) _ _ attaches_answer c.in-Err.ensures.serves;
+  serves = serves_among g.S.Stage _ _ (Some c.in-Err.call) _ _ (in_front (call.Attach ∷ []) (call.Read ∷ writing_calls)) c.in-Err.ensures.serves;
   beside = λ tells. aside_unattached c.args.store.now _ _ (c.in-Err.ensures.left tells);
   left = λ tells. tt;
 }
@@ -58,7 +44,7 @@ returns-in-Err-clause-promises g c = λ tells X answers before may stores.
 
 pub returns-then-at-eq0-clause-leaves : goal.returns-then-at-eq0-clause-leaves
 returns-then-at-eq0-clause-leaves g c =
-    leaves_attached g.S.Stage _ _ (failed_stage_call c.answer_new.result) c.answer_new.result c.args.store.now _ _ _ writes_answer c.in-Ok.ensures.serves
+    leaves_attached g.S.Stage _ _ (failed_stage_call c.answer_new.result) c.answer_new.result c.args.store.now _ _ _ (behind (call.Attach ∷ call.Read ∷ []) writing_calls) c.in-Ok.ensures.serves
     (λ tells. (c.in-Ok.ensures.attached tells).1) c.answer_new.ensures.leaves
 
 pub returns-then-at-eq0-clause-promises : goal.returns-then-at-eq0-clause-promises
@@ -76,25 +62,19 @@ returns-then-at-eq0-clause-promises g c = λ tells X answers before may stores.
     let there = g.met.S.Stage.files_hold c.answer_new.new.stage name (c.answer_new.ensures.leaves.serves.tells.0 now)
     (attached_still name old mid new a.1 (c.answer_new.ensures.leaves.beside now)) in
     let after : NamedSession = (answer story seed before text).session in
-    record {
-      meaning =
-          on_ok_weaker c.answer_new.result
-          (λ h. subst (λ s. Answers story (answer story seed s text) c.args.reply.now c.answer_new.new.reply (file_bytes new name)) (sym none)
-          (subst (λ b. Answers story (answer story seed Absent text) c.args.reply.now c.answer_new.new.reply b) (sym there) h))
-          (c.answer_new.ensures.promises now X answers).meaning;
-      any_moment =
-          Passes_on _ _ _ _ _ _ (InAnswer story seed name before after old) _
-          (attaches g (goal.at.returns-then-at-eq0-clause-promises g c).After-attach tells X before after stores (inl a.1))
-          (c.answer_new.ensures.promises now X answers).any_moment
-          (λ m i. answer_in_new story seed name before after old mid m stores none a.1
-          (subst (λ s. InFile (LeftOf story seed Absent (answer story seed s text).session) mid m) (sym none) i));
-    }
+    promised_after (c.answer_new.ensures.promises now X answers)
+    (attaches g (goal.at.returns-then-at-eq0-clause-promises g c).After-attach tells X before after stores (inl a.1))
+    (on_ok_weaker c.answer_new.result
+    (λ h. subst (λ s. Answers story (answer story seed s text) c.args.reply.now c.answer_new.new.reply (file_bytes new name)) (sym none)
+    (subst (λ b. Answers story (answer story seed Absent text) c.args.reply.now c.answer_new.new.reply b) (sym there) h)))
+    (λ m i. answer_in_new story seed name before after old mid m stores none a.1
+    (subst (λ s. InFile (LeftOf story seed Absent (answer story seed s text).session) mid m) (sym none) i))
 
 -- ---- one that was kept ----
 
 pub returns-else-at-eq0-clause-leaves : goal.returns-else-at-eq0-clause-leaves
 returns-else-at-eq0-clause-leaves g c =
-    leaves_attached g.S.Stage _ _ (failed_stage_call c.answer_kept.result) c.answer_kept.result c.args.store.now _ _ _ reads_answer c.in-Ok.ensures.serves
+    leaves_attached g.S.Stage _ _ (failed_stage_call c.answer_kept.result) c.answer_kept.result c.args.store.now _ _ _ (behind (call.Attach ∷ []) (call.Read ∷ writing_calls)) c.in-Ok.ensures.serves
     (λ tells. (c.in-Ok.ensures.attached tells).1) c.answer_kept.ensures.leaves
 
 pub returns-else-at-eq0-clause-promises : goal.returns-else-at-eq0-clause-promises
@@ -111,18 +91,11 @@ returns-else-at-eq0-clause-promises g c = λ tells X answers before may stores.
     let here = subst (λ (q : Standing). Stores story before q.disk.bytes) (sym a.1) stores in
     let seed = c.args.hosted.now.seed in
     let after : NamedSession = (answer story seed before (option_copied c.args.text)).session in
-    record {
-      meaning =
-          on_ok_weaker c.answer_kept.result
-          (λ h. subst (λ b. Answers story (answer story c.args.hosted.now.seed before (option_copied c.args.text)) c.args.reply.now c.answer_kept.new.reply b)
-          (sym there) h)
-          (c.answer_kept.ensures.promises now X answers before may here).meaning;
-      any_moment =
-          Passes_on _ _ _ _ _ _ (InAnswer story seed name before after old) _
-          (attaches g (goal.at.returns-else-at-eq0-clause-promises g c).After-attach tells X before after stores (inl a.1))
-          (c.answer_kept.ensures.promises now X answers before may here).any_moment
-          (λ m i. answer_in_kept story seed name before after old mid m stores a.1 i);
-    }
+    promised_after (c.answer_kept.ensures.promises now X answers before may here)
+    (attaches g (goal.at.returns-else-at-eq0-clause-promises g c).After-attach tells X before after stores (inl a.1))
+    (on_ok_weaker c.answer_kept.result
+    (λ h. subst (λ b. Answers story (answer story seed before (option_copied c.args.text)) c.args.reply.now c.answer_kept.new.reply b) (sym there) h))
+    (λ m i. answer_in_kept story seed name before after old mid m stores a.1 i)
 
 -- ---- the reply ----
 

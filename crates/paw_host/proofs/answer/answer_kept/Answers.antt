@@ -1,23 +1,6 @@
-use Rattle.std.proofs.Common.{◌∙◌, [], sym, ap, subst, arith, Some}
-use Rattle.std.specs.Prelude.{OnOk}
-use Rattle.std.specs.Option.{option_copied}
-use Rattle.paw_game.specs.Game.{GameLists}
-use Rattle.paw_stage.specs.Stage.{Standing}
-use Rattle.paw_stage.specs.Moments.{Passes}
-use Rattle.paw_stage.proofs.Time.{Passes_map, Passes_on}
-use Rattle.paw_routines.specs.Routines.{AreAnswersOf}
-use Rattle.paw_journal.specs.inner.Journal.{IsAtRest, failed_stage_call}
-use Rattle.paw_journal.specs.inner.Store.{ChangesStoreOnly}
-use Rattle.paw_journal.proofs.Serving.{serves_then, serves_among}
-use Rattle.paw_effects.specs.Story.{Story, story_of}
-use Rattle.paw_play.specs.inner.Open.{IsOpen}
-use Rattle.paw_host.specs.Replies.{NamedSession, answer}
-use Rattle.paw_host.specs.Promise.{Stores}
-use Rattle.paw_host.specs.inner.Answers.{Answers, InFile, StoresEither, TakesText}
-use Rattle.paw_host.proofs.Calls.{writes_among}
-use Rattle.paw_host.proofs.Keeping.{resumed, kept_refused, kept_told, still_in_file}
-use Rattle.paw_host.proofs.Leaving.{leaves_read, on_ok_said, grown_length}
-use Rattle.paw_host.proofs.Staying.{stays_on}
+use Rattle.paw_host.proofs.Cited.{◌∙◌, [], ◌∷◌, sym, ap, subst, arith, Some, None, option_copied, GameLists, Standing, AreAnswersOf, IsAtRest, ChangesStoreOnly, writing_calls, behind, Story, story_of, IsOpen, answer, Stores, Answers, InFile, StoresEither, TakesText}
+use Rattle.paw_stage.specs.declared.StageCall.TheVariants as call
+use Rattle.paw_host.proofs.{Keeping.resumed, Keeping.kept_refused, Keeping.kept_told, Keeping.in_reading, Leaving.leaves_read, Leaving.on_ok_said, Leaving.grown_length, Leaving.promised_after, Leaving.serves_next, Staying.stays_on}
 use Rattle.paw_host.proofs.answer.answer_kept.Goals as goal
 
 -- ---- there is no session ----
@@ -45,9 +28,7 @@ returns-in-Err-clause-promises g c = λ tells X answers before may stores.
           (kept_refused story c.requires.hosted.prepared.seated.valid old.disk.bytes c.resume.new.player c.resume.new.room.piece seed
           (omega (arith, c.requires.some, at.long)) c.in-Err.end (c.in-Err.ensures.meaning tells X answers) (sym c.push_end.ensures.failed ∙ none)
           before text c.args.reply.now c.push_end.new.reply may stores said));
-      any_moment =
-          Passes_map _ _ _ _ _ (InFile (StoresEither story before (answer story seed before text).session) old) (c.in-Err.ensures.reads.crash tells)
-          (λ m i. still_in_file story before (answer story seed before text).session old m at.rests.stable stores i);
+      any_moment = in_reading story before _ c.in-Err.ensures.reads tells at.rests.stable stores;
     }
 
 -- ---- a text is taken ----
@@ -63,9 +44,7 @@ returns-in-Some-clause-short g c = λ tells. omega (arith, c.answer_text.ensures
 
 pub returns-in-Some-clause-leaves : goal.returns-in-Some-clause-leaves
 returns-in-Some-clause-leaves g c = record {
-  serves =
-      serves_then g.S.Stage _ _ (failed_stage_call c.answer_text.result) _ _ _ c.in-Ok.ensures.reads.serves
-      (serves_among g.S.Stage _ _ (failed_stage_call c.answer_text.result) _ _ writes_among c.answer_text.ensures.leaves.serves);
+  serves = serves_next c.in-Ok.ensures.reads.serves c.answer_text.ensures.leaves.serves (behind (call.Read ∷ []) writing_calls);
   beside = λ tells.
       subst (λ q. ChangesStoreOnly q (g.S.Stage.standing c.answer_text.new.stage)) (c.resume.ensures.reads.still tells)
       (c.answer_text.ensures.leaves.beside (c.resume.ensures.reads.serves.tells.0 tells));
@@ -78,10 +57,7 @@ returns-in-Some-clause-promises g c = λ tells X answers before may stores.
     let seed = c.args.hosted.now.seed in
     let text = c.in-Some.text.now in
     let old : Standing = g.S.Stage.standing c.args.stage.now in
-    let mid : Standing = g.S.Stage.standing c.resume.new.stage in
-    let new : Standing = g.S.Stage.standing c.answer_text.new.stage in
     let still = c.resume.ensures.reads.still tells in
-    let is = ap option_copied c.in-Some.is in
     let piece = c.resume.new.room.piece in
     let up = resumed story c.requires.hosted.prepared.seated.valid old.disk.bytes c.resume.new.player piece c.in-Ok.session
     (c.in-Ok.ensures.meaning tells X answers) before may stores in
@@ -91,19 +67,9 @@ returns-in-Some-clause-promises g c = λ tells X answers before may stores.
     (c.answer_text.ensures.promises (c.resume.ensures.reads.serves.tells.0 tells) X own)
     seed before up.0 up.1 (subst (λ (q : Standing). Stores story before q.disk.bytes) (sym still) stores) up.3
     (subst (λ (q : Standing). IsOpen story up.0 0 [] c.resume.new.player [] piece q.disk.bytes) (sym still) up.2) in
-    record {
-      meaning =
-          subst (λ t. OnOk c.answer_text.result (Answers story (answer story seed before t) c.args.reply.now c.answer_text.new.reply new.disk.bytes)) (sym is)
-          taken.meaning;
-      any_moment =
-          subst (λ t. Passes (g.S.Stage.clock c.args.stage.now) (g.S.Stage.clock c.answer_text.new.stage) (g.S.Stage.since c.args.stage.now)
-          (g.S.Stage.since c.answer_text.new.stage) (InFile (StoresEither story before (answer story seed before t).session) old)) (sym is)
-          (Passes_on _ _ _ _ _ _ (InFile (StoresEither story before (answer story seed before (Some text)).session) old) _
-          (Passes_map _ _ _ _ _ (InFile (StoresEither story before (answer story seed before (Some text)).session) old) (c.resume.ensures.reads.crash tells)
-          (λ m i. still_in_file story before (answer story seed before (Some text)).session old m (c.requires.attached tells).rests.stable stores i))
-          taken.any_moment
-          (λ m i. subst (λ q. InFile (StoresEither story before (answer story seed before (Some text)).session) q m) still i));
-    }
+    rw (ap option_copied c.in-Some.is) (promised_after taken
+    (in_reading story before _ c.in-Ok.ensures.reads tells (c.requires.attached tells).rests.stable stores) (λ a. a)
+    (λ m i. subst (λ q. InFile (StoresEither story before (answer story seed before (Some text)).session) q m) still i))
 
 -- ---- none is ----
 
@@ -121,18 +87,12 @@ returns-in-None-clause-promises g c = λ tells X answers before may stores.
     let story : Story = story_of c.args.player.now.game X in
     let seed = c.args.hosted.now.seed in
     let old : Standing = g.S.Stage.standing c.args.stage.now in
-    let after : NamedSession = (answer story seed before (option_copied c.args.text)).session in
     let piece = c.resume.new.room.piece in
     let up = resumed story c.requires.hosted.prepared.seated.valid old.disk.bytes c.resume.new.player piece c.in-Ok.session
     (c.in-Ok.ensures.meaning tells X answers) before may stores in
     let grown = c.push_piece.ensures.value (omega (arith, c.requires.room, c.in-Ok.ensures.short tells)) in
-    record {
-      meaning =
-          subst (λ (q : Standing). Answers story (answer story seed before (option_copied c.args.text)) c.args.reply.now c.push_piece.new.reply q.disk.bytes)
-          (sym (c.resume.ensures.reads.still tells))
-          (subst (λ t. Answers story (answer story seed before t) c.args.reply.now c.push_piece.new.reply old.disk.bytes) (sym (ap option_copied c.in-None.is))
-          (kept_told up.1 up.2 seed c.args.reply.now c.push_piece.new.reply stores grown));
-      any_moment =
-          Passes_map _ _ _ _ _ (InFile (StoresEither story before after) old) (c.resume.ensures.reads.crash tells)
-          (λ m i. still_in_file story before after old m (c.requires.attached tells).rests.stable stores i);
-    }
+    rw (ap option_copied c.in-None.is) (record {
+      meaning = subst (λ (q : Standing). Answers story (answer story seed before None) c.args.reply.now c.push_piece.new.reply q.disk.bytes)
+          (sym (c.resume.ensures.reads.still tells)) (kept_told up.1 up.2 seed c.args.reply.now c.push_piece.new.reply stores grown);
+      any_moment = in_reading story before _ c.in-Ok.ensures.reads tells (c.requires.attached tells).rests.stable stores;
+    })

@@ -1,24 +1,5 @@
-use Rattle.std.proofs.Common.{◌≡◌, ◌+◌, ◌++◌, ◌∙◌, [], sym, ap, subst, arith, length, Some}
-use Rattle.std.proofs.lemmas.Result.{on_ok_weaker}
-use Rattle.std.specs.Option.{option_copied}
-use Rattle.paw_game.specs.Game.{GameLists}
-use Rattle.paw_stage.specs.Stage.{Standing}
-use Rattle.paw_stage.specs.Moments.{Passes}
-use Rattle.paw_stage.proofs.Time.{Passes_map, Passes_on}
-use Rattle.paw_routines.specs.Routines.{AreAnswersOf}
-use Rattle.paw_journal.specs.inner.Journal.{IsAtRest, failed_stage_call}
-use Rattle.paw_journal.proofs.Moved.{beside_on}
-use Rattle.paw_journal.proofs.Serving.{serves_then}
-use Rattle.paw_effects.specs.Story.{Story, story_of}
-use Rattle.paw_play.specs.Played.{session_begun}
-use Rattle.paw_play.specs.declared.open.OpenSession.{OpenSession}
-use Rattle.paw_host.specs.Replies.{Absent, At, Answer, answer}
-use Rattle.paw_host.specs.inner.Answers.{begun, InFile, LeftOf, TakesText, Answers}
-use Rattle.paw_host.proofs.Answering.{not_begun, just_begun, begun_then, in_new_begun, in_new_taking}
-use Rattle.paw_host.proofs.Leaving.{on_ok_said, grown_length}
-use Rattle.paw_host.proofs.Played.{first_refused, first_answer, first_stands, first_in_file}
-use Rattle.paw_host.proofs.Reaching.{no_bytes}
-use Rattle.paw_host.proofs.Staying.{stays_on}
+use Rattle.paw_host.proofs.Cited.{◌≡◌, ◌+◌, ◌++◌, ◌∙◌, [], sym, ap, subst, arith, length, Some, None, on_ok_weaker, option_copied, GameLists, Standing, Passes_map, AreAnswersOf, IsAtRest, failed_stage_call, beside_on, serves_then, Story, story_of, session_begun, OpenSession, Absent, At, Answer, answer, begun, InFile, LeftOf, TakesText}
+use Rattle.paw_host.proofs.{Answering.not_begun, Answering.just_begun, Answering.begun_then, Answering.in_new_begun, Answering.in_new_taking, Leaving.on_ok_said, Leaving.grown_length, Leaving.promised, Leaving.promised_after, Played.first_refused, Played.first_answer, Played.first_stands, Played.first_in_file, Reaching.no_bytes, Staying.stays_on}
 use Rattle.paw_host.proofs.answer.answer_new.Given.{Over}
 use Rattle.paw_host.proofs.answer.answer_new.Goals.{After-push_piece}
 use Rattle.paw_host.proofs.answer.answer_new.Goals as goal
@@ -62,9 +43,6 @@ returns-in-Some-clause-promises g c = λ tells X answers.
     let seed = c.args.hosted.now.seed in
     let text = c.in-Some.text.now in
     let old : Standing = g.S.Stage.standing c.args.stage.now in
-    let mid : Standing = g.S.Stage.standing c.begin.new.stage in
-    let new : Standing = g.S.Stage.standing c.answer_text.new.stage in
-    let is = ap option_copied c.in-Some.is in
     let made = c.in-Ok.ensures.promises tells X answers [] in
     let first = first_answer story seed made.meaning.0 in
     let at = ap (λ (a : Answer). a.session) first in
@@ -73,22 +51,13 @@ returns-in-Some-clause-promises g c = λ tells X answers.
     c.begin.new.room.piece text c.push_piece.new.reply c.answer_text.new.reply c.answer_text.result) c.begin.ensures.stays.game
     (c.answer_text.ensures.promises (c.begin.ensures.serves.tells.0 tells) X own)
     seed (At seed []) (session_begun story seed []) (begun seed []) (first_stands story seed made.meaning.0) c.in-Ok.ensures.holds.events made.meaning.0 in
-    record {
-      meaning =
-          on_ok_weaker c.answer_text.result
-          (λ a. subst (λ t. Answers story (answer story seed Absent t) c.args.reply.now c.answer_text.new.reply new.disk.bytes) (sym is)
-          (begun_then story seed text c.args.reply.now c.push_piece.new.reply c.answer_text.new.reply new.disk.bytes at
-          (grows g (goal.at.returns-in-Some-clause-promises g c).After-push_piece ∙ ap (λ (b : Answer). c.args.reply.now ++ b.body) (sym first)) a))
-          taken.meaning;
-      any_moment =
-          subst (λ t. Passes (g.S.Stage.clock c.args.stage.now) (g.S.Stage.clock c.answer_text.new.stage) (g.S.Stage.since c.args.stage.now)
-          (g.S.Stage.since c.answer_text.new.stage) (InFile (LeftOf story seed Absent (answer story seed Absent t).session) old)) (sym is)
-          (Passes_on _ _ _ _ _ _ (InFile (LeftOf story seed Absent (answer story seed Absent (Some text)).session) old) _
-          (Passes_map _ _ _ _ _ (InFile (LeftOf story seed Absent (answer story seed Absent (Some text)).session) old) made.any_moment
-          (λ m i. in_new_begun story seed (Some text) old m (first_in_file story seed old m i)))
-          taken.any_moment
-          (λ m i. in_new_taking story seed text old mid m at (c.begin.ensures.beside tells) i));
-    }
+    rw (ap option_copied c.in-Some.is) (promised_after taken
+    (Passes_map _ _ _ _ _ (InFile (LeftOf story seed Absent (answer story seed Absent (Some text)).session) old) made.any_moment
+    (λ m i. in_new_begun story seed (Some text) old m (first_in_file story seed old m i)))
+    (on_ok_weaker c.answer_text.result (begun_then story seed text c.args.reply.now c.push_piece.new.reply c.answer_text.new.reply
+    (g.S.Stage.standing c.answer_text.new.stage).disk.bytes at
+    (grows g (goal.at.returns-in-Some-clause-promises g c).After-push_piece ∙ ap (λ (b : Answer). c.args.reply.now ++ b.body) (sym first))))
+    (λ m i. in_new_taking story seed text old (g.S.Stage.standing c.begin.new.stage) m at (c.begin.ensures.beside tells) i))
 
 -- ---- none is ----
 
@@ -105,19 +74,13 @@ returns-in-None-clause-promises g c = λ tells X answers.
     let story : Story = story_of c.args.player.now.game X in
     let seed = c.args.hosted.now.seed in
     let old : Standing = g.S.Stage.standing c.args.stage.now in
-    let bytes = (g.S.Stage.standing c.begin.new.stage).disk.bytes in
-    let made = c.in-Ok.ensures.promises tells X answers [] in
-    let first = first_answer story seed made.meaning.0 in
-    record {
-      meaning =
-          subst (λ t. Answers story (answer story seed Absent t) c.args.reply.now c.push_piece.new.reply bytes) (sym (ap option_copied c.in-None.is))
-          (just_begun story seed c.args.reply.now c.push_piece.new.reply bytes (ap (λ (a : Answer). a.session) first)
-          (grows g (goal.at.returns-in-None-clause-promises g c).After-push_piece ∙ ap (λ (b : Answer). c.args.reply.now ++ b.body) (sym first))
-          (first_stands story seed made.meaning.0));
-      any_moment =
-          Passes_map _ _ _ _ _ (InFile (LeftOf story seed Absent (answer story seed Absent (option_copied c.args.text)).session) old) made.any_moment
-          (λ m i. in_new_begun story seed (option_copied c.args.text) old m (first_in_file story seed old m i));
-    }
+    rw (ap option_copied c.in-None.is) (promised (c.in-Ok.ensures.promises tells X answers [])
+    (λ made.
+    let first = first_answer story seed made.0 in
+    just_begun story seed c.args.reply.now c.push_piece.new.reply (g.S.Stage.standing c.begin.new.stage).disk.bytes (ap (λ (a : Answer). a.session) first)
+    (grows g (goal.at.returns-in-None-clause-promises g c).After-push_piece ∙ ap (λ (b : Answer). c.args.reply.now ++ b.body) (sym first))
+    (first_stands story seed made.0))
+    (λ m i. in_new_begun story seed None old m (first_in_file story seed old m i)))
 
 -- ---- the game isn't begun ----
 
@@ -135,16 +98,12 @@ returns-in-Err-clause-promises g c = λ tells X answers.
     let seed = c.args.hosted.now.seed in
     let text = option_copied c.args.text in
     let old : Standing = g.S.Stage.standing c.args.stage.now in
-    let made = c.in-Err.ensures.promises tells X answers [] in
-    record {
-      meaning = on_ok_said c.push_end.result c.push_end.ensures.says (λ none said.
-          let fine = sym c.push_end.ensures.failed ∙ none in
-          let first = first_refused story seed OpenSession (g.S.Stage.standing c.begin.new.stage) c.begin.new.player c.begin.new.room.piece c.in-Err.end made.meaning fine in
-          not_begun story seed text c.args.reply.now c.push_end.new.reply _ (ap (λ (a : Answer). a.session) first)
-          (said ∙ ap (λ (a : Answer). c.args.reply.now ++ a.body) (sym first))
-          (ap (λ q. (g.S.Stage.standing q).disk.bytes) (c.in-Err.ensures.still fine)
-          ∙ no_bytes old.disk.bytes (sym (c.requires.attached tells).long ∙ c.requires.empty)));
-      any_moment =
-          Passes_map _ _ _ _ _ (InFile (LeftOf story seed Absent (answer story seed Absent text).session) old) made.any_moment
-          (λ m i. in_new_begun story seed text old m (first_in_file story seed old m i));
-    }
+    promised (c.in-Err.ensures.promises tells X answers [])
+    (λ made. on_ok_said c.push_end.result c.push_end.ensures.says (λ none said.
+    let fine = sym c.push_end.ensures.failed ∙ none in
+    let first = first_refused story seed OpenSession (g.S.Stage.standing c.begin.new.stage) c.begin.new.player c.begin.new.room.piece c.in-Err.end made fine in
+    not_begun story seed text c.args.reply.now c.push_end.new.reply _ (ap (λ (a : Answer). a.session) first)
+    (said ∙ ap (λ (a : Answer). c.args.reply.now ++ a.body) (sym first))
+    (ap (λ q. (g.S.Stage.standing q).disk.bytes) (c.in-Err.ensures.still fine)
+    ∙ no_bytes old.disk.bytes (sym (c.requires.attached tells).long ∙ c.requires.empty))))
+    (λ m i. in_new_begun story seed text old m (first_in_file story seed old m i))

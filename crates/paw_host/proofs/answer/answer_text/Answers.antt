@@ -1,14 +1,5 @@
-use Rattle.std.proofs.Common.{◌∙◌, [], sym, subst, arith, Some}
-use Rattle.paw_stage.specs.Stage.{Standing}
-use Rattle.paw_stage.proofs.Time.{Passes_map}
-use Rattle.paw_journal.specs.inner.Journal.{IsAtRest}
-use Rattle.paw_effects.specs.Story.{Story, story_of}
-use Rattle.paw_play.specs.declared.open.OpenSession.{OpenSession}
-use Rattle.paw_host.specs.Replies.{answer}
-use Rattle.paw_host.specs.Promise.{Stores}
-use Rattle.paw_host.specs.inner.Answers.{InFile, StoresEither}
-use Rattle.paw_host.proofs.Leaving.{on_ok_said, grown_length}
-use Rattle.paw_host.proofs.Played.{text_refused, text_taken, text_in_file}
+use Rattle.paw_host.proofs.Cited.{◌∙◌, [], sym, subst, arith, Standing, IsAtRest, story_of, OpenSession, Stores}
+use Rattle.paw_host.proofs.{Leaving.on_ok_said, Leaving.grown_length, Leaving.promised, Played.text_refused, Played.text_taken, Played.text_in_file}
 use Rattle.paw_host.proofs.answer.answer_text.Goals as goal
 
 -- ---- a piece ----
@@ -24,15 +15,12 @@ returns-in-Ok-clause-leaves g c =
 
 pub returns-in-Ok-clause-promises : goal.returns-in-Ok-clause-promises
 returns-in-Ok-clause-promises g c = λ tells X answers seed named s plays stores count opened.
-    let story : Story = story_of c.args.player.now.game X in
     let old : Standing = g.S.Stage.standing c.args.stage.now in
-    let taken = c.in-Ok.ensures.promises tells X answers s 0 [] [] opened (omega (arith, count)) in
-    record {
-      meaning = text_taken plays seed c.args.text.now OpenSession c.in-Ok.field-0 old (g.S.Stage.standing c.take.new.stage) c.take.new.player c.take.new.room.piece c.args.reply.now
-          c.push_piece.new.reply taken.meaning (c.push_piece.ensures.value (omega (arith, c.requires.room, c.in-Ok.ensures.short)));
-      any_moment = Passes_map _ _ _ _ _ (InFile (StoresEither story named (answer story seed named (Some c.args.text.now)).session) old) taken.any_moment
-          (λ m i. text_in_file plays seed c.args.text.now old m stores opened.keeps i);
-    }
+    promised (c.in-Ok.ensures.promises tells X answers s 0 [] [] opened (omega (arith, count)))
+    (λ taken. text_taken plays seed c.args.text.now OpenSession c.in-Ok.field-0 old (g.S.Stage.standing c.take.new.stage) c.take.new.player
+    c.take.new.room.piece c.args.reply.now c.push_piece.new.reply taken
+    (c.push_piece.ensures.value (omega (arith, c.requires.room, c.in-Ok.ensures.short))))
+    (λ m i. text_in_file plays seed c.args.text.now old m stores opened.keeps i)
 
 -- ---- none ----
 
@@ -46,14 +34,13 @@ returns-in-Err-clause-leaves g c = record {
 
 pub returns-in-Err-clause-promises : goal.returns-in-Err-clause-promises
 returns-in-Err-clause-promises g c = λ tells X answers seed named s plays stores count opened.
-    let story : Story = story_of c.args.player.now.game X in
     let old : Standing = g.S.Stage.standing c.args.stage.now in
-    let taken = c.in-Err.ensures.promises tells X answers s 0 [] [] opened (omega (arith, count)) in
-    record {
-      meaning = on_ok_said c.push_end.result c.push_end.ensures.says (λ none said.
-          let fine = sym c.push_end.ensures.failed ∙ none in
-          rw (text_refused plays seed c.args.text.now OpenSession old (g.S.Stage.standing c.take.new.stage) c.take.new.player c.take.new.room.piece c.in-Err.end taken.meaning fine)
-          (record { body = said; stores = subst (λ q. Stores story named (g.S.Stage.standing q).disk.bytes) (sym (c.in-Err.ensures.still fine)) stores }));
-      any_moment = Passes_map _ _ _ _ _ (InFile (StoresEither story named (answer story seed named (Some c.args.text.now)).session) old) taken.any_moment
-          (λ m i. text_in_file plays seed c.args.text.now old m stores opened.keeps i);
-    }
+    promised (c.in-Err.ensures.promises tells X answers s 0 [] [] opened (omega (arith, count)))
+    (λ taken. on_ok_said c.push_end.result c.push_end.ensures.says (λ none said.
+    let fine = sym c.push_end.ensures.failed ∙ none in
+    rw (text_refused plays seed c.args.text.now OpenSession old (g.S.Stage.standing c.take.new.stage) c.take.new.player c.take.new.room.piece
+    c.in-Err.end taken fine) (record {
+      body = said;
+      stores = subst (λ q. Stores (story_of c.args.player.now.game X) named (g.S.Stage.standing q).disk.bytes) (sym (c.in-Err.ensures.still fine)) stores;
+    })))
+    (λ m i. text_in_file plays seed c.args.text.now old m stores opened.keeps i)

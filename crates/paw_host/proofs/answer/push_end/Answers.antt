@@ -1,4 +1,4 @@
-use Rattle.std.proofs.Common.{◌++◌, ◌∙◌, ap, arith}
+use Rattle.paw_host.proofs.Cited.{◌++◌, ◌∙◌, ap, arith}
 use Rattle.paw_host.proofs.Leaving.{grown_length}
 use Rattle.paw_host.proofs.answer.push_end.Goals as goal
 

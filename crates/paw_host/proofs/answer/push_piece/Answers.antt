@@ -1,4 +1,4 @@
-use Rattle.std.proofs.Common.{◌++◌, ◌∙◌, ap, arith, length}
+use Rattle.paw_host.proofs.Cited.{◌++◌, ◌∙◌, ap, arith, length}
 use Rattle.paw_host.proofs.answer.push_piece.Goals as goal
 
 pub returns : goal.returns

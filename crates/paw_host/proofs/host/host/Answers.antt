@@ -1,21 +1,5 @@
-use Rattle.std.proofs.Common.{◌∙◌, sym, ap, subst}
-use Rattle.sha2.specs.Sha256.{sha256}
-use Rattle.paw_image.specs.inner.Views.{game_read}
-use Rattle.paw_effects.specs.Story.{story_of}
-use Rattle.paw_stage.specs.Disk.{IsStable}
-use Rattle.paw_stage.specs.Stage.{Standing}
-use Rattle.paw_stage.proofs.Time.{Passes_map, Passes_on}
-use Rattle.paw_journal.proofs.Serving.{in_front, behind, serves_among, serves_still, serves_then}
-use Rattle.paw_play.specs.Calls.{session_calls}
-use Rattle.paw_stage.specs.Loads.{load_calls}
-use Rattle.paw_host.specs.Outcomes.{host_failure}
-use Rattle.paw_host.specs.Names.{store_name}
-use Rattle.paw_host.specs.Promise.{BeginsWith, InHost}
-use Rattle.paw_host.proofs.Hosting.{at_first}
-use Rattle.paw_play.proofs.ImageFiles.{holds_loaded}
-use Rattle.paw_play.proofs.Failing.{left_as_read}
-use Rattle.paw_host.proofs.Loading.{same_story, unloaded, undecoded, hosted}
-use Rattle.paw_host.proofs.Reaching.{FilesHold}
+use Rattle.paw_host.proofs.Cited.{◌∙◌, sym, ap, subst, sha256, game_read, story_of, IsStable, Standing, Passes_map, Passes_on, in_front, behind, serves_among, serves_still, serves_then, session_calls, load_calls, host_failure, store_name, BeginsWith, InHost, holds_loaded, left_as_read}
+use Rattle.paw_host.proofs.{Hosting.at_first, Loading.same_story, Loading.unloaded, Loading.undecoded, Loading.hosted}
 use Rattle.paw_host.proofs.host.host.Goals as goal
 
 pub host_game-requires-clause-digests : goal.host_game-requires-clause-digests
@@ -45,21 +29,20 @@ returns-clause-comes g c = λ tells. rw c.in-Some.ensures.value
     let game = game_read c.in-Ok-view_in.view in
     hosted X c.in-Some.call.image.now c.in-Some.call.seed _ _ _ c.host_game.result game
     (holds_loaded c.in-Some.call.image.now _ _ _ _ game c.as_slice.ensures.value f c.in-Ok-view_in.ensures.found) f.3
-    (c.host_game.ensures.ends (c.load.ensures.serves.tells.0 tells)) (c.host_game.ensures.meaning (c.load.ensures.serves.tells.0 tells) X answers))
+    (c.host_game.ensures.ends (c.load.ensures.serves.tells.0 tells))
+    (λ first b. (c.host_game.ensures.promises (c.load.ensures.serves.tells.0 tells) X answers first b).meaning))
 
 pub returns-in-Err-clause-moments : goal.returns-in-Err-clause-moments
 returns-in-Err-clause-moments g c = λ tells. rw c.in-Some.ensures.value
     (λ X answers k first holds b.
-    let files : FilesHold (g.S.Stage.standing c.args.stage.now) = λ name e. g.met.S.Stage.files_hold c.args.stage.now name tells e in
-    Passes_map _ _ _ _ _ _ (c.load.ensures.time tells)
-    (at_first (story_of k X) c.in-Some.call.seed first _ b (c.requires.synced tells) files))
+    Passes_map _ _ _ _ _ _ (c.load.ensures.time tells) (at_first (story_of k X) c.in-Some.call.seed first _ b
+    (record { stable = c.requires.synced tells; files = λ name e. g.met.S.Stage.files_hold c.args.stage.now name tells e })))
 
 pub returns-in-Err-view_in-clause-moments : goal.returns-in-Err-view_in-clause-moments
 returns-in-Err-view_in-clause-moments g c = λ tells. rw c.in-Some.ensures.value
     (λ X answers k first holds b.
-    let files : FilesHold (g.S.Stage.standing c.args.stage.now) = λ name e. g.met.S.Stage.files_hold c.args.stage.now name tells e in
-    Passes_map _ _ _ _ _ _ (c.load.ensures.time tells)
-    (at_first (story_of k X) c.in-Some.call.seed first _ b (c.requires.synced tells) files))
+    Passes_map _ _ _ _ _ _ (c.load.ensures.time tells) (at_first (story_of k X) c.in-Some.call.seed first _ b
+    (record { stable = c.requires.synced tells; files = λ name e. g.met.S.Stage.files_hold c.args.stage.now name tells e })))
 
 pub returns-clause-moments : goal.returns-clause-moments
 returns-clause-moments g c = λ tells. rw c.in-Some.ensures.value
@@ -68,14 +51,14 @@ returns-clause-moments g c = λ tells. rw c.in-Some.ensures.value
     let old : Standing = g.S.Stage.standing c.args.stage.now in
     let seed = c.in-Some.call.seed in
     let game = game_read c.in-Ok-view_in.view in
-    let files : FilesHold old = λ name e. g.met.S.Stage.files_hold c.args.stage.now name tells e in
     let same = same_story old c.in-Some.call.image.now game k X
     (holds_loaded c.in-Some.call.image.now _ _ _ _ game c.as_slice.ensures.value f c.in-Ok-view_in.ensures.found) holds in
     Passes_on _ _ _ _ _ _ (InHost (story_of k X) seed first old) _
     (Passes_map _ _ _ _ _ (InHost (story_of k X) seed first old) (c.load.ensures.time tells)
-    (at_first (story_of k X) seed first old b (c.requires.synced tells) files))
-    (c.host_game.ensures.any_moment (c.load.ensures.serves.tells.0 tells) X answers first
-    (subst (λ q. BeginsWith (story_of game X) first q) (sym f.3) (subst (λ s. BeginsWith s first old) (sym same) b)))
+    (at_first (story_of k X) seed first old b
+    (record { stable = c.requires.synced tells; files = λ name e. g.met.S.Stage.files_hold c.args.stage.now name tells e })))
+    (c.host_game.ensures.promises (c.load.ensures.serves.tells.0 tells) X answers first
+    (subst (λ q. BeginsWith (story_of game X) first q) (sym f.3) (subst (λ s. BeginsWith s first old) (sym same) b))).any_moment
     (λ m i. subst (λ s. InHost s seed first old m) same (subst (λ q. InHost (story_of game X) seed first q m) f.3 i)))
 
 pub returns-in-None-clause-left : goal.returns-in-None-clause-left

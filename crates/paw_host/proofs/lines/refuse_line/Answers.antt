@@ -1,4 +1,4 @@
-use Rattle.std.proofs.Common.{◌++◌, ◌∙◌, ap, arith, codes}
+use Rattle.paw_host.proofs.Cited.{◌++◌, ◌∙◌, ap, arith, codes}
 use Rattle.paw_host.proofs.lines.refuse_line.Goals as goal
 
 pub returns : goal.returns

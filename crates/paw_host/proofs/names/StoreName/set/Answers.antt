@@ -1,5 +1,4 @@
-use Rattle.std.proofs.Common.{sym, subst}
-use Rattle.std.specs.Str.{IsUtf8}
+use Rattle.paw_host.proofs.Cited.{sym, subst, IsUtf8}
 use Rattle.paw_host.proofs.Named.{store_text}
 use Rattle.paw_host.proofs.names.StoreName.set.Goals as goal
 
