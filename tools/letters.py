@@ -1,9 +1,10 @@
 """The plain letters that typed ones stand for: games know ASCII alone, and every front end asks here.
 
-A letter that Unicode takes apart stands for its base (o for an o with two dots); the table has those that it doesn't. Marks and
-characters without a width are left out, every kind of blank and control is a blank, and what stands for nothing plain is a
-question mark, which parts phrases as it does where it is typed. The program parts words at an apostrophe: so one between two
-letters is left out, or WHAT'S would be WHAT and S, which goes south.
+A letter that Unicode takes apart stands for its base (o for an o with two dots); the table has those that it doesn't, and the
+Greek and Cyrillic ones as they are spelt in Latin letters. Marks and characters without a width are left out, every kind of
+blank and control is a blank, and what stands for nothing plain is a question mark, which parts phrases as it does where it is
+typed. The program parts words at an apostrophe: so one between two letters is left out, or WHAT'S would be WHAT and S, which
+goes south.
 """
 import functools
 import json
@@ -17,6 +18,17 @@ STANDS_FOR = {
     "ʹ": "'", "ʻ": "'", "ʼ": "'", "“": '"', "”": '"', "„": '"', "‟": '"', "«": '"', "»": '"', "″": '"', "‐": "-", "‒": "-", "–": "-",
     "—": "-", "―": "-", "−": "-", "⁃": "-", "⁄": "/", "•": "*",
 }
+# Letters of other alphabets, as they are mostly written by those of the Latin one.
+SPELT = {
+    "а": "a", "б": "b", "в": "v", "г": "g", "д": "d", "е": "e", "ж": "zh", "з": "z", "и": "i", "к": "k", "л": "l", "м": "m", "н": "n",
+    "о": "o", "п": "p", "р": "r", "с": "s", "т": "t", "у": "u", "ф": "f", "х": "kh", "ц": "ts", "ч": "ch", "ш": "sh", "щ": "shch",
+    "ъ": "", "ы": "y", "ь": "", "э": "e", "ю": "yu", "я": "ya", "є": "ye", "і": "i", "ґ": "g", "ђ": "dj", "ј": "j", "љ": "lj",
+    "њ": "nj", "ћ": "c", "џ": "dz", "ѕ": "dz",
+    "α": "a", "β": "v", "γ": "g", "δ": "d", "ε": "e", "ζ": "z", "η": "i", "θ": "th", "ι": "i", "κ": "k", "λ": "l", "μ": "m", "ν": "n",
+    "ξ": "x", "ο": "o", "π": "p", "ρ": "r", "σ": "s", "ς": "s", "τ": "t", "υ": "y", "φ": "f", "χ": "ch", "ψ": "ps", "ω": "o",
+}
+STANDS_FOR.update(SPELT)
+STANDS_FOR.update({letter.upper(): spelt.upper() for letter, spelt in SPELT.items() if letter != "ς"})
 UNKNOWN = "?"
 WITHIN_WORD = "([A-Za-z0-9])'(?=[A-Za-z0-9])"
 IN_JAVASCRIPT = """\
