@@ -89,6 +89,11 @@ class Part:
         return line
 
 
+def rest_of(row):
+    """What stands behind the first word of a row."""
+    return row.split(None, 1)[1].strip()
+
+
 def parts_of(rows):
     """The parts of a wanted text."""
     parts = [Part()]
@@ -111,15 +116,28 @@ class Difference:
 
 
 class Test:
-    """A test of a file: its name, its line, the seed, and what is wanted of each answer."""
+    """A test of a file: its name, its line, the seed, the test whose lines are typed before its own, and what is wanted of each answer."""
 
     def __init__(self, path, name, line, seed):
         self.path, self.name, self.line, self.seed = path, name, line, seed
+        self.before = None
         self.answers = [Answer(None, line)]
 
     @property
-    def lines(self):
+    def own_lines(self):
         return [answer.typed for answer in self.answers[1:]]
+
+    @property
+    def lines_before(self):
+        return self.before.lines if self.before else []
+
+    @property
+    def lines(self):
+        return self.lines_before + self.own_lines
+
+    def own_answers(self, answers):
+        """What was shown right before the first line of its own, and behind each."""
+        return answers[len(self.lines_before):]
 
     @property
     def is_open(self):
@@ -153,6 +171,8 @@ class Reader:
             self.begin(rest)
         elif re.match(r"seed\b", row) and self.is_head(row):
             self.take_seed(row)
+        elif self.tests and re.match(r"after\s", row) and not self.tests[-1].own_lines and self.tests[-1].is_open:
+            self.begin_after(rest_of(row))
         elif not self.tests:
             self.fault("text above the first test: a line that begins with # and a name begins one")
         elif mark == ">":
@@ -174,12 +194,19 @@ class Reader:
         self.tests.append(Test(self.path, name, self.number, self.seed))
 
     def end_of_test(self):
-        if self.tests and not self.tests[-1].lines and self.tests[-1].is_open:
+        if self.tests and not self.tests[-1].own_lines and self.tests[-1].is_open:
             self.fault("this test has no line typed, and no text that is wanted", self.tests[-1].line)
+
+    def begin_after(self, name):
+        """A test begins where one above it ends, with the seed of that."""
+        test, found = self.tests[-1], [other for other in self.tests[:-1] if other.name == name]
+        if not found:
+            self.fault("no test above has the name %s; as a text that is wanted this line has \\ before it" % name)
+        test.before, test.seed = found[0], found[0].seed
 
     def is_head(self, row):
         """Whether no line is typed yet in this test; a seed below one is a fault, and other rows that begin so are text."""
-        below = self.tests and self.tests[-1].lines
+        below = self.tests and self.tests[-1].own_lines
         if below and re.fullmatch(r"seed\s+\d+", row):
             self.fault("a seed stands above the first line typed; as a text that is wanted it has \\ before it")
         return not below
@@ -188,6 +215,8 @@ class Reader:
         found = re.fullmatch(r"seed\s+(\d{1,20})", row)
         if not found or int(found.group(1)) >= 1 << 64:
             self.fault("a seed is a number below 2^64, as in: seed 11; a text that is wanted and begins so has \\ before it")
+        if self.tests and self.tests[-1].before:
+            self.fault("this test has the seed of the one after which it begins")
         if self.tests:
             self.tests[-1].seed = found.group(1)
         else:
@@ -252,7 +281,7 @@ def filled(path, plays):
     added = {}
     for played in plays:
         for answer, shown in zip(played.test.answers[1:], played.answers[1:]):
-            added[answer.line] = [("\\" if row[0] in "#>;!\\" or re.match(r"seed\b", row) else "") + row
+            added[answer.line] = [("\\" if row[0] in "#>;!\\" or re.match(r"(seed|after)\b", row) else "") + row
                                   for row in map(str.strip, shown.split("\n")) if row]
     rows = []
     for number, row in enumerate(paws.lines_of(path), 1):
@@ -266,7 +295,7 @@ class Played:
     def __init__(self, game, test):
         self.test = test
         self.parts, status, said = paws.pieces(game.paw, game.image, test.lines, test.seed)
-        self.answers = [game.answer(part) for part in self.parts]
+        self.answers = test.own_answers([game.answer(part) for part in self.parts])
         self.why = ended([game.paw, "walk", game.image, test.seed], status, said) if status else None
         self.difference = None if status else test.difference(self.answers)
 
