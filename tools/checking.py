@@ -91,9 +91,10 @@ class Checks:
 
     # --- one state
 
-    def state(self, state):
+    def state(self, state, number):
+        """Tries a state, by its number among all: of what isn't near other things are tried in each."""
         self.states += 1
-        game, self.turn = self.game, self.turn + 1
+        game, self.turn = self.game, number
         self.far, words = set(), sorted(game.nouns)
         plain = sorted(self.verbs.values()) + ["inventory", "help", "wait", "look"]
         first = self.tried(state, ["x " + game.written[word] for word in words] + plain)
@@ -111,12 +112,14 @@ class Checks:
         self.shown_words = {word[:5] for text in state.shown for word in probing.words_in(text)}
         near = {word: self.bare_answer(one.answer) for word, one in zip(words, looked)
                 if not self.absent.fullmatch(self.bare_answer(one.answer))}
-        self.of_texts(state, near, helped)
-        self.of_words(state, near)
-        for one in looked:
-            self.of_try(state, one, near)
+        texts_count = not self.only or self.only - set(OF_ENDS)
+        if texts_count:
+            self.of_texts(state, near, helped)
+            self.of_words(state, near)
+            for one in looked:
+                self.of_try(state, one, near)
         lines = self.lines_tried(state, near)
-        if not self.only or self.only - set(OF_ENDS):
+        if texts_count:
             answers = {}
             for one in self.tried(state, lines):
                 self.of_try(state, one, near)

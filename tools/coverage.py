@@ -110,7 +110,7 @@ class Report:
             return None
         failed = [step for number, step in enumerate(entry.steps) if (table, at, number) in self.seen.failed]
         why = "comes no further than %s" % self.names.step(failed[-1]) if failed else "never read"
-        return entry.line, "entry %s of table %d: %s" % (entry.written, table, why)
+        return entry.line, "entry %s of table %s: %s" % (entry.written, self.source.told("table", table), why)
 
     def printed(self, condacts, section):
         """The numbers of messages that these condacts have printed. Where a flag told which, those whose text was shown."""
@@ -140,7 +140,8 @@ class Report:
         if (place, way.verb, way.to) in self.seen.exits:
             return None
         there, then = (steps.cut(self.source.texts["/LTX"][number].text, 24) for number in (place, way.to))
-        return way.line, "exit %s of %d (%s) to %d (%s)" % (self.names.of("verb", way.verb), place, there, way.to, then)
+        return way.line, "exit %s of %s (%s) to %s (%s)" % (
+            self.names.of("verb", way.verb), self.source.told("location", place), there, self.source.told("location", way.to), then)
 
     def shown(self):
         """The rows of what wasn't reached, and a table of how much was."""

@@ -14,7 +14,6 @@ TEXTS = {"/STX": ("system message", 256), "/MTX": ("message", 256), "/OTX": ("ob
 SECTION_OF = {kind: header for header, (kind, _) in TEXTS.items()}
 CLASSES = ["verb", "adverb", "noun", "adjective", "preposition", "conjunction", "pronoun"]
 CLASS_OF = {"A": "adverb", "B": "noun", "J": "adjective", "R": "preposition"}
-KIND_OF = {"L": "location", "P": "location", "O": "object", "F": "flag", "M": "message", "S": "system message", "T": "table"}
 # What a name may be declared as in the list /NAMES, and what that is called.
 DECLARED = {"flag": "flag", "number": "number", "location": "location", "object": "object", "message": "message",
             "sysmess": "system message", "table": "table"}
@@ -23,6 +22,9 @@ LIMITS = {"words": 2000, "entries": 4000, "condacts": 255}
 NAME = re.compile(r"[A-Z][A-Z0-9_]*$")
 WORD = re.compile(r"[A-Z0-9]+$")
 QUOTED = re.compile(r"'([A-Z0-9]+)'$")
+REMARKS = ("#", "//")  # what begins a comment elsewhere
+BYTE_ORDER_MARK = b"\xef\xbb\xbf".decode("latin-1")
+ALIKE = 0.65  # how like a name has to be for one that is near
 
 
 def article(noun):
@@ -103,8 +105,12 @@ class Reading:
         self.tables_begun = set()                              # the numbers of the tables above
         self.unsure = set()                                    # kinds of which some may be missing, after an earlier fault
         self.number, self.line, self.muted, self.told_many = 0, "", False, False
+        self.is_unknown, self.lost = False, []                 # whether this section is none; missing ones, with the lines around
+        self.why_unread = None                                 # why no line can be read
         if len(text) > paws.SOURCE_LIMIT:
             self.fault_of_all("the source has more than the 8,388,608 bytes that are allowed.")
+            return
+        if self.is_of_another_kind():
             return
         self.slashes = [number for number, line in enumerate(self.lines, 1) if line.startswith("/")]
         self.name_tables()
@@ -112,13 +118,26 @@ class Reading:
             self.read_line()
         self.finish()
 
+    def is_of_another_kind(self):
+        """Tells of a file whose bytes are no plain text; a byte order mark is passed over then. Gives whether no line can be read."""
+        if self.text.startswith(BYTE_ORDER_MARK):
+            self.lines[0] = self.lines[0][len(BYTE_ORDER_MARK):]
+            self.faults.append(Fault(1, "Text", 0, 1, "the file begins with a byte order mark: save it as UTF-8 without one."))
+        elif self.text[:2] in ("\xff\xfe", "\xfe\xff"):
+            self.why_unread = "the file is written in UTF-16: save it as UTF-8 or ASCII."
+        elif "\r" in self.text and "\n" not in self.text:
+            self.why_unread = "lines end with CR alone here: save the file with LF, or CR and LF, behind its lines."
+        if self.why_unread:
+            self.faults.append(Fault(1, "Text", 0, 1, self.why_unread))
+        return bool(self.why_unread)
+
     # --- What is told ----------------------------------------------------------------------------------------------
 
     def nearest(self, name, names):
         """The name that is most like this one, or nothing; behind a hundred faults none is looked for, since that takes time."""
         if len(self.faults) >= 100:
             return None
-        found = difflib.get_close_matches(name.upper(), list(names), n=1, cutoff=0.5)
+        found = difflib.get_close_matches(name.upper(), list(names), n=1, cutoff=ALIKE)
         return found[0] if found else None
 
     def fault_of_all(self, why):
@@ -194,6 +213,8 @@ class Reading:
         if others:
             return "%s is the name of %s %d (line %d)" % (others[0].written, others[0].kind, others[0].number, others[0].line)
         shown = paws.printable(token.text)
+        if token.text.startswith('"'):
+            return "texts stand in /MTX and the like, and their numbers or names here"
         if not NAME.match(token.letters):
             return "%s is no number" % shown
         why = "nothing has the name %s" % shown if len(kinds) > 1 else "no %s has the name %s" % (kinds[0], shown)
@@ -270,7 +291,7 @@ class Reading:
         if letter == "N":
             self.number_of(token, KINDS, "a number, 0 to 255,", 0, 255, words=True)
             return
-        kind = KIND_OF[letter]
+        kind = paws.KIND_OF[letter]
         wanted, most = self.wants(kind), 255 if kind == "flag" else self.tables - 1
         if kind in SECTION_OF:
             most = None if kind in self.unsure else self.counts[SECTION_OF[kind]] - 1
@@ -281,6 +302,8 @@ class Reading:
             if token.letters in paws.PLACES:
                 return
         self.number_of(token, [kind], wanted, 0, most)
+        if token.text.startswith('"'):
+            raise Stop
 
     def wants_place(self):
         return "a place (%s, NOTCREATED, WORN, CARRIED or HERE)" % self.wants("location").rstrip(",")
@@ -333,10 +356,27 @@ class Reading:
                 self.slash_line(tokens_of(line))
             else:
                 tokens = tokens_of(line)
-                if tokens:
+                if tokens and not self.is_unknown:
                     self.row(tokens)
         except Stop:
             pass
+        if line.startswith(REMARKS) and not is_text:
+            self.told_as("A comment begins with ;.")
+        elif self.section == "/PRO" and line[:1] in (" ", "\t") and self.looks_like_entry(tokens_of(line)):
+            self.told_as("A line that begins with a blank has more of the entry above.")
+
+    def looks_like_entry(self, tokens):
+        """Whether two words of the vocabulary, or _, stand first."""
+        return len(tokens) > 1 and tokens[0].letters[:5] in self.words and (
+            tokens[1].text == "_" or tokens[1].letters[:5] in self.words)
+
+    def told_as(self, why):
+        """Of a line that is meant otherwise than it is read one fault is told, and what to know there."""
+        here = [fault for fault in self.faults if fault.line == self.number]
+        for fault in here[1:]:
+            self.faults.remove(fault)
+        if here:
+            here[0].why += " " + why
 
     def character(self, at):
         """The bytes at a column that are one character of UTF-8, or one byte."""
@@ -378,7 +418,10 @@ class Reading:
         if first.letters == "/NAMES":
             self.names_header(first, rest)
         elif first.letters in HEADERS:
+            self.is_unknown = False
             self.header(first, rest)
+        elif self.is_unknown:
+            return
         elif is_item or self.may_be_named(first):
             self.item_line(first, rest, is_item)
         else:
@@ -406,6 +449,7 @@ class Reading:
                 self.stop("Section", first, "%s is due here: the sections stand in the order %s." % (wanted, " ".join(HEADERS)))
             self.fault("Section", first, "%s is missing above: the sections stand in the order %s.%s" % (
                 listed(missing, "and"), " ".join(HEADERS), self.misspelt(missing[0])))
+            self.lost.append((missing, max(self.begun.values(), default=0), self.number))
             self.unsure.update(missing)
             self.unsure.update(TEXTS[name][0] for name in missing if name in TEXTS)
         fine = header == wanted
@@ -508,6 +552,9 @@ class Reading:
             self.item, self.exits = -1 if self.item is None else self.item, {}
             self.stop("Section", first, "a location is wanted here; %s." % self.why_unknown(token, ["location"]))
         token = paws.printable(first.text)
+        if self.section not in TEXTS and self.section != "/CON" and self.comes_below(due):
+            self.section, self.item, self.is_unknown = None, None, True
+            self.stop("Section", first, "no section has the name %s%s; the next is %s." % (token, "; near: " + near if near else "", due))
         if near:
             self.fault("Section", first, "no section has the name %s; near: %s." % (token, near))
             if near == due and near != "/PRO":
@@ -807,7 +854,7 @@ class Reading:
     def wanted(self, letter):
         if letter in CLASS_OF:
             return "%s, or _," % article(CLASS_OF[letter])
-        return self.wants(KIND_OF.get(letter, "number"))
+        return self.wants(paws.KIND_OF.get(letter, "number"))
 
     def no_condact(self, token, last, rest):
         near = self.nearest(token.letters, self.condacts)
@@ -820,8 +867,19 @@ class Reading:
 
     # --- The end ---------------------------------------------------------------------------------------------------
 
+    def told_once(self):
+        """Where a header is missing, the lines that it should stand above are read as others: the first fault among them tells it."""
+        for missing, first, last in self.lost:
+            here = [fault for fault in self.faults if first < fault.line < last]
+            if here:
+                here[0].why = "%s %s missing above, so this is read as a line of %s: %s" % (
+                    listed(missing, "and"), "is" if len(missing) == 1 else "are", self.lines[first - 1].split()[0].upper(), here[0].why)
+                told = [fault for fault in self.faults if fault.line == last and " missing above" in fault.why]
+                self.faults = [fault for fault in self.faults if fault not in here[1:] + told]
+
     def finish(self):
         self.muted = False
+        self.told_once()
         if self.table < 2:
             missing = [name for name in HEADERS[self.due:] if name != "/PRO"]
             missing += ["/PRO %d" % number for number in range(self.table + 1, 3)]
@@ -882,7 +940,9 @@ def all_told(reading, said=None):
     """The lines that tell all faults of a source; said is what the program says of it, which comes first."""
     faults = sorted(reading.faults, key=lambda fault: fault.line)
     found = re.match(r"source line (\d+): (\w+)", said or "")
-    if found and not (faults and (str(faults[0].line), faults[0].kind) == found.groups()):
+    if found and reading.why_unread:
+        faults = [Fault(int(found.group(1)), found.group(2), 0, 1, reading.why_unread)]
+    elif found and not (faults and (str(faults[0].line), faults[0].kind) == found.groups()):
         number, kind = int(found.group(1)), found.group(2)
         big = kind == "TooBig" and number == len(reading.lines) + 1
         why = "the image would have more than 4,194,304 bytes." if big else "the program refuses this line."

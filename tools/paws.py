@@ -319,13 +319,20 @@ def flags_of(step):
 
 PLACES = {"NOTCREATED": 252, "WORN": 253, "CARRIED": 254, "HERE": 255}
 CLASSES = {"A": "adverb", "B": "noun", "J": "adjective", "R": "preposition"}
+# What a parameter names, by its letter; all but words may have names of the author's.
+KIND_OF = {"L": "location", "P": "location", "O": "object", "F": "flag", "M": "message", "S": "system message", "T": "table"}
 HEADERS = ["/VOC", "/STX", "/MTX", "/OTX", "/LTX", "/CON", "/OBJ"]
+
+
+def reading_of(text):
+    """What the grammar makes of a source: the plain source, and the names for numbers."""
+    import grammar
+    return grammar.Reading(text)
 
 
 def plain_of(text):
     """The source with numbers for names, line for line: as it is where it has none."""
-    import grammar
-    return grammar.Reading(text).plain()
+    return reading_of(text).plain()
 
 
 def plain_path(path, room):
@@ -349,7 +356,9 @@ class Source:
         self.texts = {"/STX": [], "/MTX": [], "/OTX": [], "/LTX": []}
         self.condacts = {row.name: row for row in condact_rows()}
         self.section, self.place = None, None
-        text = plain_of(text_of(path)).split("\x1a")[0].replace("\r\n", "\n")
+        reading = reading_of(text_of(path))
+        self.named = {(name.kind, name.number): name.written for name in reversed(reading.names.values())}
+        text = reading.plain().split("\x1a")[0].replace("\r\n", "\n")
         lines = text.split("\n")
         self.plain = text  # as it was read, for the compiler
         for number, line in enumerate(lines[:-1] if lines and not lines[-1] else lines, 1):
@@ -472,6 +481,10 @@ class Source:
             elif word and word.kind == "adjective" and not nouns and adjective == 255:
                 adjective = word.value
         return (nouns + [255, 255])[0], adjective, (nouns + [255, 255])[1]
+
+    def told(self, kind, number):
+        """The author's name of what has this number, or the number."""
+        return self.named.get((kind, number)) or str(number)
 
     def header_of(self, line):
         """The line of the number of the text that a line belongs to, or the line itself."""

@@ -27,9 +27,9 @@ class Game:
         self.paw, self.image, self.source = paw, image, source
         self.says = [item.text for item in source.texts["/STX"]]
         self.prompt = self.says[33]
-        questions = [self.says[number] for number in (12, 13, 16) if self.says[number]]
-        self.asked = tuple(text for text in questions[1:2])
-        self.stops = re.compile("|".join(map(re.escape, [self.prompt] + questions)))
+        self.questions = [self.says[number] for number in (12, 13, 16) if self.says[number]]
+        self.asked = tuple(text for text in self.questions[1:2])
+        self.stops = re.compile("(%s)" % "|".join(map(re.escape, [self.prompt] + self.questions)))
         self.back = self.says[59] + self.says[63] + "\n"
         self.nouns = {word.letters.lower(): word.value for word in source.words if word.kind == "noun" and word.value > 24}
         self.verbs = {word.letters.lower(): word.value for word in source.words
@@ -53,9 +53,22 @@ class Game:
     def walk(self, lines):
         return paws.run([self.paw, "walk", self.image, SEED], lines)[1]
 
+    def stopped(self, shown):
+        """The texts of what was shown, each with the prompt or the question that stands behind it, and what comes last."""
+        if any(question in shown for question in self.questions):
+            parts = self.stops.split(shown)
+            return list(zip(parts[::2], parts[1::2])), parts[-1]
+        *texts, last = shown.split(self.prompt)
+        return [(text, self.prompt) for text in texts], last
+
+    def parted(self, shown):
+        """The same without the prompts."""
+        texts, last = self.stopped(shown)
+        return [text for text, _ in texts] + [last]
+
     def parts(self, lines):
         """What is shown before the first line and behind each, without the prompts."""
-        return self.stops.split(self.walk(lines))
+        return self.parted(self.walk(lines))
 
     def is_end(self, text):
         """Whether a text, with the prompt that stands behind it, asks at an end what is to be done."""
@@ -119,7 +132,7 @@ def tried(game, state, lines):
         typed += ["load four", line, line, LOOK]
     shown = game.walk(typed + ["load four"])[len(game.walk(state.lines)):]
     for line, chunk in zip(lines, shown.split(game.back)[1:]):
-        yield Try(line, game.stops.split(chunk))
+        yield Try(line, game.parted(chunk))
 
 
 class Seen:

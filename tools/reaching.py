@@ -27,13 +27,15 @@ WIDTH = 2  # states that are gone on with, of those that one more line leads to
 PLAYED_ON = 10  # and from which the rest of the way is typed
 NEAREST = 2  # ways whose rest is tried from a state that lies on none with an end
 MOST_TYPED = 20000  # lines of one run
-PLACE, CARRIED = 38, 254
+PLACE = 38
+NOTCREATED, CARRIED = 252, 254
 BACK = ("get", "drop", "wear", "remove")  # what takes most lines back
 WAYS = ("north", "south", "east", "west", "ne", "nw", "se", "sw", "up", "down", "in", "out")
 
 
 class Point:
-    """What stands at a prompt: the text before it, the mark of the state, and whether an end was told."""
+    """What stands at a prompt: the text before it, the mark of the state, and whether an end was told. A mark has a byte for each
+    flag and each thing."""
 
     def __init__(self, text, mark, is_end):
         self.text, self.mark, self.is_end = text, mark, is_end
@@ -46,10 +48,15 @@ class Watched:
         source = game.source
         used = {flag for _, _, step in source.steps() for flag, _, _ in paws.flags_of(step)} - {None}
         self.game, self.flags = game, sorted((used | {0, PLACE}) - probing.PASSING)
+        self.place = self.flags.index(PLACE)
         self.exits = {place: [(row.verb, row.to) for row in rows] for place, rows in source.exits.items()}
-        self.length = len(self.flags) + len(source.things)
-        self.shown = re.compile(re.escape(SIGN) + r"((?:\d+\n){%d})" % self.length)
-        self.stops = re.compile("(%s)" % game.stops.pattern)
+        # Behind the last thing that has a noun or a place there are texts alone.
+        last = max((thing.number for thing in source.things if thing.noun != 255 or thing.place != NOTCREATED), default=-1)
+        self.things = [thing.number for thing in source.things if thing.number <= last]
+        self.length = len(self.flags) + len(self.things)
+        self.rows = re.compile(r"(?:\d+\n){%d}" % self.length)
+        self.shown = re.compile(re.escape(SIGN) + self.rows.pattern)
+        self.marks, self.before = {}, (None, 0)
         self.image = os.path.join(room, "watched")
         path, spare = self.image + ".paws", sorted(set(paws.OWN_FLAGS) - used - probing.PASSING)[-2:]
         with open(path, "w", encoding="latin-1", newline="") as file:
@@ -61,30 +68,36 @@ class Watched:
         place, last = spare
         steps = ["COPYFF 51 %d" % last, "PICTURE 255"]
         steps += [step for flag in self.flags for step in ("PRINT %d" % flag, "NEWLINE")]
-        for thing in source.things:
-            steps += ["COPYOF %d %d" % (thing.number, place), "PRINT %d" % place, "NEWLINE"]
+        for thing in self.things:
+            steps += ["COPYOF %d %d" % (thing, place), "PRINT %d" % place, "NEWLINE"]
         steps.append("COPYFF %d 51" % last)
         rows = ["_ _ " + " ".join(steps[at:at + AT_ONCE]) for at in range(0, len(steps), AT_ONCE)]
         return re.sub(r"(?m)^(/PRO 2\b.*)$", lambda found: "\n".join([found.group(), *rows]), source.plain, count=1)
 
     def points(self, shown):
-        """The prompts of what was shown."""
-        parts = self.stops.split(shown)
-        for text, stop in zip(parts[::2], parts[1::2]):
-            marks = self.shown.findall(text)
-            text = self.shown.sub("", text)
+        """The prompts of what was shown. The text is kept of an end alone, and a mark is read once, however often it is shown."""
+        for text, stop in self.game.stopped(shown)[0]:
             ended = stop in self.game.asked or self.game.over is not None and self.game.over in text
-            yield Point(text, tuple(map(int, marks[-1].split())) if marks and not ended else None, ended)
+            yield Point(self.shown.sub("", text) if ended else "", None if ended else self.mark_in(text), ended)
+
+    def mark_in(self, text):
+        """The last mark that a text shows, or nothing."""
+        _, sign, last = text.rpartition(SIGN)
+        if sign and last not in self.marks:
+            rows = self.rows.match(last)
+            self.marks[last] = bytes(map(int, rows.group().split())) if rows else None
+        return self.marks[last] if sign else None
 
     def walk(self, lines):
         return list(self.points(self.shown_by(lines)))
 
     def tried(self, before, each):
         """For each of some ways to go on behind the lines before: the point where it begins, and those behind its lines."""
-        each, at_once = list(each), []
+        each, at_once, count = list(each), [], 0
         for number, lines in enumerate(each):
             at_once.append(lines)
-            if sum(map(len, at_once)) > MOST_TYPED or number == len(each) - 1:
+            count += len(lines)
+            if count > MOST_TYPED or number == len(each) - 1:
                 chunks = self.tried_at_once(before, at_once, [])
                 if len(chunks) != len(at_once):  # a question took such a line for its answer
                     chunks = self.tried_at_once(before, at_once, ["look"])
@@ -92,14 +105,16 @@ class Watched:
                     chunks = [""] * len(at_once)
                 for typed, chunk in zip(at_once, chunks):
                     yield list(self.points(chunk))[:len(typed) + 1] or [Point("", None, False)]
-                at_once = []
+                at_once, count = [], 0
 
     def tried_at_once(self, before, each, between):
         """What is shown behind each LOAD FOUR, with lines before it that answer what a game may ask."""
+        if self.before[0] != before:
+            self.before = before, len(self.shown_by(before))
         typed = [*before, "save four"]
         for lines in each:
             typed += [*between, "load four", *lines]
-        shown = self.shown_by([*typed, *between, "load four"])[len(self.shown_by(before)):]
+        shown = self.shown_by([*typed, *between, "load four"])[self.before[1]:]
         return shown.split(self.game.back)[1:-1]
 
     def shown_by(self, lines):
@@ -129,7 +144,7 @@ class Reaching:
 
     def __init__(self, game, ways, verbs, room):
         self.game, self.verbs, self.watched = game, list(verbs), Watched(game, room)
-        self.alive, self.lost, self.on_ways, self.clock = set(), set(), [], set()
+        self.alive, self.lost, self.on_ways, self.clock, self.changed = set(), set(), {}, set(), {}
         self.words = {value: game.written[word] for word, value in game.nouns.items()}
         self.acted = self.nouns_acted(game.source) | set(game.noun_of)
         walked = [(name, lines, self.watched.walk(lines)) for name, lines in ways if "four" not in " ".join(lines).lower().split()]
@@ -142,7 +157,8 @@ class Reaching:
                 end = next((end for end in ends if end > number), None)
                 if end and point.mark:
                     self.alive.add(point.mark)
-                    self.on_ways.append((point.mark, Goal(name, lines[number:end])))
+                    place = point.mark[self.watched.place]
+                    self.on_ways.setdefault(place, []).append((point.mark, Goal(name, lines[number:end])))
 
     def nouns_acted(self, source):
         """The nouns that an entry names beside another verb than X, or as what is behind another noun."""
@@ -177,10 +193,9 @@ class Reaching:
             end = next((end for end in ends if end > count), None)
             if end and lines[:count] == state.lines:
                 return Goal(name, lines[count:end])
-        place = self.watched.flags.index(PLACE)
-        near = sorted((len(self.differing(mark, base)), number) for number, (mark, _) in enumerate(self.on_ways)
-                      if mark[place] == base[place])[:NEAREST]
-        goals = [self.on_ways[number][1] for _, number in near]
+        here = self.on_ways.get(base[self.watched.place], [])
+        near = sorted((len(self.differing(mark, base)), number) for number, (mark, _) in enumerate(here))[:NEAREST]
+        goals = [here[number][1] for _, number in near]
         brought = [self.is_brought(points) for points in self.watched.tried(state.lines, [goal.rest for goal in goals])]
         return next((goal for goal, is_one in zip(goals, brought) if is_one), None)
 
@@ -191,6 +206,7 @@ class Reaching:
     def of_state(self, state, lines):
         """What each of some lines does in a state: the lines that lose the end, each with the way that would have brought it; and
         whether no line changes anything but the turns."""
+        self.watched.marks, self.changed = {}, {}
         waited = [point for points in self.watched.tried(state.lines, [["wait"] * SLACK]) for point in points]
         base = waited[0].mark if waited else None
         if not base or any(point.is_end for point in waited):
@@ -199,7 +215,7 @@ class Reaching:
         fresh, is_stuck = {}, True
         for line, points in zip(lines, self.watched.tried(state.lines, [[line] for line in lines])):
             mark = points[-1].mark if len(points) > 1 else None
-            if not mark or self.differing(base, mark, self.clock):
+            if not mark or self.changes(base, mark):
                 is_stuck = False
                 if mark and mark not in self.alive | self.lost:
                     fresh.setdefault(mark, line)
@@ -211,7 +227,7 @@ class Reaching:
         back = set()
         for (mark, lines), points in zip(tries, self.watched.tried(state.lines, [lines for _, lines in tries])):
             then = points[-1].mark if len(points) == len(lines) + 1 else None
-            if then and (then in self.alive or not self.differing(base, then, self.clock)):
+            if then and (then in self.alive or not self.changes(base, then)):
                 back.add(mark)
         return {mark: line for mark, line in fresh.items() if mark not in back}
 
@@ -229,9 +245,15 @@ class Reaching:
                 self.lost.add(mark)
                 yield line, goal
 
-    def differing(self, one, other, clock=()):
-        """What differs in two states, but for what the clock changes."""
-        return [number for number, (mine, yours) in enumerate(zip(one, other)) if mine != yours and number not in clock]
+    def differing(self, one, other):
+        """What differs in two states."""
+        return [number for number, (mine, yours) in enumerate(zip(one, other)) if mine != yours]
+
+    def changes(self, base, mark):
+        """What a state differs in from that which is tried, but for what the clock changes; it is asked of each mark once."""
+        if mark not in self.changed:
+            self.changed[mark] = [number for number in self.differing(base, mark) if number not in self.clock]
+        return self.changed[mark]
 
     def is_mended(self, state, goal, base, mark, line):
         """Whether a few lines, and then the rest of the way, still bring the end."""
@@ -244,7 +266,7 @@ class Reaching:
                     then = points[-1].mark if len(points) == len(lines) + 1 else None
                     if then and then not in known:
                         known.add(then)
-                        apart = len(self.differing(base, then, self.clock))
+                        apart = len(self.changes(base, then))
                         if then in self.alive or not apart:
                             return True
                         found.append((apart, len(found), then, lines))
@@ -258,10 +280,10 @@ class Reaching:
     def mending(self, base, now, line, verbs):
         """Lines that may take back what makes two states differ."""
         count, game = len(self.watched.flags), self.game
-        things = [number - count for number in self.differing(base, now, self.clock) if number >= count]
+        things = [number - count for number in self.changes(base, now) if number >= count]
         nouns = {game.noun_of[thing] for thing in things} | {game.noun(word) for word in probing.words_in(line)}
         words = [self.words[noun] for noun in nouns & set(self.words)]
-        place = self.watched.flags.index(PLACE)
+        place = self.watched.place
         if now[place] != base[place]:
             yield self.watched.way(now[place], base[place]) or [WAYS[0]]
             yield from ([way] for way in WAYS)

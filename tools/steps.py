@@ -51,19 +51,24 @@ class Names:
             return "none" if value == 255 else self.source.name(value, paws.CLASSES.get(kind, kind))
         return FLAGS.get(value, "") if kind == "F" else ""
 
+    def number(self, kind, value):
+        """The author's name of what a parameter of this kind names, or its number."""
+        return self.source.told(paws.KIND_OF.get(kind), value)
+
     def step(self, step):
         """A condact with its parameters, and what they stand for in brackets."""
         row, told, kinds = [step.name], [], self.source.condacts[step.name].kinds
         for kind, value in zip(kinds, step.values):
             if value is None:
-                row.append("@%d" % step.flag)
-                told.append(FLAGS.get(step.flag, ""))
+                row.append("@" + self.number("F", step.flag))
+                told.append(FLAGS.get(step.flag, "") if row[-1] == "@%d" % step.flag else "")
                 continue
             if kind in paws.CLASSES:
                 row.append("_" if value == 255 else self.of(kind, value))
                 continue
-            row.append(self.places.get(value, str(value)) if kind == "P" else str(value))
-            if kind != "P" or value not in self.places:
+            is_place = kind == "P" and value in self.places
+            row.append(self.places[value] if is_place else self.number(kind, value))
+            if not is_place and (kind != "F" or row[-1] == str(value)):
                 told.append(self.of(kind, value))
         if kinds == ["F", "N"] and step.values[0] in VALUES:
             told.append(self.of(VALUES[step.values[0]], step.values[1]))

@@ -92,6 +92,9 @@ class Wording:
     def warn(self, line, kind, why):
         self.rows.append((line, kind, why))
 
+    def told(self, thing):
+        return self.source.told("object", thing.number)
+
     def noun(self, token):
         """The value of a noun, or nothing."""
         word = self.known.get(token[:5])
@@ -114,11 +117,11 @@ class Wording:
             name = self.name(thing.noun)
             means = "no noun" if noun == 255 else "the noun " + self.name(noun)
             if noun != thing.noun and not self.is_led(noun, thing.noun):
-                self.warn(item.lines[0], "own name", "'%s' means %s, and the noun of object %d is %s"
-                          % (item.text, means, thing.number, name))
+                self.warn(item.lines[0], "own name", "'%s' means %s, and the noun of object %s is %s"
+                          % (item.text, means, self.told(thing), name))
             elif adjective not in (255, thing.adjective):
-                self.warn(item.lines[0], "own name", "'%s' has the adjective %s, and object %d has %s" % (
-                    item.text, self.name(adjective, "adjective"), thing.number,
+                self.warn(item.lines[0], "own name", "'%s' has the adjective %s, and object %s has %s" % (
+                    item.text, self.name(adjective, "adjective"), self.told(thing),
                     "none" if thing.adjective == 255 else self.name(thing.adjective, "adjective")))
             else:
                 self.last_word(thing, item, name)
@@ -133,9 +136,8 @@ class Wording:
                 head.append(token)
         value = self.noun(head[-1]) if head else thing.noun
         if value != thing.noun and not self.is_led(value, thing.noun):
-            self.warn(item.lines[0], "own name", "%s alone means %s, and the noun of object %d, '%s', is %s" % (
-                head[-1], "nothing" if value is None else "the noun " + self.name(value), thing.number, item.text,
-                name))
+            self.warn(item.lines[0], "own name", "%s alone means %s, and the noun of object %s, '%s', is %s" % (
+                head[-1], "nothing" if value is None else "the noun " + self.name(value), self.told(thing), item.text, name))
 
     def is_led(self, noun, wanted):
         """Whether an entry for any verb makes the one noun the other."""
@@ -154,8 +156,8 @@ class Wording:
             placed = any(step.name in ("AT", "NOTAT", "ATGT", "ATLT") for step in entry.steps)
             sets = any(step.name in ("SET", "LET", "PLUS") and step.values[0] not in range(30, 59) for step in entry.steps)
             if entry.verb in (1, 255) and thing and placed and sets and not asks and self.is_called_first(number, entry.noun):
-                self.warn(entry.line, "two meanings", "%s is a part of a place here, also where object %d, '%s', is present"
-                          % (self.name(entry.noun), thing.number, self.source.text_of(thing.number)))
+                self.warn(entry.line, "two meanings", "%s is a part of a place here, also where object %s, '%s', is present"
+                          % (self.name(entry.noun), self.told(thing), self.source.text_of(thing.number)))
 
     def is_called_first(self, number, noun):
         """Whether something calls the table for the noun before WHATO has looked for a thing."""
@@ -183,15 +185,15 @@ class Wording:
                 for phrase in noun_phrases(row):
                     if not told & set(phrase) and all(self.noun(token) is None for token in phrase):
                         told.update(phrase)
-                        self.warn(line, "no word", "of '%s' in the text of location %d no word is a noun"
-                                  % (" ".join(phrase).lower(), item.number))
+                        self.warn(line, "no word", "of '%s' in the text of location %s no word is a noun"
+                                  % (" ".join(phrase).lower(), self.source.told("location", item.number)))
                 for token in tokens(row):
                     value = self.noun(token)
                     if value is not None and value >= 20 and token not in told | NEVER and not self.is_other(token) and \
                             not self.answers(value, item.number):
                         told.add(token)
-                        self.warn(line, "no answer", "%s stands in the text of location %d, and nothing there answers to it"
-                                  % (token, item.number))
+                        self.warn(line, "no answer", "%s stands in the text of location %s, and nothing there answers to it"
+                                  % (token, self.source.told("location", item.number)))
 
     def answers(self, noun, location):
         """Whether something there has the noun: a thing that begins or comes there, or an entry for looking or for any verb."""
