@@ -32,7 +32,7 @@ _paw() {
     *:-*)
         case $last:$word in
         *:-*)
-            COMPREPLY=($(compgen -W '--new --session --seed --transcript --width --plain --no-status --help --version' -- "$word"))
+            COMPREPLY=($(compgen -W '--new --session --seed --transcript --width --plain --no-status --source --help --version' -- "$word"))
             return
             ;;
         --session:* | --transcript:*) ends='*' ;;

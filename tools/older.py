@@ -56,14 +56,13 @@ def path_of(folder, image):
     return os.path.join(folder, "images", hashlib.sha256(os.fsencode(os.path.realpath(image))).hexdigest())
 
 
-def first_difference(before, now):
-    """What is told of the first text that differs; none where all are the same, or one can't be had."""
+def differences(before, now):
+    """What is told of each text that differs, in their order; of none behind one that can't be had."""
     with contextlib.suppress(kept.Refused, OSError):
         for number, ((line, old), (_, new)) in enumerate(zip(before, now)):
             if old != new:
                 asked = 'The answer to line %d, "%s",' % (number, rows.written(line).decode()) if number else "The first text"
-                return "%s was\n  %s\nand is now\n  %s" % (asked, shortened(old, new), shortened(new, old))
-    return None
+                yield "%s was\n  %s\nand is now\n  %s" % (asked, shortened(old, new), shortened(new, old))
 
 
 def shortened(text, other):

@@ -9,6 +9,7 @@ STATE, SHORT = 3419, 1371  # bytes of a state, and of one in a slot of version 1
 LENGTH, MARK = SLOTS + 2 * SLOT, 80
 LINE, KEY, OVER = 0, 3, 4  # prompts: for a line, for a key, and none, since the game is over; the two between them ask a question
 DARK, SCORE, TURNS, PLACE = 0, 30, 31, 38  # flags
+PLACES = 256  # where the places of objects begin in a state
 WORN, CARRIED = 253, 254  # the places of what the player has
 
 
@@ -41,9 +42,9 @@ class State:
 
     def __init__(self, slot):
         self.base = bytearray(slot[BASE:BASE + 4096])
-        for at in range(min(number_at(slot, 0, 2), 4096)):
-            record = slot[RECORDS + 4 * at:RECORDS + 4 * at + 4]
-            self.base[number_at(record, 0, 2) % 4096] = record[2]
+        records = slot[RECORDS:RECORDS + 4 * min(number_at(slot, 0, 2), 4096)]
+        for low, high, value in zip(records[::4], records[1::4], records[2::4]):
+            self.base[(low + 256 * high) % 4096] = value
         if slot[2:3] != b"\2":
             self.base[SHORT:STATE] = bytes(STATE - SHORT)
         self.flags, self.places = self.base[:256], self.base[256:511]
@@ -80,6 +81,15 @@ def state_at(data, slot):
 def state_of(data):
     """The state that a session of these bytes shows."""
     return state_at(data, data[1] % 2)
+
+
+def changed(data, values):
+    """The bytes of a session whose state has other values at some of its bytes; it is resumed as any other."""
+    base = state_of(data).base
+    for at, value in values.items():
+        base[at] = value
+    at = SLOTS + SLOT * (data[1] % 2)
+    return data[:at] + b"\0\0\2" + data[at + 3:at + BASE] + bytes(base) + data[at + TEXT:]
 
 
 def now(path):
