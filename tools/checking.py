@@ -371,7 +371,7 @@ class Checks:
         for place, state in self.reached.items():
             count = len(state.lines)
             goes_on = any(len(lines) > count and lines[:count] == state.lines for _, lines in ways)
-            if place not in self.left and place and not goes_on:
+            if place not in self.left and place and not goes_on and not self.game.is_end(place):
                 self.report("held", "%s can't be left" % place, state, [], place)
         if self.wants("question"):
             self.questions(ways)
