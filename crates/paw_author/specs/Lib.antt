@@ -14,6 +14,8 @@ pub mod Known
 pub mod TableNumbers
 pub mod NamedLines
 pub mod NameRows
+pub mod Items
+pub mod Kinds
 pub mod Order
 pub mod PlainSources
 pub mod Authored
