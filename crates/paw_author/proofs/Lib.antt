@@ -7,3 +7,4 @@ pub mod RowOfFiles
 pub mod Rows
 pub mod HookLaws
 pub mod PlainLaws
+pub mod KindLaws

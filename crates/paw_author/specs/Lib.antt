@@ -16,6 +16,7 @@ pub mod NamedLines
 pub mod NameRows
 pub mod Items
 pub mod Kinds
+pub mod Things
 pub mod Order
 pub mod PlainSources
 pub mod Authored

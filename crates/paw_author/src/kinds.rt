@@ -55,8 +55,8 @@ impl Model for KindFact {
     ghost view = { λ f. record { name = f.name.items; saying = f.saying; origin = f.origin; values = f.values.items } };
 }
 
-// Whether a byte may stand in the name of a kind or fact.
-fn may_be_in_kind(byte: u8) -> bool
+/// Whether a byte may stand in the name of a kind or fact.
+pub(crate) fn may_be_in_kind(byte: u8) -> bool
     ensures value { result ≡ may_be_in_kind byte }
 {
     byte.is_ascii_alphabetic() || byte == b'_'
@@ -69,8 +69,8 @@ fn are_kind_bytes(bytes: &[u8]) -> bool
     bytes.iter().all(|byte| may_be_in_kind(*byte))
 }
 
-// Whether a word is letters and underscores, a letter first.
-fn is_lettered(word: &[u8]) -> bool
+/// Whether a word is letters and underscores, a letter first.
+pub(crate) fn is_lettered(word: &[u8]) -> bool
     ensures value { result ≡ is_lettered word.now }
 {
     match word {
@@ -260,8 +260,8 @@ fn kind_with_facts(alloc: Global, item: &Item, facts: Vec<KindFact>) -> Result<K
     })
 }
 
-// Whether one of these kinds has this name.
-fn is_kind_among(name: &[u8], kinds: &[Kind]) -> bool
+/// Whether one of these kinds has this name.
+pub(crate) fn is_kind_among(name: &[u8], kinds: &[Kind]) -> bool
     ensures value { result ≡ list_any (λ k. is_kind_named name.now k) kinds.now }
 {
     kinds.iter().any(|kind| is_kind_named(name, kind))

@@ -24,6 +24,7 @@ mod sections;
 mod table_numbers;
 #[cfg(test)]
 mod tests;
+mod things;
 mod tokens;
 mod units;
 
