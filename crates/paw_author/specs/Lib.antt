@@ -17,6 +17,9 @@ pub mod NameRows
 pub mod Items
 pub mod Kinds
 pub mod Things
+pub mod Holes
+pub mod RowChoices
+pub mod Filled
 pub mod Order
 pub mod PlainSources
 pub mod Authored

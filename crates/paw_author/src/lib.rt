@@ -4,7 +4,9 @@
 pub mod author;
 mod choices;
 pub mod file;
+mod filled;
 pub mod fragment;
+mod holes;
 mod hooks;
 mod includes;
 mod items;
@@ -20,6 +22,7 @@ mod named_lines;
 mod order;
 mod parts;
 mod plain_sources;
+mod row_choices;
 mod sections;
 mod table_numbers;
 #[cfg(test)]
