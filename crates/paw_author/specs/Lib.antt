@@ -20,6 +20,8 @@ pub mod Things
 pub mod Holes
 pub mod RowChoices
 pub mod Filled
+pub mod Marked
+pub mod Written
 pub mod Order
 pub mod PlainSources
 pub mod Authored

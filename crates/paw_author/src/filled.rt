@@ -614,8 +614,8 @@ fn is_line_end(bytes: &[u8]) -> bool
             && starts_with_byte(b'\n', without_first(bytes))
 }
 
-// Whether a line of a text is a hole and nothing else.
-fn is_hole_line(line: &[Fragment]) -> bool
+/// Whether a line of a text is a hole and nothing else.
+pub(crate) fn is_hole_line(line: &[Fragment]) -> bool
     ensures value { result ≡ is_hole_line line.now }
 {
     match line {

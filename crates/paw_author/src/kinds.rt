@@ -395,8 +395,8 @@ fn line_named<'a>(lines: &'a [Line], name: &[u8]) -> Option<&'a Line>
     lines.iter().find(|line| is_line_named(name, *line))
 }
 
-// The line of the kind with this name; nothing where there is none.
-fn line_of<'a>(lines: &'a [Line], name: &[u8]) -> &'a [KeptName]
+/// The line of the kind with this name; nothing where there is none.
+pub(crate) fn line_of<'a>(lines: &'a [Line], name: &[u8]) -> &'a [KeptName]
     ensures value { result.now ≡ line_of lines.now name.now }
 {
     match line_named(lines, name) {

@@ -16,6 +16,7 @@ mod kinds;
 mod known;
 pub mod laws;
 mod lines;
+mod marked;
 pub mod mistake;
 mod name_rows;
 mod named_lines;
@@ -30,5 +31,6 @@ mod tests;
 mod things;
 mod tokens;
 mod units;
+mod written;
 
 pub use author::plain_lines;

@@ -400,8 +400,11 @@ fn thing_of_kinds(
     thing_with_facts(alloc, facts.as_slice(), names, item)
 }
 
-// Looks whether a word names a kind.
-fn kind_there(kinds: &[Kind], word: &Fragment) -> Result<(), AuthorError>
+/// Looks whether a word names a kind.
+///
+/// # Errors
+/// Fault where it doesn't.
+pub(crate) fn kind_there(kinds: &[Kind], word: &Fragment) -> Result<(), AuthorError>
     ensures gives { Gives (λ _. tt) result (kind_there kinds.now word.now) }
 {
     if !is_kind_among(word.bytes.as_slice(), kinds) {
