@@ -1,4 +1,4 @@
-// Items with the rows below them, as kinds and things are told. Nothing outside of things calls it yet.
+// Items with the rows below them, as kinds and things are told.
 
 ghost use Rattle.std.specs.Prelude.{◌≡◌, ◌++◌, ◌∷◌, [], drop, IfOk, if◌then◌else◌};
 ghost use Rattle.std.specs.List.{flat_map};
