@@ -7,4 +7,3 @@ pub mod RowOfFiles
 pub mod Rows
 pub mod HookLaws
 pub mod PlainLaws
-pub mod KindLaws

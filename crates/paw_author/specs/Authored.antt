@@ -19,7 +19,6 @@ use Rattle.paw_author.specs.NameRows.{names_known}
 use Rattle.paw_author.specs.PlainSources.{is_plain_source}
 use Rattle.paw_author.specs.TableNumbers.{tables_known, unit_numbered}
 use Rattle.paw_author.specs.Units.{UnitLines}
-use Rattle.paw_author.specs.Written.{things_written}
 
 -- Whether a file is a plain source that isn't too long.
 abbrev pub is_plain_file : NamedFile → Bool
@@ -43,15 +42,11 @@ hooked_lines files hooks units =
 abbrev pub lines_of_units : ℕ → List UnitLines → Result LinesInParts Mistake
 lines_of_units files units = hooked_lines files (hook_names units) units
 
--- The lines of these units of a number of files, where lines for things are still to be written.
-abbrev pub lines_with_things : ℕ → List UnitLines → Result LinesInParts Mistake
-lines_with_things files units = things_written files units >>= λ all. lines_of_units files all
-
 -- The lines of these files by sections, or the first mistake.
 abbrev pub joined_lines : Names → NamedFiles → Result LinesInParts Mistake
 joined_lines switches files =
     files_chosen switches 0 [] files >>= λ chosen. order_of_files chosen >>= λ row. order_joined chosen 0 [] row
-    >>= λ units. lines_with_things (length row) units
+    >>= λ units. lines_of_units (length row) units
 
 -- The lines of the plain source, or the first mistake. A first file that is a plain source comes out as it is.
 abbrev pub plain_lines : Names → NamedFiles → Result LinesInParts Mistake

@@ -14,14 +14,6 @@ pub mod Known
 pub mod TableNumbers
 pub mod NamedLines
 pub mod NameRows
-pub mod Items
-pub mod Kinds
-pub mod Things
-pub mod Holes
-pub mod RowChoices
-pub mod Filled
-pub mod Marked
-pub mod Written
 pub mod Order
 pub mod PlainSources
 pub mod Authored

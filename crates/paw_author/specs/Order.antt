@@ -1,12 +1,11 @@
 -- The order in which the units of several files come out.
-use Rattle.std.specs.Prelude.{ℕ, zero, suc, ◌==◌, ◌&&◌, ◌||◌, Bool, false, not, List, [], ◌∷◌, ◌++◌, ◌-◌, length, take, drop, filter, find, nat_le}
+use Rattle.std.specs.Prelude.{ℕ, zero, suc, ◌==◌, ◌&&◌, Bool, false, not, List, [], ◌∷◌, ◌++◌, ◌-◌, length, take, drop, filter, find, nat_le}
 use Rattle.std.specs.Prelude.{if◌then◌else◌, Option, Some, None, slice_get, codes}
 use Rattle.std.specs.List.{position, flat_map}
 use Rattle.paw_base.specs.Bytes.{Bytes, Lines}
 use Rattle.paw_author.specs.declared.sections.TheConstants.{NAMES, SECTIONS, WORDS}
 use Rattle.paw_author.specs.Fragments.{Fragments, LinesInParts}
 use Rattle.paw_author.specs.Hooks.{is_header, is_hook_kind, hook_name, unit_lines}
-use Rattle.paw_author.specs.Sections.{is_table_section}
 use Rattle.paw_author.specs.Tokens.{bytes_if_any, line_origin}
 use Rattle.paw_author.specs.Units.{UnitLines}
 
@@ -38,14 +37,9 @@ header_or_made section (Some u) = u.lines
 
 -- ---- the units of a section ----
 
--- Whether the units of a section come out as they stand, whatever their files: it is no table, and doesn't stand above
--- the headers.
-abbrev pub is_in_place : ℕ → Bool
-is_in_place section = not (section == 0) && not (is_table_section section)
-
 -- Whether a unit comes out in this section as one of this file.
 abbrev pub is_own : ℕ → ℕ → UnitLines → Bool
-is_own section file u = u.section == section && (u.file == file || is_in_place section) && not (is_header u.kind)
+is_own section file u = u.section == section && u.file == file && not (is_header u.kind)
 
 -- Whether a unit marks the place for the entries of the files above its own.
 abbrev pub is_open_hook : ℕ → ℕ → UnitLines → Bool
@@ -68,10 +62,9 @@ lines_in_files all section zero = []
 lines_in_files all section (suc file) =
     lines_with_file all section file (lines_in_files all section file) (position (λ u. is_open_hook section file u) all)
 
--- How many files have lines of their own in a section: above the headers only the first has, and where the units come
--- out as they stand all count as its own.
+-- How many files have lines in a section: above the headers only the first has.
 abbrev pub files_of : ℕ → ℕ → ℕ
-files_of files section = if is_table_section section then files else 1
+files_of files section = if section == 0 then 1 else files
 
 -- The header of a section.
 abbrev pub header_lines : List UnitLines → ℕ → LinesInParts

@@ -2,7 +2,7 @@
 
 ghost use Rattle.std.specs.Prelude.{◌≡◌, ◌<◌, true, false, length, IfOk, MatchOption};
 ghost use Rattle.paw_read_error.specs.inner.Gives.{Gives};
-ghost use Rattle.paw_author.specs.Authored.{is_plain_file, named_lines, lines_with_tables, hooked_lines, lines_of_units, lines_with_things, joined_lines, plain_lines, IsAnswered};
+ghost use Rattle.paw_author.specs.Authored.{is_plain_file, named_lines, lines_with_tables, hooked_lines, lines_of_units, joined_lines, plain_lines, IsAnswered};
 ghost use Rattle.paw_author.specs.FileLines.{file_lines};
 
 use crate::file::{File, Switch};
@@ -19,7 +19,6 @@ use crate::order::in_order;
 use crate::plain_sources::is_plain_source;
 use crate::table_numbers::{tables_known, units_numbered};
 use crate::units::Unit;
-use crate::written::things_written;
 use paw_base::limits::SOURCE_LIMIT;
 use std::alloc::{AllocError, Global};
 use std::marker::Model;
@@ -110,18 +109,6 @@ fn lines_of_units(
     hooked_lines(alloc, files, hooks.as_slice(), units)
 }
 
-// The lines of these units of a number of files, where lines for things are still to be written.
-fn lines_with_things(
-    alloc: Global,
-    files: usize,
-    units: Vec<Unit>,
-) -> Result<Vec<LineInParts>, AuthorError>
-    ensures gives { Gives (λ lines. lines.items) result (lines_with_things files units.items) }
-{
-    let all = things_written(alloc, files, units)?;
-    lines_of_units(alloc, files, all)
-}
-
 // The lines of these files by sections.
 fn joined_lines(
     alloc: Global,
@@ -134,7 +121,7 @@ fn joined_lines(
     let chosen = files_chosen(alloc, switches, files)?;
     let row = order_of_files(alloc, chosen.as_slice())?;
     let units = order_joined(alloc, chosen.as_slice(), row.as_slice())?;
-    lines_with_things(alloc, row.len(), units)
+    lines_of_units(alloc, row.len(), units)
 }
 
 // The lines of the plain source of these files.

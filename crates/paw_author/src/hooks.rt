@@ -173,11 +173,8 @@ pub(crate) fn hooks_known(hooks: &[HookName], all: &[Unit]) -> Result<(), Author
 
 // ---- lines ----
 
-/// The same bytes with the same origin.
-///
-/// # Errors
-/// Where there is no memory.
-pub(crate) fn copy_of_part(alloc: Global, part: &Fragment) -> Result<Fragment, AllocError>
+// The same bytes with the same origin.
+fn copy_of_part(alloc: Global, part: &Fragment) -> Result<Fragment, AllocError>
     ensures value { IfOk result (λ copy. copy ≡ part.now) }
 {
     Ok(Fragment {
@@ -186,11 +183,8 @@ pub(crate) fn copy_of_part(alloc: Global, part: &Fragment) -> Result<Fragment, A
     })
 }
 
-/// A line with the same parts.
-///
-/// # Errors
-/// Where there is no memory.
-pub(crate) fn copy_of_line(alloc: Global, line: &[Fragment]) -> Result<LineInParts, AllocError>
+// A line with the same parts.
+fn copy_of_line(alloc: Global, line: &[Fragment]) -> Result<LineInParts, AllocError>
     ensures value { IfOk result (λ copy. copy ≡ line.now) }
 {
     let mut parts = Vec::new(alloc);

@@ -4,14 +4,14 @@ ghost use Rattle.std.specs.Prelude.{◌≡◌, ◌++◌, ◌==◌, ◌∷◌, []
 ghost use Rattle.std.specs.List.{flat_map, position};
 ghost use Rattle.std.specs.Option.{option_copied};
 ghost use Rattle.paw_author.specs.Hooks.{unit_lines};
-ghost use Rattle.paw_author.specs.Order.{made_headers, made_line, header_made, is_header_of, header_or_made, is_in_place, is_own};
+ghost use Rattle.paw_author.specs.Order.{made_headers, made_line, header_made, is_header_of, header_or_made, is_own};
 ghost use Rattle.paw_author.specs.Order.{is_open_hook, own_lines, lines_with_file, lines_in_files, files_of, header_lines, section_lines};
 ghost use Rattle.paw_author.specs.Order.{sections, ends_with_lf, has_line_end, ended_line, all_ended, in_order};
 ghost use Rattle.paw_author.specs.declared.sections.TheConstants.{SECTIONS, WORDS};
 
 use crate::fragment::{Fragment, LineInParts, Origin};
 use crate::hooks::{add_lines, add_unit, has_no_name, is_header, is_hook};
-use crate::sections::{NAMES, SECTIONS, WORDS, is_table_section};
+use crate::sections::{NAMES, SECTIONS, WORDS};
 use crate::tokens::line_origin;
 use crate::units::Unit;
 use std::alloc::{AllocError, Global};
@@ -111,18 +111,11 @@ fn add_header(
 
 // ---- the units of a section ----
 
-// Whether the units of a section come out as they stand, whatever their files.
-fn is_in_place(section: usize) -> bool
-    ensures value { result ≡ is_in_place section }
-{
-    section != 0 && !is_table_section(section)
-}
-
 // Whether a unit comes out in this section as one of this file.
 fn is_own(section: usize, file: usize, u: &Unit) -> bool
     ensures value { result ≡ is_own section file u.now }
 {
-    u.section == section && (u.file == file || is_in_place(section)) && !is_header(u)
+    u.section == section && u.file == file && !is_header(u)
 }
 
 // Whether a unit marks the place for the entries of the files above its own.
@@ -223,7 +216,7 @@ fn lines_in_files(
 fn files_of(files: usize, section: usize) -> usize
     ensures value { result ≡ files_of files section }
 {
-    if is_table_section(section) { files } else { 1 }
+    if section == 0 { 1 } else { files }
 }
 
 // Adds the lines of a section.

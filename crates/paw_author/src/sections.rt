@@ -20,10 +20,10 @@ static HEADERS: [&[u8]; 11] = [
 pub(crate) const NAMES: usize = 1;
 
 /// The section of kinds.
-pub(crate) const KINDS: usize = 2;
+const KINDS: usize = 2;
 
 /// The section of things.
-pub(crate) const THINGS: usize = 3;
+const THINGS: usize = 3;
 
 /// The section of letters, the first of those with texts.
 const LETTERS: usize = 4;

@@ -203,36 +203,6 @@ fn each_file_stands_before_all_that_it_includes(rt: HostRuntime) -> Result<(), F
     Ok(())
 }
 
-#[test]
-fn things_have_their_lines(rt: HostRuntime) -> Result<(), Fail> {
-    let alloc = rt.alloc();
-    let game = b"/INCLUDE lib\n/THINGS\n/coin thing\nnoun COIN\nnumber 0\nat 2\n/bag box ; a box\n\
-        noun BAG SACK\nnumber 1\nat 1\n; and more\nsays 5 6\nsays 7 8\n";
-    let lib =
-        b"/KINDS\n/thing ; of all\nnoun each\nnumber\nat NOTCREATED\nsays any\nform -\n/box thing\n\
-        form C\n/VOC\nX 30 verb\n<thing> <noun> 50 noun ; each\nY 31 verb\n/NAMES\n\
-        <thing> f_<name> <number> flag\n/OBJ\n<thing> <number> <at> 1 <form> <noun1> _\n/PRO 0\n\
-        <thing> X <noun1> AT <number>\n LT 6<number> 1 ; more\n; below\n\
-        \x20GT <says> MESSAGE <says2> DONE\n/PRO in_<box>\n_ _ LISTAT <at>\n/PRO 1\n\
-        <box> X _ PROCESS in_<name>\n<box> Y <noun> AT <at>\n";
-    let plain = source_of_two(alloc, game, lib).ok().ok_or("refused")?;
-    let bytes = bytes_of(alloc, plain.lines.as_slice())?;
-    let wanted =
-        b"/VOC\nX 30 verb\nCOIN 50 noun\nBAG 50 noun\nSACK 50 noun\nY 31 verb\n/STX\n/MTX\n/OTX\n/LTX\n\
-        /CON\n/OBJ\n0 2 1 - COIN _\n1 1 1 C BAG _\n1 1 1 C SACK _\n/PRO 0\nX BAG AT 1\n LT 61 1\n\
-        \x20GT 5 6 MESSAGE 6 DONE\nX BAG AT 1\n LT 61 1\n GT 7 8 MESSAGE 8 DONE\nX SACK AT 1\n\
-        \x20LT 61 1\n GT 5 6 MESSAGE 6 DONE\nX SACK AT 1\n LT 61 1\n GT 7 8 MESSAGE 8 DONE\n/PRO 1\n\
-        X _ PROCESS 3\nY BAG AT 1\nY SACK AT 1\n/PRO 2\n/PRO 3\n_ _ LISTAT 1\n";
-    assert_eq!(rt; bytes.as_slice(), wanted.as_slice());
-    let origin = Origin {
-        file: 0,
-        line: 8,
-        column: 10,
-    };
-    assert_eq!(rt; origin_of(plain.lines.as_slice(), 4, 0), Some(origin));
-    Ok(())
-}
-
 // The first mistake of two files.
 fn mistake_of(alloc: Global, game: &[u8], lib: &[u8]) -> Option<Mistake> {
     match source_of_two(alloc, game, lib) {
@@ -309,59 +279,6 @@ fn the_first_mistake_is_named(rt: HostRuntime) {
         let origin = Origin { file, line, column };
         assert_eq!(rt;
             mistake_of(rt.alloc(), game, lib),
-            Some(Mistake { origin, kind })
-        );
-    }
-}
-
-#[test]
-fn the_first_mistake_of_things_is_named(rt: HostRuntime) {
-    let section = MistakeKind::Line(SourceKind::Section);
-    let missing = MistakeKind::Line(SourceKind::Missing);
-    let duplicate = MistakeKind::Line(SourceKind::Duplicate);
-    let word = MistakeKind::Line(SourceKind::Word);
-    let faulty: [(&[u8], usize, usize, MistakeKind); 17] = [
-        (b"/KINDS\n/a1\n", 2, 1, word),
-        (b"/KINDS\n/a\n/A\n", 3, 1, duplicate),
-        (b"/KINDS\n/a b\n/b\n", 2, 4, word),
-        (b"/KINDS\n/a\nx\nX any\n", 4, 1, duplicate),
-        (b"/THINGS\n/lamp thing\n", 2, 7, word),
-        (b"/THINGS\n/lamp\n", 2, 1, missing),
-        (b"/KINDS\n/a\nx\n/THINGS\n/lamp a\n", 5, 1, missing),
-        (
-            b"/KINDS\n/a\nx maybe\n/THINGS\n/lamp a\nx 1\nx 2\n",
-            7,
-            1,
-            duplicate,
-        ),
-        (b"/KINDS\n/a\n/THINGS\n/lamp a\n/LAMP a\n", 5, 1, duplicate),
-        (b"/VOC\n<a> X 1 verb\n", 2, 1, word),
-        (b"/KINDS\n/a\n/VOC\n<a> <x> 1 verb\n", 4, 5, word),
-        (
-            b"/KINDS\n/a\nx\n/THINGS\n/lamp a\nx 1\n/OBJ\n<a> <x2>\n",
-            6,
-            1,
-            missing,
-        ),
-        (
-            b"/KINDS\n/a\nx\n/THINGS\n/lamp a\nx \"b\"\n/OBJ\n<a> c<x>\n",
-            6,
-            3,
-            word,
-        ),
-        (b"/KINDS\n/a\n/PRO <a>\n/HOOK\n", 4, 1, section),
-        (b"/KINDS\n/a\n/VOC\n<a>\n", 4, 1, missing),
-        (b"/KINDS\n/a\nx each\n/THINGS\n/lamp a\nx\n", 6, 1, missing),
-        (b"/KINDS\n/a\n/LTX\n/<a>\n<x>\n", 5, 1, word),
-    ];
-    for (game, line, column, kind) in faulty {
-        let origin = Origin {
-            file: 0,
-            line,
-            column,
-        };
-        assert_eq!(rt;
-            mistake_of(rt.alloc(), game, b""),
             Some(Mistake { origin, kind })
         );
     }
