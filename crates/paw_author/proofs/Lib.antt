@@ -6,4 +6,5 @@ pub mod CutLines
 pub mod RowOfFiles
 pub mod Rows
 pub mod HookLaws
+pub mod ItemLaws
 pub mod PlainLaws

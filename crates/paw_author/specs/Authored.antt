@@ -11,6 +11,7 @@ use Rattle.paw_author.specs.Files.{NamedFile, NamedFiles}
 use Rattle.paw_author.specs.Fragments.{LinesInParts}
 use Rattle.paw_author.specs.Hooks.{hook_names, hooks_known}
 use Rattle.paw_author.specs.Includes.{order_of_files}
+use Rattle.paw_author.specs.ItemNumbers.{items_known}
 use Rattle.paw_author.specs.Joining.{files_chosen, order_joined}
 use Rattle.paw_author.specs.Order.{in_order}
 use Rattle.paw_author.specs.Known.{KnownNames}
@@ -36,7 +37,8 @@ lines_with_tables files hooks known units = named_lines files hooks known (map (
 -- The lines of units, where places have these names.
 abbrev pub hooked_lines : ℕ → Names → List UnitLines → Result LinesInParts Mistake
 hooked_lines files hooks units =
-    names_known units >>= λ names. tables_known hooks names units >>= λ known. lines_with_tables files hooks known units
+    names_known units >>= λ names. items_known names units >>= λ more. tables_known hooks more units
+    >>= λ known. lines_with_tables files hooks known units
 
 -- The lines of these units of a number of files.
 abbrev pub lines_of_units : ℕ → List UnitLines → Result LinesInParts Mistake

@@ -11,6 +11,7 @@ pub mod Units
 pub mod Joining
 pub mod Hooks
 pub mod Known
+pub mod ItemNumbers
 pub mod TableNumbers
 pub mod NamedLines
 pub mod NameRows

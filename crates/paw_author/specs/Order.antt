@@ -1,11 +1,15 @@
 -- The order in which the units of several files come out.
-use Rattle.std.specs.Prelude.{ℕ, zero, suc, ◌==◌, ◌&&◌, Bool, false, not, List, [], ◌∷◌, ◌++◌, ◌-◌, length, take, drop, filter, find, nat_le}
+use Rattle.std.specs.Prelude.{ℕ, zero, suc, ◌==◌, ◌&&◌, ◌||◌, Bool, false, not, List, [], ◌∷◌, ◌++◌, ◌-◌, length, take, drop, filter, find, nat_le, nat_lt, decimal}
 use Rattle.std.specs.Prelude.{if◌then◌else◌, Option, Some, None, slice_get, codes}
-use Rattle.std.specs.List.{position, flat_map}
+use Rattle.std.specs.List.{list_any, position, flat_map}
+use Rattle.std.specs.Option.{option_map_or}
 use Rattle.paw_base.specs.Bytes.{Bytes, Lines}
-use Rattle.paw_author.specs.declared.sections.TheConstants.{NAMES, SECTIONS, WORDS}
+use Rattle.paw_author.specs.declared.sections.TheConstants.{NAMES, SECTIONS, WORDS, SYSTEM_TEXTS, LOCATION_TEXTS}
 use Rattle.paw_author.specs.Fragments.{Fragments, LinesInParts}
 use Rattle.paw_author.specs.Hooks.{is_header, is_hook_kind, hook_name, unit_lines}
+use Rattle.paw_author.specs.declared.order.TheConstants.{ITEM_NUMBERS}
+use Rattle.paw_author.specs.ItemNumbers.{is_text_item, mark_number}
+use Rattle.paw_author.specs.Sections.{has_texts}
 use Rattle.paw_author.specs.Tokens.{bytes_if_any, line_origin}
 use Rattle.paw_author.specs.Units.{UnitLines}
 
@@ -70,10 +74,37 @@ files_of files section = if section == 0 then 1 else files
 abbrev pub header_lines : List UnitLines → ℕ → LinesInParts
 header_lines all section = header_or_made section (find (λ u. is_header_of section u) all)
 
+-- ---- texts by number ----
+
+-- Whether a unit is the item of a section with a number that a test lets through.
+abbrev pub is_item_where : (ℕ → Bool) → ℕ → UnitLines → Bool
+is_item_where test section u = is_text_item u && u.section == section && option_map_or test (mark_number u) false
+
+-- The lines of an item. Where there is none, system messages and locations have the empty text below the greatest number.
+abbrev pub item_or_gap : List UnitLines → ℕ → ℕ → Option UnitLines → LinesInParts
+item_or_gap all section n (Some u) = u.lines
+item_or_gap all section n None =
+    if (section == SYSTEM_TEXTS || section == LOCATION_TEXTS) && list_any (λ u. is_item_where (λ m. nat_lt n m) section u) all
+    then made_line (Some (47 ∷ (decimal n ++ 10 ∷ []))) else []
+
+-- The lines of the item of a section with this number: those of the nearest file.
+abbrev pub item_lines : List UnitLines → ℕ → ℕ → LinesInParts
+item_lines all section n = item_or_gap all section n (find (λ u. is_item_where (λ m. m == n) section u) all)
+
+-- The lines of the items with this count of numbers from this one on.
+unfoldable pub texts_from : ℕ → ℕ → List UnitLines → ℕ → LinesInParts
+texts_from zero n all section = []
+texts_from (suc count) n all section = item_lines all section n ++ texts_from count (suc n) all section
+
+-- The lines of a section without its header.
+abbrev pub body_lines : ℕ → List UnitLines → ℕ → LinesInParts
+body_lines files all section =
+    if has_texts section then texts_from ITEM_NUMBERS 0 all section else lines_in_files all section (files_of files section)
+
 -- The lines of a section: its header, and then the units of all files. Rows of names are left out.
 abbrev pub section_lines : ℕ → List UnitLines → ℕ → LinesInParts
 section_lines files all section =
-    if section == NAMES then [] else header_lines all section ++ lines_in_files all section (files_of files section)
+    if section == NAMES then [] else header_lines all section ++ body_lines files all section
 
 -- The lines of n sections from this one on, one section after another.
 unfoldable pub sections : ℕ → ℕ → ℕ → List UnitLines → LinesInParts

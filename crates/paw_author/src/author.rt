@@ -9,6 +9,7 @@ use crate::file::{File, Switch};
 use crate::fragment::LineInParts;
 use crate::hooks::{HookName, hook_names, hooks_known};
 use crate::includes::order_of_files;
+use crate::item_numbers::items_known;
 use crate::joining::{files_chosen, order_joined};
 use crate::known::Known;
 use crate::lines::file_lines;
@@ -93,7 +94,8 @@ fn hooked_lines(
     ensures gives { Gives (λ lines. lines.items) result (hooked_lines files hooks.now units.items) }
 {
     let names = names_known(alloc, units.as_slice())?;
-    let known = tables_known(alloc, hooks, names, units.as_slice())?;
+    let more = items_known(alloc, names, units.as_slice())?;
+    let known = tables_known(alloc, hooks, more, units.as_slice())?;
     lines_with_tables(alloc, files, hooks, known.as_slice(), units)
 }
 

@@ -7,6 +7,7 @@ pub mod file;
 pub mod fragment;
 mod hooks;
 mod includes;
+mod item_numbers;
 mod joining;
 mod known;
 pub mod laws;

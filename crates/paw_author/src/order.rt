@@ -1,17 +1,20 @@
 // The order in which the units of several files come out.
 
-ghost use Rattle.std.specs.Prelude.{◌≡◌, ◌++◌, ◌==◌, ◌∷◌, [], find, map, length, take, drop, filter, IfOk, IfSome, slice_get, ◌<◌, if◌then◌else◌};
-ghost use Rattle.std.specs.List.{flat_map, position};
-ghost use Rattle.std.specs.Option.{option_copied};
+ghost use Rattle.std.specs.Prelude.{◌≡◌, ◌++◌, ◌==◌, ◌∷◌, [], false, nat_lt, find, map, length, take, drop, filter, IfOk, IfSome, slice_get, ◌<◌, if◌then◌else◌};
+ghost use Rattle.std.specs.List.{list_any, flat_map, position};
+ghost use Rattle.std.specs.Option.{option_copied, option_map_or};
 ghost use Rattle.paw_author.specs.Hooks.{unit_lines};
 ghost use Rattle.paw_author.specs.Order.{made_headers, made_line, header_made, is_header_of, header_or_made, is_own};
-ghost use Rattle.paw_author.specs.Order.{is_open_hook, own_lines, lines_with_file, lines_in_files, files_of, header_lines, section_lines};
+ghost use Rattle.paw_author.specs.Order.{is_open_hook, is_item_where, item_or_gap, item_lines, texts_from, body_lines, own_lines, lines_with_file, lines_in_files, files_of, header_lines, section_lines};
 ghost use Rattle.paw_author.specs.Order.{sections, ends_with_lf, has_line_end, ended_line, all_ended, in_order};
 ghost use Rattle.paw_author.specs.declared.sections.TheConstants.{SECTIONS, WORDS};
+ghost use Rattle.paw_author.specs.declared.order.TheConstants.{ITEM_NUMBERS};
 
 use crate::fragment::{Fragment, LineInParts, Origin};
 use crate::hooks::{add_lines, add_unit, has_no_name, is_header, is_hook};
-use crate::sections::{NAMES, SECTIONS, WORDS};
+use crate::item_numbers::{is_text_item, mark_number};
+use crate::named_lines::put_number;
+use crate::sections::{LOCATION_TEXTS, NAMES, SECTIONS, SYSTEM_TEXTS, WORDS, has_texts};
 use crate::tokens::line_origin;
 use crate::units::Unit;
 use std::alloc::{AllocError, Global};
@@ -219,6 +222,135 @@ fn files_of(files: usize, section: usize) -> usize
     if section == 0 { 1 } else { files }
 }
 
+// ---- texts by number ----
+
+/// How many numbers an item may have.
+const ITEM_NUMBERS: u16 = 256;
+
+// Whether a unit is the item of a section with this number.
+fn is_item_with(number: u16, section: usize, u: &Unit) -> bool
+    ensures value { result ≡ is_item_where (λ m. m == number) section u.now }
+{
+    is_text_item(u) && u.section == section && is_number(mark_number(u), number)
+}
+
+// Whether a number is there and is this one.
+fn is_number(number: Option<u16>, wanted: u16) -> bool
+    ensures value { result ≡ option_map_or (λ m. m == wanted) number false }
+{
+    match number {
+        Some(m) => m == wanted,
+        None => false,
+    }
+}
+
+// Whether a number is there and is greater than this one.
+fn is_greater(number: Option<u16>, than: u16) -> bool
+    ensures value { result ≡ option_map_or (λ m. nat_lt than m) number false }
+{
+    match number {
+        Some(m) => than < m,
+        None => false,
+    }
+}
+
+// Whether a unit is an item of a section with a greater number than this one.
+fn is_item_above(number: u16, section: usize, u: &Unit) -> bool
+    ensures value { result ≡ is_item_where (λ m. nat_lt number m) section u.now }
+{
+    is_text_item(u) && u.section == section && is_greater(mark_number(u), number)
+}
+
+// Whether one of the units is such an item.
+fn has_item_above(number: u16, section: usize, all: &[Unit]) -> bool
+    ensures value { result ≡ list_any (λ u. is_item_where (λ m. nat_lt number m) section u) all.now }
+{
+    all.iter().any(|u| is_item_above(number, section, u))
+}
+
+// The item of a section with this number.
+fn item_of(number: u16, section: usize, all: &[Unit]) -> Option<&Unit>
+    ensures value { option_copied result ≡ find (λ u. is_item_where (λ m. m == number) section u) all.now }
+{
+    all.iter().find(|u| is_item_with(number, section, *u))
+}
+
+// Adds an item with the empty text where one is missing below the greatest number.
+fn add_gap(
+    alloc: Global,
+    all: &[Unit],
+    section: usize,
+    number: u16,
+    out: &mut Vec<LineInParts>,
+) -> Result<(), AllocError>
+    ensures value { IfOk result (λ _. out.new.items ≡ out.old.items ++ item_or_gap all.now section number None) }
+{
+    if (section == SYSTEM_TEXTS || section == LOCATION_TEXTS)
+        && has_item_above(number, section, all)
+    {
+        let mut bytes = Vec::new(alloc);
+        bytes.push(b'/')?;
+        put_number(number, &mut bytes)?;
+        bytes.push(b'\n')?;
+        let nowhere = Origin {
+            file: 0,
+            line: 0,
+            column: 0,
+        };
+        out.push(line_of(alloc, nowhere, bytes.as_slice())?)?;
+    }
+    Ok(())
+}
+
+// Adds the lines of the item of a section with this number.
+fn add_item(
+    alloc: Global,
+    all: &[Unit],
+    section: usize,
+    number: u16,
+    out: &mut Vec<LineInParts>,
+) -> Result<(), AllocError>
+    ensures value { IfOk result (λ _. out.new.items ≡ out.old.items ++ item_lines all.now section number) }
+{
+    match item_of(number, section, all) {
+        Some(u) => add_lines(alloc, u.lines.as_slice(), out),
+        None => add_gap(alloc, all, section, number, out),
+    }
+}
+
+// Adds the lines of all items of a section.
+fn add_texts(
+    alloc: Global,
+    all: &[Unit],
+    section: usize,
+    out: &mut Vec<LineInParts>,
+) -> Result<(), AllocError>
+    ensures value { IfOk result (λ _. out.new.items ≡ out.old.items ++ texts_from ITEM_NUMBERS 0 all.now section) }
+{
+    for number in 0..ITEM_NUMBERS {
+        add_item(alloc, all, section, number, out)?;
+    }
+    Ok(())
+}
+
+// Adds the lines of a section without its header.
+fn add_body(
+    alloc: Global,
+    files: usize,
+    all: &[Unit],
+    section: usize,
+    out: &mut Vec<LineInParts>,
+) -> Result<(), AllocError>
+    ensures value { IfOk result (λ _. out.new.items ≡ out.old.items ++ body_lines files all.now section) }
+{
+    if has_texts(section) {
+        return add_texts(alloc, all, section, out);
+    }
+    let mut lines = lines_in_files(alloc, all, section, files_of(files, section))?;
+    out.append(&mut lines)?;
+    Ok(())
+}
+
 // Adds the lines of a section.
 fn add_section(
     alloc: Global,
@@ -233,9 +365,7 @@ fn add_section(
         return Ok(());
     }
     add_header(alloc, all, section, out)?;
-    let mut lines = lines_in_files(alloc, all, section, files_of(files, section))?;
-    out.append(&mut lines)?;
-    Ok(())
+    add_body(alloc, files, all, section, out)
 }
 
 // The lines of all sections, one section after another.

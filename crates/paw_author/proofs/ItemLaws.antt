@@ -1,0 +1,34 @@
+-- Items of texts, one after another.
+use Rattle.std.proofs.Common.{◌≡◌, ℕ, suc, ◌<◌, ◌≤◌, ◌+◌, ◌-◌, ◌++◌, List, [], ◌∷◌, length, take, drop, get_or, Ok, refl, sym, ap, ◌∙◌, add-one, arith}
+use Rattle.std.proofs.lemmas.List.{take_more, drop_all}
+use Rattle.paw_read_error.specs.Bind.{◌>>=◌}
+use Rattle.paw_author.specs.ItemNumbers.{item_once, items_once}
+use Rattle.paw_author.specs.Known.{KnownNames}
+use Rattle.paw_author.specs.Order.{item_lines, texts_from}
+use Rattle.paw_author.specs.Units.{UnitLines}
+use Rattle.paw_author.proofs.Rows.{from_unit}
+
+pub one_item : (known : KnownNames) (all : List UnitLines) (i : ℕ) (u : UnitLines) → u ≡ get_or all i u → i < length all
+    → items_once known (take i all) (drop i all)
+    ≡ (item_once known (take i all) u >>= λ _. items_once known (take (i + 1) all) (drop (i + 1) all))
+unfolding items_once
+one_item known all i u e h =
+    ap (λ (us : List UnitLines). items_once known (take i all) us) (from_unit all i u e h)
+    ∙ ap (λ (before : List UnitLines). item_once known (take i all) u >>= λ _. items_once known before (drop (i + 1) all))
+    (sym (take_more all i u h ∙ ap (λ (x : UnitLines). take i all ++ x ∷ []) (sym e)))
+
+pub no_item : (known : KnownNames) (all : List UnitLines) (i : ℕ) → length all ≤ i → items_once known (take i all) (drop i all) ≡ Ok tt
+unfolding items_once
+no_item known all i h = rw (drop_all i all h) refl
+
+pub one_text : (most number section : ℕ) (all : List UnitLines) → number < most
+    → texts_from (most - number) number all section
+    ≡ item_lines all section number ++ texts_from (most - (number + 1)) (number + 1) all section
+unfolding texts_from
+one_text most number section all h =
+    let more : most - number ≡ suc (most - suc number) = omega arith in
+    rw (add-one, more) refl
+
+pub no_text : (n number section : ℕ) (all : List UnitLines) → n ≡ 0 → texts_from n number all section ≡ []
+unfolding texts_from
+no_text n number section all e = rw e refl
