@@ -1,24 +1,25 @@
 -- Items of texts, one after another.
-use Rattle.std.proofs.Common.{◌≡◌, ℕ, suc, ◌<◌, ◌≤◌, ◌+◌, ◌-◌, ◌++◌, List, [], ◌∷◌, length, take, drop, get_or, Ok, refl, sym, ap, ◌∙◌, add-one, arith}
+use Rattle.std.proofs.Common.{◌≡◌, ℕ, suc, ◌<◌, ◌≤◌, ◌+◌, ◌-◌, ◌++◌, List, [], ◌∷◌, length, take, drop, get_or, Ok, if◌then◌else◌, refl, sym, ap, ◌∙◌, add-one, arith}
 use Rattle.std.proofs.lemmas.List.{take_more, drop_all}
 use Rattle.paw_read_error.specs.Bind.{◌>>=◌}
-use Rattle.paw_author.specs.ItemNumbers.{item_once, items_once}
+use Rattle.paw_author.specs.ItemNumbers.{is_text_item}
+use Rattle.paw_author.specs.ItemsKnown.{item_checked, items_checked}
 use Rattle.paw_author.specs.Known.{KnownNames}
 use Rattle.paw_author.specs.Order.{item_lines, texts_from}
 use Rattle.paw_author.specs.Units.{UnitLines}
 use Rattle.paw_author.proofs.Rows.{from_unit}
 
 pub one_item : (known : KnownNames) (all : List UnitLines) (i : ℕ) (u : UnitLines) → u ≡ get_or all i u → i < length all
-    → items_once known (take i all) (drop i all)
-    ≡ (item_once known (take i all) u >>= λ _. items_once known (take (i + 1) all) (drop (i + 1) all))
-unfolding items_once
+    → items_checked known (take i all) (drop i all)
+    ≡ ((if is_text_item u then item_checked known (take i all) u else Ok tt) >>= λ _. items_checked known (take (i + 1) all) (drop (i + 1) all))
+unfolding items_checked
 one_item known all i u e h =
-    ap (λ (us : List UnitLines). items_once known (take i all) us) (from_unit all i u e h)
-    ∙ ap (λ (before : List UnitLines). item_once known (take i all) u >>= λ _. items_once known before (drop (i + 1) all))
+    ap (λ (us : List UnitLines). items_checked known (take i all) us) (from_unit all i u e h)
+    ∙ ap (λ (before : List UnitLines). (if is_text_item u then item_checked known (take i all) u else Ok tt) >>= λ _. items_checked known before (drop (i + 1) all))
     (sym (take_more all i u h ∙ ap (λ (x : UnitLines). take i all ++ x ∷ []) (sym e)))
 
-pub no_item : (known : KnownNames) (all : List UnitLines) (i : ℕ) → length all ≤ i → items_once known (take i all) (drop i all) ≡ Ok tt
-unfolding items_once
+pub no_item : (known : KnownNames) (all : List UnitLines) (i : ℕ) → length all ≤ i → items_checked known (take i all) (drop i all) ≡ Ok tt
+unfolding items_checked
 no_item known all i h = rw (drop_all i all h) refl
 
 pub one_text : (most number section : ℕ) (all : List UnitLines) → number < most

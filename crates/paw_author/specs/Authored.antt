@@ -11,7 +11,7 @@ use Rattle.paw_author.specs.Files.{NamedFile, NamedFiles}
 use Rattle.paw_author.specs.Fragments.{LinesInParts}
 use Rattle.paw_author.specs.Hooks.{hook_names, hooks_known}
 use Rattle.paw_author.specs.Includes.{order_of_files}
-use Rattle.paw_author.specs.ItemNumbers.{items_known}
+use Rattle.paw_author.specs.ItemsKnown.{items_known}
 use Rattle.paw_author.specs.Joining.{files_chosen, order_joined}
 use Rattle.paw_author.specs.Order.{in_order}
 use Rattle.paw_author.specs.Known.{KnownNames}

@@ -1,6 +1,6 @@
 -- The numbers of items of texts: an item has the one that is written, or that of its name, and otherwise the least that no
 -- item of its section has.
-use Rattle.std.specs.Prelude.{ℕ, ◌==◌, ◌&&◌, Bool, false, not, List, [], ◌∷◌, ◌++◌, drop, nat_lt, is_some, option_to_list}
+use Rattle.std.specs.Prelude.{ℕ, ◌==◌, ◌&&◌, Bool, false, not, List, [], ◌∷◌, drop, nat_lt, is_some, option_to_list}
 use Rattle.std.specs.Prelude.{if◌then◌else◌, Option, Some, None, Result, Ok, Err}
 use Rattle.std.specs.List.{list_any, flat_map}
 use Rattle.std.specs.Option.{option_or}
@@ -85,13 +85,19 @@ item_with_number n u known =
     else if token_count (first_line u) == 1 then Ok known
     else item_named_as (item_kind u.section) n (first_line u) known
 
--- An item without a number has a name alone, if its section has names.
+-- Whether a number is there and is none that a section has.
+abbrev pub is_past : ℕ → Option ℕ → Bool
+is_past section None = false
+is_past section (Some n) = not (nat_lt n (item_limit section))
+
+-- An item without a number has a name alone, if its section has names; a row of names may give it a number.
 abbrev pub name_alone : Option NameKind → UnitLines → KnownNames → Result KnownNames Mistake
 name_alone None u known = Err (wrong_line (token_origin 0 (first_line u)) fault.Word)
 name_alone (Some kind) u known =
     if nat_lt 1 (token_count (first_line u)) then Err (wrong_line (token_origin 1 (first_line u)) fault.Extra)
-    else if may_name kind (mark_word u) then Ok known
-    else Err (wrong_line (token_origin 0 (first_line u)) fault.Word)
+    else if not (may_name kind (mark_word u)) then Err (wrong_line (token_origin 0 (first_line u)) fault.Word)
+    else if is_past u.section (number_for kind (mark_word u) known) then Err (wrong_line (token_origin 0 (first_line u)) fault.TooBig)
+    else Ok known
 
 -- The names so far with that of an item, by the number that is written.
 abbrev pub item_written : Option ℕ → UnitLines → KnownNames → Result KnownNames Mistake
@@ -132,33 +138,3 @@ items_given section s (u ∷ us) =
 abbrev pub section_given : ℕ → List UnitLines → KnownNames → Result KnownNames Mistake
 section_given section all known =
     items_given section (record { known = known; taken = numbers_in section known all }) all >>= λ s. Ok s.known
-
--- ---- all items ----
-
--- Whether two numbers are there and are the same.
-abbrev pub are_one : Option ℕ → Option ℕ → Bool
-are_one (Some n) (Some m) = n == m
-are_one _ _ = false
-
--- Whether two items of a file have one number.
-abbrev pub are_one_item : KnownNames → UnitLines → UnitLines → Bool
-are_one_item known u v =
-    is_text_item v && u.section == v.section && u.file == v.file && are_one (item_number known u) (item_number known v)
-
--- In a file a number stands once in a section.
-abbrev pub item_once : KnownNames → List UnitLines → UnitLines → Result (Unit {0}) Mistake
-item_once known before u =
-    if is_text_item u && list_any (λ v. are_one_item known u v) before
-    then Err (wrong_line (token_origin 0 (first_line u)) fault.Duplicate) else Ok tt
-
--- Each of these items, where those before them were looked at.
-unfoldable pub items_once : KnownNames → List UnitLines → List UnitLines → Result (Unit {0}) Mistake
-items_once known before [] = Ok tt
-items_once known before (u ∷ us) = item_once known before u >>= λ _. items_once known (before ++ u ∷ []) us
-
--- The names so far with those of all items.
-abbrev pub items_known : KnownNames → List UnitLines → Result KnownNames Mistake
-items_known known all =
-    items_written known all >>= λ written. section_given SYSTEM_TEXTS all written >>= λ system.
-    section_given MESSAGE_TEXTS all system >>= λ messages. section_given OBJECT_TEXTS all messages >>= λ objects.
-    section_given LOCATION_TEXTS all objects >>= λ names. items_once names [] all >>= λ _. Ok names

@@ -12,6 +12,8 @@ pub mod Joining
 pub mod Hooks
 pub mod Known
 pub mod ItemNumbers
+pub mod Insides
+pub mod ItemsKnown
 pub mod TableNumbers
 pub mod NamedLines
 pub mod NameRows

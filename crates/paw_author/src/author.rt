@@ -9,7 +9,7 @@ use crate::file::{File, Switch};
 use crate::fragment::LineInParts;
 use crate::hooks::{HookName, hook_names, hooks_known};
 use crate::includes::order_of_files;
-use crate::item_numbers::items_known;
+use crate::items_known::items_known;
 use crate::joining::{files_chosen, order_joined};
 use crate::known::Known;
 use crate::lines::file_lines;

@@ -5,9 +5,8 @@ ghost use Rattle.std.specs.Prelude.{◌≡◌, ◌≤◌, ◌++◌, [], IfOk, Ok
 ghost use Rattle.std.specs.List.{list_any};
 ghost use Rattle.paw_read_error.specs.inner.Gives.{Gives};
 ghost use Rattle.paw_author.specs.ItemNumbers.{item_kind, item_limit, is_text_item, mark_word, mark_number, number_as, item_number};
-ghost use Rattle.paw_author.specs.ItemNumbers.{number_in, numbers_in, item_named_as, item_with_number, name_alone, item_written};
+ghost use Rattle.paw_author.specs.ItemNumbers.{number_in, numbers_in, item_named_as, item_with_number, is_past, name_alone, item_written};
 ghost use Rattle.paw_author.specs.ItemNumbers.{items_written, is_named_so, is_given_here, item_given, items_given, section_given};
-ghost use Rattle.paw_author.specs.ItemNumbers.{are_one, are_one_item, item_once, items_once, items_known};
 
 use crate::fragment::Fragment;
 use crate::hooks::first_line;
@@ -41,8 +40,8 @@ fn item_kind(section: usize) -> Option<NameKind>
     }
 }
 
-// How many items a section may have.
-fn item_limit(section: usize) -> u16
+/// How many items a section may have.
+pub(crate) fn item_limit(section: usize) -> u16
     ensures value { result ≡ item_limit section }
     ensures small { result ≤ 256 }
 {
@@ -64,8 +63,8 @@ pub(crate) fn is_text_item(u: &Unit) -> bool
     matches!(u.kind, UnitKind::Item) && has_texts(u.section)
 }
 
-// What stands after the `/` of an item.
-fn mark_word(u: &Unit) -> &[u8]
+/// What stands after the `/` of an item.
+pub(crate) fn mark_word(u: &Unit) -> &[u8]
     ensures value { result.now ≡ mark_word u.now }
 {
     without_first(token_at(0, first_line(u)))
@@ -119,8 +118,11 @@ fn add_number(number: Option<u16>, numbers: &mut Vec<u16>) -> Result<(), AllocEr
     Ok(())
 }
 
-// The numbers that items of a section have.
-fn numbers_in(
+/// The numbers that items of a section have.
+///
+/// # Errors
+/// Where there is no memory.
+pub(crate) fn numbers_in(
     alloc: Global,
     section: usize,
     known: &[Known],
@@ -182,6 +184,16 @@ fn item_with_number(
     item_named_as(alloc, item_kind(u.section), n, line, known)
 }
 
+// Whether a number is there and is none that a section has.
+fn is_past(section: usize, number: Option<u16>) -> bool
+    ensures value { result ≡ is_past section number }
+{
+    match number {
+        None => false,
+        Some(n) => n >= item_limit(section),
+    }
+}
+
 // Looks whether an item without a number has a name alone.
 fn name_alone(
     kind: Option<NameKind>,
@@ -199,6 +211,9 @@ fn name_alone(
     }
     if !may_name(kind, mark_word(u)) {
         return Err(ReadError::Fault(wrong_line(token_origin(0, line), SourceKind::Word)));
+    }
+    if is_past(u.section, number_for(kind, mark_word(u), known.as_slice())) {
+        return Err(ReadError::Fault(wrong_line(token_origin(0, line), SourceKind::TooBig)));
     }
     Ok(known)
 }
@@ -229,9 +244,16 @@ fn unit_written(alloc: Global, u: &Unit, known: Vec<Known>) -> Result<Vec<Known>
     }
 }
 
-// The names so far with those of all items that have numbers.
+/// The names so far with those of all items that have numbers.
+///
+/// # Errors
+/// The first fault, or lack of memory.
 #[tactic(auto, unfolding(crate::specs::ItemNumbers::items_written))]
-fn items_written(alloc: Global, known: Vec<Known>, all: &[Unit]) -> Result<Vec<Known>, AuthorError>
+pub(crate) fn items_written(
+    alloc: Global,
+    known: Vec<Known>,
+    all: &[Unit],
+) -> Result<Vec<Known>, AuthorError>
     ensures gives { Gives (λ more. more.items) result (items_written known.items all.now) }
 {
     let mut more = known;
@@ -259,8 +281,8 @@ fn stands_below(u: &Unit, below: &[Unit]) -> bool
     below.iter().any(|v| is_named_so(u, v))
 }
 
-// Whether an item gets its number here.
-fn is_given_here(section: usize, below: &[Unit], u: &Unit) -> bool
+/// Whether an item gets its number here.
+pub(crate) fn is_given_here(section: usize, below: &[Unit], u: &Unit) -> bool
     ensures value { result ≡ is_given_here section below.now u.now }
 {
     is_text_item(u) && u.section == section && mark_number(u).is_none() && !stands_below(u, below)
@@ -329,8 +351,11 @@ fn items_given(
     Ok(next)
 }
 
-// The names so far with those of the items of a section.
-fn section_given(
+/// The names so far with those of the items of a section.
+///
+/// # Errors
+/// Fault where no number is left, or lack of memory.
+pub(crate) fn section_given(
     alloc: Global,
     section: usize,
     all: &[Unit],
@@ -341,76 +366,4 @@ fn section_given(
     let taken = numbers_in(alloc, section, known.as_slice(), all)?;
     let Numbers { known, .. } = items_given(alloc, section, all, Numbers { known, taken })?;
     Ok(known)
-}
-
-// ---- all items ----
-
-// Whether two numbers are there and are the same.
-fn are_one(number: Option<u16>, other: Option<u16>) -> bool
-    ensures value { result ≡ are_one number other }
-{
-    match (number, other) {
-        (Some(n), Some(m)) => n == m,
-        _ => false,
-    }
-}
-
-// Whether two items of a file have one number.
-fn are_one_item(known: &[Known], u: &Unit, v: &Unit) -> bool
-    ensures value { result ≡ are_one_item known.now u.now v.now }
-{
-    is_text_item(v)
-        && u.section == v.section
-        && u.file == v.file
-        && are_one(item_number(known, u), item_number(known, v))
-}
-
-// Whether one of the units before is an item of the same file with the same number.
-fn stands_before(known: &[Known], before: &[Unit], u: &Unit) -> bool
-    ensures value { result ≡ list_any (λ v. are_one_item known.now u.now v) before.now }
-{
-    before.iter().any(|v| are_one_item(known, u, v))
-}
-
-// Looks whether a number stands once in a section of a file.
-fn item_once(known: &[Known], before: &[Unit], u: &Unit) -> Result<(), AuthorError>
-    ensures gives { Gives (λ _. tt) result (item_once known.now before.now u.now) }
-{
-    if is_text_item(u) && stands_before(known, before, u) {
-        return Err(ReadError::Fault(wrong_line(
-            token_origin(0, first_line(u)),
-            SourceKind::Duplicate,
-        )));
-    }
-    Ok(())
-}
-
-// Looks at all items.
-fn items_once(known: &[Known], all: &[Unit]) -> Result<(), AuthorError>
-    ensures gives { Gives (λ _. tt) result (items_once known.now [] all.now) }
-{
-    for (i, u) in all.iter().enumerate() {
-        item_once(known, &all[..i], u)?;
-    }
-    Ok(())
-}
-
-/// The names so far with those of all items.
-///
-/// # Errors
-/// The first fault, or lack of memory.
-pub(crate) fn items_known(
-    alloc: Global,
-    known: Vec<Known>,
-    all: &[Unit],
-) -> Result<Vec<Known>, AuthorError>
-    ensures gives { Gives (λ more. more.items) result (items_known known.items all.now) }
-{
-    let written = items_written(alloc, known, all)?;
-    let system = section_given(alloc, SYSTEM_TEXTS, all, written)?;
-    let messages = section_given(alloc, MESSAGE_TEXTS, all, system)?;
-    let objects = section_given(alloc, OBJECT_TEXTS, all, messages)?;
-    let names = section_given(alloc, LOCATION_TEXTS, all, objects)?;
-    items_once(names.as_slice(), all)?;
-    Ok(names)
 }

@@ -140,8 +140,8 @@ pub(crate) fn may_name(kind: NameKind, word: &[u8]) -> bool
     may_be_name(word) && !(is_location(kind) && is_reserved_name(word))
 }
 
-// Whether a number is one of these.
-fn is_in_use(numbers: &[u16], number: u16) -> bool
+/// Whether a number is one of these.
+pub(crate) fn is_in_use(numbers: &[u16], number: u16) -> bool
     ensures value { result ≡ is_in_use numbers.now number }
 {
     numbers.iter().any(|other| *other == number)
