@@ -7,4 +7,5 @@ pub mod RowOfFiles
 pub mod Rows
 pub mod HookLaws
 pub mod ItemLaws
+pub mod KnownTextLaws
 pub mod PlainLaws

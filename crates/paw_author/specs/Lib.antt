@@ -18,6 +18,8 @@ pub mod TableNumbers
 pub mod NamedLines
 pub mod NameRows
 pub mod Order
+pub mod KnownTexts
+pub mod EntryTexts
 pub mod PlainSources
 pub mod Authored
 pub mod Laws

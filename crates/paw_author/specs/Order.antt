@@ -87,9 +87,21 @@ item_or_gap all section n None =
     if (section == SYSTEM_TEXTS || section == LOCATION_TEXTS) && list_any (λ u. is_item_where (λ m. nat_lt n m) section u) all
     then made_line (Some (47 ∷ (decimal n ++ 10 ∷ []))) else []
 
--- The lines of the item of a section with this number: those of the nearest file.
+-- Whether a unit is the item of a section with this number.
+abbrev pub is_item_with : ℕ → ℕ → UnitLines → Bool
+is_item_with n section u = is_item_where (λ m. m == n) section u
+
+-- Whether an item with this number stands in a nearer file than a unit.
+abbrev pub has_nearer : List UnitLines → ℕ → ℕ → UnitLines → Bool
+has_nearer all section n u = list_any (λ v. is_item_with n section v && nat_lt v.file u.file) all
+
+-- The item of a section with this number: that of the nearest file.
+abbrev pub item_with : List UnitLines → ℕ → ℕ → Option UnitLines
+item_with all section n = find (λ u. is_item_with n section u && not (has_nearer all section n u)) all
+
+-- The lines of the item of a section with this number.
 abbrev pub item_lines : List UnitLines → ℕ → ℕ → LinesInParts
-item_lines all section n = item_or_gap all section n (find (λ u. is_item_where (λ m. m == n) section u) all)
+item_lines all section n = item_or_gap all section n (item_with all section n)
 
 -- The lines of the items with this count of numbers from this one on.
 unfoldable pub texts_from : ℕ → ℕ → List UnitLines → ℕ → LinesInParts

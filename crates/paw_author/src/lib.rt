@@ -3,6 +3,7 @@
 
 pub mod author;
 mod choices;
+mod entry_texts;
 pub mod file;
 pub mod fragment;
 mod hooks;
@@ -12,6 +13,7 @@ mod item_numbers;
 mod items_known;
 mod joining;
 mod known;
+mod known_texts;
 pub mod laws;
 mod lines;
 pub mod mistake;

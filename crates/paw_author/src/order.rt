@@ -1,11 +1,11 @@
 // The order in which the units of several files come out.
 
-ghost use Rattle.std.specs.Prelude.{◌≡◌, ◌++◌, ◌==◌, ◌∷◌, [], false, nat_lt, find, map, length, take, drop, filter, IfOk, IfSome, slice_get, ◌<◌, if◌then◌else◌};
+ghost use Rattle.std.specs.Prelude.{◌≡◌, ◌++◌, ◌-◌, ◌==◌, ◌∷◌, [], ◌&&◌, false, not, nat_lt, find, map, length, take, drop, filter, IfOk, IfSome, slice_get, ◌<◌, if◌then◌else◌};
 ghost use Rattle.std.specs.List.{list_any, flat_map, position};
 ghost use Rattle.std.specs.Option.{option_copied, option_map_or};
 ghost use Rattle.paw_author.specs.Hooks.{unit_lines};
 ghost use Rattle.paw_author.specs.Order.{made_headers, made_line, header_made, is_header_of, header_or_made, is_own};
-ghost use Rattle.paw_author.specs.Order.{is_open_hook, is_item_where, item_or_gap, item_lines, texts_from, body_lines, own_lines, lines_with_file, lines_in_files, files_of, header_lines, section_lines};
+ghost use Rattle.paw_author.specs.Order.{is_open_hook, is_item_where, is_item_with, has_nearer, item_with, item_or_gap, item_lines, texts_from, body_lines, own_lines, lines_with_file, lines_in_files, files_of, header_lines, section_lines};
 ghost use Rattle.paw_author.specs.Order.{sections, ends_with_lf, has_line_end, ended_line, all_ended, in_order};
 ghost use Rattle.paw_author.specs.declared.sections.TheConstants.{SECTIONS, WORDS};
 ghost use Rattle.paw_author.specs.declared.order.TheConstants.{ITEM_NUMBERS};
@@ -229,9 +229,30 @@ const ITEM_NUMBERS: u16 = 256;
 
 // Whether a unit is the item of a section with this number.
 fn is_item_with(number: u16, section: usize, u: &Unit) -> bool
-    ensures value { result ≡ is_item_where (λ m. m == number) section u.now }
+    ensures value { result ≡ is_item_with number section u.now }
 {
     is_text_item(u) && u.section == section && is_number(mark_number(u), number)
+}
+
+// Whether a unit is such an item, and stands in a nearer file than another one.
+fn is_nearer(number: u16, section: usize, u: &Unit, v: &Unit) -> bool
+    ensures value { result ≡ (is_item_with number section v.now && nat_lt v.now.file u.now.file) }
+{
+    is_item_with(number, section, v) && v.file < u.file
+}
+
+// Whether an item with this number stands in a nearer file than a unit.
+fn has_nearer(all: &[Unit], section: usize, number: u16, u: &Unit) -> bool
+    ensures value { result ≡ has_nearer all.now section number u.now }
+{
+    all.iter().any(|v| is_nearer(number, section, u, v))
+}
+
+// Whether a unit is the item with this number of the nearest file.
+fn is_nearest(all: &[Unit], section: usize, number: u16, u: &Unit) -> bool
+    ensures value { result ≡ (is_item_with number section u.now && not (has_nearer all.now section number u.now)) }
+{
+    is_item_with(number, section, u) && !has_nearer(all, section, number, u)
 }
 
 // Whether a number is there and is this one.
@@ -268,11 +289,11 @@ fn has_item_above(number: u16, section: usize, all: &[Unit]) -> bool
     all.iter().any(|u| is_item_above(number, section, u))
 }
 
-// The item of a section with this number.
-fn item_of(number: u16, section: usize, all: &[Unit]) -> Option<&Unit>
-    ensures value { option_copied result ≡ find (λ u. is_item_where (λ m. m == number) section u) all.now }
+/// The item of a section with this number: that of the nearest file.
+pub(crate) fn item_with(all: &[Unit], section: usize, number: u16) -> Option<&Unit>
+    ensures value { option_copied result ≡ item_with all.now section number }
 {
-    all.iter().find(|u| is_item_with(number, section, *u))
+    all.iter().find(|u| is_nearest(all, section, number, *u))
 }
 
 // Adds an item with the empty text where one is missing below the greatest number.
@@ -312,7 +333,7 @@ fn add_item(
 ) -> Result<(), AllocError>
     ensures value { IfOk result (λ _. out.new.items ≡ out.old.items ++ item_lines all.now section number) }
 {
-    match item_of(number, section, all) {
+    match item_with(all, section, number) {
         Some(u) => add_lines(alloc, u.lines.as_slice(), out),
         None => add_gap(alloc, all, section, number, out),
     }
@@ -368,12 +389,21 @@ fn add_section(
     add_body(alloc, files, all, section, out)
 }
 
-// The lines of all sections, one section after another.
-fn sections(alloc: Global, files: usize, all: &[Unit]) -> Result<Vec<LineInParts>, AllocError>
-    ensures value { IfOk result (λ lines. lines.items ≡ sections SECTIONS 0 files all.now) }
+/// The lines of the sections from one on up to another, one section after another.
+///
+/// # Errors
+/// Where there is no memory.
+pub(crate) fn sections(
+    alloc: Global,
+    from: usize,
+    end: usize,
+    files: usize,
+    all: &[Unit],
+) -> Result<Vec<LineInParts>, AllocError>
+    ensures value { IfOk result (λ lines. lines.items ≡ sections (end - from) from files all.now) }
 {
     let mut lines = Vec::new(alloc);
-    for section in 0..SECTIONS {
+    for section in from..end {
         add_section(alloc, files, all, section, &mut lines)?;
     }
     Ok(lines)
@@ -425,9 +455,15 @@ fn ended_unless(alloc: Global, last: bool, line: LineInParts) -> Result<LineInPa
     }
 }
 
-// All lines, of which each but the last has a line end.
+/// All lines, of which each but the last has a line end.
+///
+/// # Errors
+/// Where there is no memory.
 #[tactic(auto, unfolding(crate::specs::Order::all_ended))]
-fn all_ended(alloc: Global, lines: Vec<LineInParts>) -> Result<Vec<LineInParts>, AllocError>
+pub(crate) fn all_ended(
+    alloc: Global,
+    lines: Vec<LineInParts>,
+) -> Result<Vec<LineInParts>, AllocError>
     ensures value { IfOk result (λ ended. ended.items ≡ all_ended lines.items) }
 {
     let mut left = VecDeque::from(lines);
@@ -450,6 +486,6 @@ pub(crate) fn in_order(
 ) -> Result<Vec<LineInParts>, AllocError>
     ensures value { IfOk result (λ lines. lines.items ≡ in_order files all.now) }
 {
-    let lines = sections(alloc, files, all)?;
+    let lines = sections(alloc, 0, SECTIONS, files, all)?;
     all_ended(alloc, lines)
 }
