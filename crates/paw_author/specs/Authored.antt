@@ -6,6 +6,7 @@ use Rattle.paw_read_error.specs.Bind.{◌>>=◌}
 use Rattle.paw_read_error.specs.declared.read_error.ReadError.{ReadError}
 use Rattle.paw_read_error.specs.declared.read_error.ReadError.TheVariants.{Memory, Fault}
 use Rattle.paw_author.specs.declared.mistake.Mistake.{Mistake}
+use Rattle.paw_author.specs.EntryTexts.{told_in_order}
 use Rattle.paw_author.specs.FileLines.{file_lines}
 use Rattle.paw_author.specs.Files.{NamedFile, NamedFiles}
 use Rattle.paw_author.specs.Fragments.{LinesInParts}
@@ -13,7 +14,6 @@ use Rattle.paw_author.specs.Hooks.{hook_names, hooks_known}
 use Rattle.paw_author.specs.Includes.{order_of_files}
 use Rattle.paw_author.specs.ItemsKnown.{items_known}
 use Rattle.paw_author.specs.Joining.{files_chosen, order_joined}
-use Rattle.paw_author.specs.Order.{in_order}
 use Rattle.paw_author.specs.Known.{KnownNames}
 use Rattle.paw_author.specs.NamedLines.{unit_named}
 use Rattle.paw_author.specs.NameRows.{names_known}
@@ -25,10 +25,10 @@ use Rattle.paw_author.specs.Units.{UnitLines}
 abbrev pub is_plain_file : NamedFile → Bool
 is_plain_file file = nat_le (length file.bytes) SOURCE_LIMIT && is_plain_source (file_lines 0 file.bytes)
 
--- The lines of units whose tables have numbers, with numbers in the place of names.
+-- The lines of units whose tables have numbers, with numbers in the place of names and of texts in entries.
 abbrev pub named_lines : ℕ → Names → KnownNames → List UnitLines → Result LinesInParts Mistake
 named_lines files hooks known units =
-    hooks_known hooks [] units >>= λ _. Ok (in_order files (map (λ u. unit_named known u) units))
+    hooks_known hooks [] units >>= λ _. told_in_order files (map (λ u. unit_named known u) units)
 
 -- The lines of units, where tables have these names.
 abbrev pub lines_with_tables : ℕ → Names → KnownNames → List UnitLines → Result LinesInParts Mistake

@@ -147,9 +147,3 @@ ended_line line =
 unfoldable pub all_ended : LinesInParts → LinesInParts
 all_ended [] = []
 all_ended (line ∷ lines) = (if length lines == 0 then line else ended_line line) ∷ all_ended lines
-
--- ---- all units ----
-
--- The lines of all units in the order in which they come out.
-abbrev pub in_order : ℕ → List UnitLines → LinesInParts
-in_order files all = all_ended (sections SECTIONS 0 files all)

@@ -5,6 +5,7 @@ ghost use Rattle.paw_read_error.specs.inner.Gives.{Gives};
 ghost use Rattle.paw_author.specs.Authored.{is_plain_file, named_lines, lines_with_tables, hooked_lines, lines_of_units, joined_lines, plain_lines, IsAnswered};
 ghost use Rattle.paw_author.specs.FileLines.{file_lines};
 
+use crate::entry_texts::told_in_order;
 use crate::file::{File, Switch};
 use crate::fragment::LineInParts;
 use crate::hooks::{HookName, hook_names, hooks_known};
@@ -16,7 +17,6 @@ use crate::lines::file_lines;
 use crate::mistake::AuthorError;
 use crate::name_rows::names_known;
 use crate::named_lines::units_named;
-use crate::order::in_order;
 use crate::plain_sources::is_plain_source;
 use crate::table_numbers::{tables_known, units_numbered};
 use crate::units::Unit;
@@ -55,7 +55,7 @@ fn plain_file(alloc: Global, file: &File) -> Result<Option<Vec<LineInParts>>, Al
     })
 }
 
-// The lines of units whose tables have numbers, with numbers in the place of names.
+// The lines of units whose tables have numbers, with numbers in the place of names and of texts in entries.
 fn named_lines(
     alloc: Global,
     files: usize,
@@ -67,7 +67,7 @@ fn named_lines(
 {
     hooks_known(hooks, units.as_slice())?;
     let named = units_named(alloc, known, units)?;
-    Ok(in_order(alloc, files, named.as_slice())?)
+    told_in_order(alloc, files, named)
 }
 
 // The lines of units, where tables have these names.

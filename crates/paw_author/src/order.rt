@@ -6,7 +6,7 @@ ghost use Rattle.std.specs.Option.{option_copied, option_map_or};
 ghost use Rattle.paw_author.specs.Hooks.{unit_lines};
 ghost use Rattle.paw_author.specs.Order.{made_headers, made_line, header_made, is_header_of, header_or_made, is_own};
 ghost use Rattle.paw_author.specs.Order.{is_open_hook, is_item_where, is_item_with, has_nearer, item_with, item_or_gap, item_lines, texts_from, body_lines, own_lines, lines_with_file, lines_in_files, files_of, header_lines, section_lines};
-ghost use Rattle.paw_author.specs.Order.{sections, ends_with_lf, has_line_end, ended_line, all_ended, in_order};
+ghost use Rattle.paw_author.specs.Order.{sections, ends_with_lf, has_line_end, ended_line, all_ended};
 ghost use Rattle.paw_author.specs.declared.sections.TheConstants.{SECTIONS, WORDS};
 ghost use Rattle.paw_author.specs.declared.order.TheConstants.{ITEM_NUMBERS};
 
@@ -473,19 +473,4 @@ pub(crate) fn all_ended(
         ended.push(ended_unless(alloc, last, line)?)?;
     }
     Ok(ended)
-}
-
-/// The lines of all units of this number of files in the order in which they come out.
-///
-/// # Errors
-/// Where there is no memory.
-pub(crate) fn in_order(
-    alloc: Global,
-    files: usize,
-    all: &[Unit],
-) -> Result<Vec<LineInParts>, AllocError>
-    ensures value { IfOk result (λ lines. lines.items ≡ in_order files all.now) }
-{
-    let lines = sections(alloc, 0, SECTIONS, files, all)?;
-    all_ended(alloc, lines)
 }
