@@ -5,7 +5,7 @@ use Rattle.paw_read_error.specs.Bind.{◌>>=◌}
 use Rattle.paw_author.specs.ItemNumbers.{is_text_item}
 use Rattle.paw_author.specs.ItemsKnown.{item_checked, items_checked}
 use Rattle.paw_author.specs.Known.{KnownNames}
-use Rattle.paw_author.specs.Order.{item_lines, texts_from}
+use Rattle.paw_author.specs.Order.{numbered_lines, numbered_from}
 use Rattle.paw_author.specs.Units.{UnitLines}
 use Rattle.paw_author.proofs.Rows.{from_unit}
 
@@ -22,14 +22,14 @@ pub no_item : (known : KnownNames) (all : List UnitLines) (i : ℕ) → length a
 unfolding items_checked
 no_item known all i h = rw (drop_all i all h) refl
 
-pub one_text : (most number section : ℕ) (all : List UnitLines) → number < most
-    → texts_from (most - number) number all section
-    ≡ item_lines all section number ++ texts_from (most - (number + 1)) (number + 1) all section
-unfolding texts_from
-one_text most number section all h =
+pub one_number : (most number section : ℕ) (all : List UnitLines) → number < most
+    → numbered_from (most - number) number all section
+    ≡ numbered_lines all section number ++ numbered_from (most - (number + 1)) (number + 1) all section
+unfolding numbered_from
+one_number most number section all h =
     let more : most - number ≡ suc (most - suc number) = omega arith in
     rw (add-one, more) refl
 
-pub no_text : (n number section : ℕ) (all : List UnitLines) → n ≡ 0 → texts_from n number all section ≡ []
-unfolding texts_from
-no_text n number section all e = rw e refl
+pub no_number : (n number section : ℕ) (all : List UnitLines) → n ≡ 0 → numbered_from n number all section ≡ []
+unfolding numbered_from
+no_number n number section all e = rw e refl

@@ -17,6 +17,7 @@ use Rattle.paw_author.specs.Joining.{files_chosen, order_joined}
 use Rattle.paw_author.specs.Known.{KnownNames}
 use Rattle.paw_author.specs.NamedLines.{unit_named}
 use Rattle.paw_author.specs.NameRows.{names_known}
+use Rattle.paw_author.specs.NumberedRows.{rows_known}
 use Rattle.paw_author.specs.PlainSources.{is_plain_source}
 use Rattle.paw_author.specs.TableNumbers.{tables_known, unit_numbered}
 use Rattle.paw_author.specs.Units.{UnitLines}
@@ -25,10 +26,14 @@ use Rattle.paw_author.specs.Units.{UnitLines}
 abbrev pub is_plain_file : NamedFile → Bool
 is_plain_file file = nat_le (length file.bytes) SOURCE_LIMIT && is_plain_source (file_lines 0 file.bytes)
 
--- The lines of units whose tables have numbers, with numbers in the place of names and of texts in entries.
+-- The lines of units with numbers in the place of names, and of texts in entries.
+abbrev pub numbered_lines : ℕ → List UnitLines → Result LinesInParts Mistake
+numbered_lines files units = rows_known units >>= λ _. told_in_order files units
+
+-- The lines of units whose tables have numbers, with numbers in the place of names.
 abbrev pub named_lines : ℕ → Names → KnownNames → List UnitLines → Result LinesInParts Mistake
 named_lines files hooks known units =
-    hooks_known hooks [] units >>= λ _. told_in_order files (map (λ u. unit_named known u) units)
+    hooks_known hooks [] units >>= λ _. numbered_lines files (map (λ u. unit_named known u) units)
 
 -- The lines of units, where tables have these names.
 abbrev pub lines_with_tables : ℕ → Names → KnownNames → List UnitLines → Result LinesInParts Mistake

@@ -17,6 +17,7 @@ pub mod ItemsKnown
 pub mod TableNumbers
 pub mod NamedLines
 pub mod NameRows
+pub mod NumberedRows
 pub mod Order
 pub mod KnownTexts
 pub mod EntryTexts

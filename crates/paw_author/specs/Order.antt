@@ -4,11 +4,12 @@ use Rattle.std.specs.Prelude.{if◌then◌else◌, Option, Some, None, slice_get
 use Rattle.std.specs.List.{list_any, position, flat_map}
 use Rattle.std.specs.Option.{option_map_or}
 use Rattle.paw_base.specs.Bytes.{Bytes, Lines}
-use Rattle.paw_author.specs.declared.sections.TheConstants.{NAMES, SECTIONS, WORDS, SYSTEM_TEXTS, LOCATION_TEXTS}
+use Rattle.paw_author.specs.declared.sections.TheConstants.{NAMES, WORDS, SYSTEM_TEXTS, LOCATION_TEXTS, EXITS, OBJECTS}
 use Rattle.paw_author.specs.Fragments.{Fragments, LinesInParts}
 use Rattle.paw_author.specs.Hooks.{is_header, is_hook_kind, hook_name, unit_lines}
 use Rattle.paw_author.specs.declared.order.TheConstants.{ITEM_NUMBERS}
 use Rattle.paw_author.specs.ItemNumbers.{is_text_item, mark_number}
+use Rattle.paw_author.specs.NumberedRows.{exits_of, object_rows}
 use Rattle.paw_author.specs.Sections.{has_texts}
 use Rattle.paw_author.specs.Tokens.{bytes_if_any, line_origin}
 use Rattle.paw_author.specs.Units.{UnitLines}
@@ -74,7 +75,7 @@ files_of files section = if section == 0 then 1 else files
 abbrev pub header_lines : List UnitLines → ℕ → LinesInParts
 header_lines all section = header_or_made section (find (λ u. is_header_of section u) all)
 
--- ---- texts by number ----
+-- ---- what has a number ----
 
 -- Whether a unit is the item of a section with a number that a test lets through.
 abbrev pub is_item_where : (ℕ → Bool) → ℕ → UnitLines → Bool
@@ -103,15 +104,27 @@ item_with all section n = find (λ u. is_item_with n section u && not (has_neare
 abbrev pub item_lines : List UnitLines → ℕ → ℕ → LinesInParts
 item_lines all section n = item_or_gap all section n (item_with all section n)
 
--- The lines of the items with this count of numbers from this one on.
-unfoldable pub texts_from : ℕ → ℕ → List UnitLines → ℕ → LinesInParts
-texts_from zero n all section = []
-texts_from (suc count) n all section = item_lines all section n ++ texts_from count (suc n) all section
+-- The lines of what has this number in a section: a location and its exits, rows of an object, or an item of texts.
+abbrev pub numbered_lines : List UnitLines → ℕ → ℕ → LinesInParts
+numbered_lines all section n =
+    if section == EXITS then exits_of all n
+    else if section == OBJECTS then object_rows all n
+    else item_lines all section n
+
+-- The lines of a section with this count of numbers from this one on.
+unfoldable pub numbered_from : ℕ → ℕ → List UnitLines → ℕ → LinesInParts
+numbered_from zero n all section = []
+numbered_from (suc count) n all section = numbered_lines all section n ++ numbered_from count (suc n) all section
+
+-- Whether what a section holds comes out by number.
+abbrev pub is_by_number : ℕ → Bool
+is_by_number section = has_texts section || section == EXITS || section == OBJECTS
 
 -- The lines of a section without its header.
 abbrev pub body_lines : ℕ → List UnitLines → ℕ → LinesInParts
 body_lines files all section =
-    if has_texts section then texts_from ITEM_NUMBERS 0 all section else lines_in_files all section (files_of files section)
+    if is_by_number section then numbered_from ITEM_NUMBERS 0 all section
+    else lines_in_files all section (files_of files section)
 
 -- The lines of a section: its header, and then the units of all files. Rows of names are left out.
 abbrev pub section_lines : ℕ → List UnitLines → ℕ → LinesInParts

@@ -19,6 +19,7 @@ mod lines;
 pub mod mistake;
 mod name_rows;
 mod named_lines;
+mod numbered_rows;
 mod order;
 mod parts;
 mod plain_sources;

@@ -445,8 +445,8 @@ fn data_unit(alloc: Global, known: &[Known], u: Unit) -> Result<Unit, AllocError
     })
 }
 
-// Whether a unit is an item of exits.
-fn is_exits_item(u: &Unit) -> bool
+/// Whether a unit is an item of exits.
+pub(crate) fn is_exits_item(u: &Unit) -> bool
     ensures value { result ≡ is_exits_item u.now }
 {
     matches!(u.kind, UnitKind::Item) && u.section == EXITS

@@ -5,16 +5,17 @@ ghost use Rattle.std.specs.List.{list_any, flat_map, position};
 ghost use Rattle.std.specs.Option.{option_copied, option_map_or};
 ghost use Rattle.paw_author.specs.Hooks.{unit_lines};
 ghost use Rattle.paw_author.specs.Order.{made_headers, made_line, header_made, is_header_of, header_or_made, is_own};
-ghost use Rattle.paw_author.specs.Order.{is_open_hook, is_item_where, is_item_with, has_nearer, item_with, item_or_gap, item_lines, texts_from, body_lines, own_lines, lines_with_file, lines_in_files, files_of, header_lines, section_lines};
+ghost use Rattle.paw_author.specs.Order.{is_open_hook, is_item_where, is_item_with, has_nearer, item_with, item_or_gap, item_lines, numbered_lines, numbered_from, is_by_number, body_lines, own_lines, lines_with_file, lines_in_files, files_of, header_lines, section_lines};
 ghost use Rattle.paw_author.specs.Order.{sections, ends_with_lf, has_line_end, ended_line, all_ended};
-ghost use Rattle.paw_author.specs.declared.sections.TheConstants.{SECTIONS, WORDS};
+ghost use Rattle.paw_author.specs.declared.sections.TheConstants.{WORDS};
 ghost use Rattle.paw_author.specs.declared.order.TheConstants.{ITEM_NUMBERS};
 
 use crate::fragment::{Fragment, LineInParts, Origin};
 use crate::hooks::{add_lines, add_unit, has_no_name, is_header, is_hook};
 use crate::item_numbers::{is_text_item, mark_number};
 use crate::named_lines::put_number;
-use crate::sections::{LOCATION_TEXTS, NAMES, SECTIONS, SYSTEM_TEXTS, WORDS, has_texts};
+use crate::numbered_rows::{add_exits, add_object_rows};
+use crate::sections::{EXITS, LOCATION_TEXTS, NAMES, OBJECTS, SYSTEM_TEXTS, WORDS, has_texts};
 use crate::tokens::line_origin;
 use crate::units::Unit;
 use std::alloc::{AllocError, Global};
@@ -222,10 +223,10 @@ fn files_of(files: usize, section: usize) -> usize
     if section == 0 { 1 } else { files }
 }
 
-// ---- texts by number ----
+// ---- what has a number ----
 
-/// How many numbers an item may have.
-const ITEM_NUMBERS: u16 = 256;
+/// How many numbers come out in order. The last one stands for all from there on, which the compiler refuses.
+const ITEM_NUMBERS: u16 = 257;
 
 // Whether a unit is the item of a section with this number.
 fn is_item_with(number: u16, section: usize, u: &Unit) -> bool
@@ -339,19 +340,45 @@ fn add_item(
     }
 }
 
-// Adds the lines of all items of a section.
-fn add_texts(
+// Adds the lines of what has this number in a section.
+fn add_numbered(
+    alloc: Global,
+    all: &[Unit],
+    section: usize,
+    number: u16,
+    out: &mut Vec<LineInParts>,
+) -> Result<(), AllocError>
+    ensures value { IfOk result (λ _. out.new.items ≡ out.old.items ++ numbered_lines all.now section number) }
+{
+    if section == EXITS {
+        add_exits(alloc, all, number, out)
+    } else if section == OBJECTS {
+        add_object_rows(alloc, all, number, out)
+    } else {
+        add_item(alloc, all, section, number, out)
+    }
+}
+
+// Adds the lines of a section that come out by number.
+fn add_by_number(
     alloc: Global,
     all: &[Unit],
     section: usize,
     out: &mut Vec<LineInParts>,
 ) -> Result<(), AllocError>
-    ensures value { IfOk result (λ _. out.new.items ≡ out.old.items ++ texts_from ITEM_NUMBERS 0 all.now section) }
+    ensures value { IfOk result (λ _. out.new.items ≡ out.old.items ++ numbered_from ITEM_NUMBERS 0 all.now section) }
 {
     for number in 0..ITEM_NUMBERS {
-        add_item(alloc, all, section, number, out)?;
+        add_numbered(alloc, all, section, number, out)?;
     }
     Ok(())
+}
+
+// Whether what a section holds comes out by number.
+fn is_by_number(section: usize) -> bool
+    ensures value { result ≡ is_by_number section }
+{
+    has_texts(section) || section == EXITS || section == OBJECTS
 }
 
 // Adds the lines of a section without its header.
@@ -364,8 +391,8 @@ fn add_body(
 ) -> Result<(), AllocError>
     ensures value { IfOk result (λ _. out.new.items ≡ out.old.items ++ body_lines files all.now section) }
 {
-    if has_texts(section) {
-        return add_texts(alloc, all, section, out);
+    if is_by_number(section) {
+        return add_by_number(alloc, all, section, out);
     }
     let mut lines = lines_in_files(alloc, all, section, files_of(files, section))?;
     out.append(&mut lines)?;
