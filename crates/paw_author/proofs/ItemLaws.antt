@@ -3,6 +3,7 @@ use Rattle.std.proofs.Common.{◌≡◌, ℕ, suc, ◌<◌, ◌≤◌, ◌+◌, 
 use Rattle.std.proofs.lemmas.List.{take_more, drop_all}
 use Rattle.paw_read_error.specs.Bind.{◌>>=◌}
 use Rattle.paw_author.specs.ItemNumbers.{is_text_item}
+use Rattle.paw_author.specs.ItemsApart.{item_apart, items_apart}
 use Rattle.paw_author.specs.ItemsKnown.{item_checked, items_checked}
 use Rattle.paw_author.specs.Known.{KnownNames}
 use Rattle.paw_author.specs.Order.{numbered_lines, numbered_from}
@@ -33,3 +34,16 @@ one_number most number section all h =
 pub no_number : (n number section : ℕ) (all : List UnitLines) → n ≡ 0 → numbered_from n number all section ≡ []
 unfolding numbered_from
 no_number n number section all e = rw e refl
+
+pub one_apart : (rows : KnownNames) (all : List UnitLines) (i : ℕ) (u : UnitLines) → u ≡ get_or all i u → i < length all
+    → items_apart rows (take i all) (drop i all)
+    ≡ (item_apart rows (take i all) u >>= λ _. items_apart rows (take (i + 1) all) (drop (i + 1) all))
+unfolding items_apart
+one_apart rows all i u e h =
+    ap (λ (us : List UnitLines). items_apart rows (take i all) us) (from_unit all i u e h)
+    ∙ ap (λ (before : List UnitLines). item_apart rows (take i all) u >>= λ _. items_apart rows before (drop (i + 1) all))
+    (sym (take_more all i u h ∙ ap (λ (x : UnitLines). take i all ++ x ∷ []) (sym e)))
+
+pub none_apart : (rows : KnownNames) (all : List UnitLines) (i : ℕ) → length all ≤ i → items_apart rows (take i all) (drop i all) ≡ Ok tt
+unfolding items_apart
+none_apart rows all i h = rw (drop_all i all h) refl

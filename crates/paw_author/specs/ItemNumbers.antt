@@ -50,6 +50,10 @@ mark_word u = drop 1 (token_at 0 (first_line u))
 abbrev pub mark_number : UnitLines → Option ℕ
 mark_number u = written_number (mark_word u)
 
+-- The name of an item: it stands after its number, or in the place of one.
+abbrev pub item_name : UnitLines → Token
+item_name u = if is_some (mark_number u) then token_at 1 (first_line u) else mark_word u
+
 -- The number that a name of a kind stands for.
 abbrev pub number_as : Option NameKind → Token → KnownNames → Option ℕ
 number_as None word known = None
@@ -58,6 +62,11 @@ number_as (Some kind) word known = number_for kind word known
 -- The number of an item: the one that is written, or that of its name.
 abbrev pub item_number : KnownNames → UnitLines → Option ℕ
 item_number known u = option_or (mark_number u) (number_as (item_kind u.section) (mark_word u) known)
+
+-- Whether two numbers are there and are the same.
+abbrev pub are_one : Option ℕ → Option ℕ → Bool
+are_one (Some n) (Some m) = n == m
+are_one _ _ = false
 
 -- The number of an item of this section.
 abbrev pub number_in : ℕ → KnownNames → UnitLines → Option ℕ

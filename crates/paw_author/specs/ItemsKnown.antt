@@ -7,7 +7,8 @@ use Rattle.paw_author.specs.declared.mistake.Mistake.{Mistake}
 use Rattle.paw_author.specs.declared.sections.TheConstants.{SYSTEM_TEXTS, MESSAGE_TEXTS, OBJECT_TEXTS, LOCATION_TEXTS}
 use Rattle.paw_author.specs.Hooks.{first_line}
 use Rattle.paw_author.specs.Insides.{insides_given}
-use Rattle.paw_author.specs.ItemNumbers.{is_text_item, mark_number, item_number, items_written, section_given}
+use Rattle.paw_author.specs.ItemNumbers.{is_text_item, mark_number, item_number, are_one, items_written, section_given}
+use Rattle.paw_author.specs.ItemsApart.{items_apart}
 use Rattle.paw_author.specs.Known.{KnownNames}
 use Rattle.paw_author.specs.Mistakes.{wrong_line}
 use Rattle.paw_author.specs.Tokens.{token_origin}
@@ -25,11 +26,6 @@ reaches _ _ = false
 -- Whether an item has a number that is written and isn't less than that of another item.
 abbrev pub is_passed_by : UnitLines → UnitLines → Bool
 is_passed_by u v = are_together u v && reaches (mark_number u) (mark_number v)
-
--- Whether two numbers are there and are the same.
-abbrev pub are_one : Option ℕ → Option ℕ → Bool
-are_one (Some n) (Some m) = n == m
-are_one _ _ = false
 
 -- Whether two items of a file have one number.
 abbrev pub are_one_item : KnownNames → UnitLines → UnitLines → Bool
@@ -51,7 +47,7 @@ items_checked known before (u ∷ us) =
 -- The names so far with those of all items.
 abbrev pub items_known : KnownNames → List UnitLines → Result KnownNames Mistake
 items_known known all =
-    items_written known all >>= λ written. insides_given all written >>= λ inner.
+    items_apart known [] all >>= λ _. items_written known all >>= λ written. insides_given all written >>= λ inner.
     section_given SYSTEM_TEXTS all inner >>= λ system. section_given MESSAGE_TEXTS all system >>= λ messages.
     section_given OBJECT_TEXTS all messages >>= λ objects. section_given LOCATION_TEXTS all objects >>= λ names.
     items_checked names [] all >>= λ _. Ok names

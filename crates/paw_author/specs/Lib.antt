@@ -13,6 +13,7 @@ pub mod Hooks
 pub mod Known
 pub mod ItemNumbers
 pub mod Insides
+pub mod ItemsApart
 pub mod ItemsKnown
 pub mod TableNumbers
 pub mod NamedLines

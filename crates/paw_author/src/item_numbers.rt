@@ -4,7 +4,7 @@
 ghost use Rattle.std.specs.Prelude.{◌≡◌, ◌≤◌, ◌++◌, [], IfOk, Ok, if◌then◌else◌, option_to_list};
 ghost use Rattle.std.specs.List.{list_any};
 ghost use Rattle.paw_read_error.specs.inner.Gives.{Gives};
-ghost use Rattle.paw_author.specs.ItemNumbers.{item_kind, item_limit, is_text_item, mark_word, mark_number, number_as, item_number};
+ghost use Rattle.paw_author.specs.ItemNumbers.{item_kind, item_limit, is_text_item, mark_word, mark_number, item_name, number_as, item_number, are_one};
 ghost use Rattle.paw_author.specs.ItemNumbers.{number_in, numbers_in, item_named_as, item_with_number, is_past, name_alone, item_written};
 ghost use Rattle.paw_author.specs.ItemNumbers.{items_written, is_named_so, is_given_here, item_given, items_given, section_given};
 
@@ -23,8 +23,8 @@ use std::alloc::{AllocError, Global};
 
 // ---- items ----
 
-// What the items of a section are.
-fn item_kind(section: usize) -> Option<NameKind>
+/// What the items of a section are.
+pub(crate) fn item_kind(section: usize) -> Option<NameKind>
     ensures value { result ≡ item_kind section }
 {
     if section == SYSTEM_TEXTS {
@@ -77,8 +77,19 @@ pub(crate) fn mark_number(u: &Unit) -> Option<u16>
     written_number(mark_word(u))
 }
 
-// The number that a name of a kind stands for.
-fn number_as(kind: Option<NameKind>, word: &[u8], known: &[Known]) -> Option<u16>
+/// The name of an item: it stands after its number, or in the place of one.
+pub(crate) fn item_name(u: &Unit) -> &[u8]
+    ensures value { result.now ≡ item_name u.now }
+{
+    if mark_number(u).is_some() {
+        token_at(1, first_line(u))
+    } else {
+        mark_word(u)
+    }
+}
+
+/// The number that a name of a kind stands for.
+pub(crate) fn number_as(kind: Option<NameKind>, word: &[u8], known: &[Known]) -> Option<u16>
     ensures value { result ≡ number_as kind word.now known.now }
 {
     match kind {
@@ -94,6 +105,16 @@ pub(crate) fn item_number(known: &[Known], u: &Unit) -> Option<u16>
     match mark_number(u) {
         Some(number) => Some(number),
         None => number_as(item_kind(u.section), mark_word(u), known),
+    }
+}
+
+/// Whether two numbers are there and are the same.
+pub(crate) fn are_one(number: Option<u16>, other: Option<u16>) -> bool
+    ensures value { result ≡ are_one number other }
+{
+    match (number, other) {
+        (Some(n), Some(m)) => n == m,
+        _ => false,
     }
 }
 

@@ -3,12 +3,15 @@
 ghost use Rattle.std.specs.Prelude.{◌≡◌, [], Ok, if◌then◌else◌};
 ghost use Rattle.std.specs.List.{list_any};
 ghost use Rattle.paw_author.specs.ItemNumbers.{is_text_item};
-ghost use Rattle.paw_author.specs.ItemsKnown.{are_together, reaches, is_passed_by, are_one, are_one_item, item_checked, items_checked, items_known};
+ghost use Rattle.paw_author.specs.ItemsKnown.{are_together, reaches, is_passed_by, are_one_item, item_checked, items_checked, items_known};
 ghost use Rattle.paw_read_error.specs.inner.Gives.{Gives};
 
 use crate::hooks::first_line;
 use crate::insides::insides_given;
-use crate::item_numbers::{is_text_item, item_number, items_written, mark_number, section_given};
+use crate::item_numbers::{
+    are_one, is_text_item, item_number, items_written, mark_number, section_given,
+};
+use crate::items_apart::items_apart;
 use crate::known::Known;
 use crate::mistake::{AuthorError, wrong_line};
 use crate::sections::{LOCATION_TEXTS, MESSAGE_TEXTS, OBJECT_TEXTS, SYSTEM_TEXTS};
@@ -40,16 +43,6 @@ fn is_passed_by(u: &Unit, v: &Unit) -> bool
     ensures value { result ≡ is_passed_by u.now v.now }
 {
     are_together(u, v) && reaches(mark_number(u), mark_number(v))
-}
-
-// Whether two numbers are there and are the same.
-fn are_one(number: Option<u16>, other: Option<u16>) -> bool
-    ensures value { result ≡ are_one number other }
-{
-    match (number, other) {
-        (Some(n), Some(m)) => n == m,
-        _ => false,
-    }
 }
 
 // Whether two items of a file have one number.
@@ -119,6 +112,7 @@ pub(crate) fn items_known(
 ) -> Result<Vec<Known>, AuthorError>
     ensures gives { Gives (λ more. more.items) result (items_known known.items all.now) }
 {
+    items_apart(known.as_slice(), all)?;
     let written = items_written(alloc, known, all)?;
     let inner = insides_given(alloc, all, written)?;
     let system = section_given(alloc, SYSTEM_TEXTS, all, inner)?;

@@ -10,6 +10,7 @@ mod hooks;
 mod includes;
 mod insides;
 mod item_numbers;
+mod items_apart;
 mod items_known;
 mod joining;
 mod known;

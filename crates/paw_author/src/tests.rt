@@ -265,7 +265,7 @@ fn the_first_mistake_is_named(rt: HostRuntime) {
     let word = MistakeKind::Line(SourceKind::Word);
     let number = MistakeKind::Line(SourceKind::Number);
     let range = MistakeKind::Line(SourceKind::Range);
-    let faulty: [(&[u8], &[u8], usize, usize, usize, MistakeKind); 31] = [
+    let faulty: [(&[u8], &[u8], usize, usize, usize, MistakeKind); 32] = [
         (b"/IF\n", b"", 0, 1, 1, section),
         (b"\n/ENDIF\n", b"", 0, 2, 1, section),
         (b"/IF a\n/ELSE\n/ELSE\n/ENDIF\n", b"", 0, 3, 1, section),
@@ -318,6 +318,14 @@ fn the_first_mistake_is_named(rt: HostRuntime) {
         (b"/PRO 2a\n", b"", 0, 1, 6, word),
         (b"/CON\nN 1\n/HOOK\n", b"", 0, 2, 1, section),
         (b"/VOC\n/one\n/HOOK\n", b"", 0, 2, 1, section),
+        (
+            b"/INCLUDE lib\n/MTX\n/5 box\n/lamp\n",
+            b"/MTX\n/5 lamp\n",
+            1,
+            2,
+            1,
+            duplicate,
+        ),
     ];
     for (game, lib, file, line, column, kind) in faulty {
         let origin = Origin { file, line, column };
