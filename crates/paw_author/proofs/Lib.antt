@@ -6,6 +6,4 @@ pub mod CutLines
 pub mod RowOfFiles
 pub mod Rows
 pub mod HookLaws
-pub mod ItemLaws
-pub mod KnownTextLaws
 pub mod PlainLaws

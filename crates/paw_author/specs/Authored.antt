@@ -6,18 +6,16 @@ use Rattle.paw_read_error.specs.Bind.{◌>>=◌}
 use Rattle.paw_read_error.specs.declared.read_error.ReadError.{ReadError}
 use Rattle.paw_read_error.specs.declared.read_error.ReadError.TheVariants.{Memory, Fault}
 use Rattle.paw_author.specs.declared.mistake.Mistake.{Mistake}
-use Rattle.paw_author.specs.EntryTexts.{told_in_order}
 use Rattle.paw_author.specs.FileLines.{file_lines}
 use Rattle.paw_author.specs.Files.{NamedFile, NamedFiles}
 use Rattle.paw_author.specs.Fragments.{LinesInParts}
 use Rattle.paw_author.specs.Hooks.{hook_names, hooks_known}
 use Rattle.paw_author.specs.Includes.{order_of_files}
-use Rattle.paw_author.specs.ItemsKnown.{items_known}
 use Rattle.paw_author.specs.Joining.{files_chosen, order_joined}
+use Rattle.paw_author.specs.Order.{in_order}
 use Rattle.paw_author.specs.Known.{KnownNames}
 use Rattle.paw_author.specs.NamedLines.{unit_named}
 use Rattle.paw_author.specs.NameRows.{names_known}
-use Rattle.paw_author.specs.NumberedRows.{rows_known}
 use Rattle.paw_author.specs.PlainSources.{is_plain_source}
 use Rattle.paw_author.specs.TableNumbers.{tables_known, unit_numbered}
 use Rattle.paw_author.specs.Units.{UnitLines}
@@ -26,14 +24,10 @@ use Rattle.paw_author.specs.Units.{UnitLines}
 abbrev pub is_plain_file : NamedFile → Bool
 is_plain_file file = nat_le (length file.bytes) SOURCE_LIMIT && is_plain_source (file_lines 0 file.bytes)
 
--- The lines of units with numbers in the place of names, and of texts in entries.
-abbrev pub numbered_lines : ℕ → List UnitLines → Result LinesInParts Mistake
-numbered_lines files units = rows_known units >>= λ _. told_in_order files units
-
 -- The lines of units whose tables have numbers, with numbers in the place of names.
 abbrev pub named_lines : ℕ → Names → KnownNames → List UnitLines → Result LinesInParts Mistake
 named_lines files hooks known units =
-    hooks_known hooks [] units >>= λ _. numbered_lines files (map (λ u. unit_named known u) units)
+    hooks_known hooks [] units >>= λ _. Ok (in_order files (map (λ u. unit_named known u) units))
 
 -- The lines of units, where tables have these names.
 abbrev pub lines_with_tables : ℕ → Names → KnownNames → List UnitLines → Result LinesInParts Mistake
@@ -42,8 +36,7 @@ lines_with_tables files hooks known units = named_lines files hooks known (map (
 -- The lines of units, where places have these names.
 abbrev pub hooked_lines : ℕ → Names → List UnitLines → Result LinesInParts Mistake
 hooked_lines files hooks units =
-    names_known units >>= λ names. items_known names units >>= λ more. tables_known hooks more units
-    >>= λ known. lines_with_tables files hooks known units
+    names_known units >>= λ names. tables_known hooks names units >>= λ known. lines_with_tables files hooks known units
 
 -- The lines of these units of a number of files.
 abbrev pub lines_of_units : ℕ → List UnitLines → Result LinesInParts Mistake

@@ -1,10 +1,10 @@
 -- Names, and the numbers that they stand for.
-use Rattle.std.specs.Prelude.{ℕ, ◌==◌, ◌&&◌, ◌||◌, Bool, false, not, List, [], ◌∷◌, ◌++◌, find, Option, Some, None, Result, Ok, Err, if◌then◌else◌, codes}
+use Rattle.std.specs.Prelude.{ℕ, ◌==◌, ◌&&◌, ◌||◌, Bool, false, not, List, [], ◌∷◌, ◌++◌, find, Option, Some, None, Result, Ok, Err}
 use Rattle.std.specs.List.{list_all, list_any, range_with_len}
 use Rattle.std.specs.Option.{option_map}
 use Rattle.std.specs.Char.{is_ascii_alphabetic, is_ascii_alphanumeric}
-use Rattle.paw_base.specs.Bytes.{Name, Names, Token}
-use Rattle.paw_base.specs.declared.fault.SourceKind.TheVariants.{Duplicate, TooBig}
+use Rattle.paw_base.specs.Bytes.{Name, Token}
+use Rattle.paw_base.specs.declared.fault.SourceKind.TheVariants.{TooBig}
 use Rattle.paw_author.specs.declared.fragment.Origin.{Origin}
 use Rattle.paw_author.specs.declared.known.NameKind.{NameKind}
 use Rattle.paw_author.specs.declared.known.NameKind.TheVariants.{Flag, Number, Location, Object, Message, System, Table}
@@ -57,22 +57,6 @@ abbrev pub may_be_name : Token → Bool
 may_be_name [] = false
 may_be_name (b ∷ bs) = is_ascii_alphabetic b && list_all may_be_in_name bs
 
--- The names of places that no location may have.
-abbrev pub reserved_names : Names
-reserved_names = codes "HERE" ∷ codes "WORN" ∷ codes "CARRIED" ∷ codes "NOTCREATED" ∷ []
-
--- Whether a word is the name of a place.
-abbrev pub is_reserved_name : Token → Bool
-is_reserved_name word = list_any (λ place. is_same word place) reserved_names
-
--- Whether a name is that of a location.
-abbrev pub is_location : NameKind → Bool
-is_location kind = kind_index kind == kind_index Location
-
--- Whether a word may be a name of this kind.
-abbrev pub may_name : NameKind → Token → Bool
-may_name kind word = may_be_name word && not (is_location kind && is_reserved_name word)
-
 -- Whether a number is one of these.
 abbrev pub is_in_use : List ℕ → ℕ → Bool
 is_in_use numbers n = list_any (λ m. m == n) numbers
@@ -84,12 +68,6 @@ least_free from count taken = find (λ n. not (is_in_use taken n)) (range_with_l
 -- A name of this kind for a number.
 abbrev pub name_for : NameKind → Name → ℕ → KnownName
 name_for kind name number = record { kind = kind; name = name; number = number }
-
--- A name is known for one number alone.
-abbrev pub known_once : NameKind → ℕ → Option ℕ → Origin → Name → KnownNames → Result KnownNames Mistake
-known_once kind number None origin name known = Ok (known ++ name_for kind name number ∷ [])
-known_once kind number (Some other) origin name known =
-    if other == number then Ok known else Err (wrong_line origin Duplicate)
 
 -- ---- numbers that are given ----
 

@@ -11,17 +11,10 @@ pub mod Units
 pub mod Joining
 pub mod Hooks
 pub mod Known
-pub mod ItemNumbers
-pub mod Insides
-pub mod ItemsApart
-pub mod ItemsKnown
 pub mod TableNumbers
 pub mod NamedLines
 pub mod NameRows
-pub mod NumberedRows
 pub mod Order
-pub mod KnownTexts
-pub mod EntryTexts
 pub mod PlainSources
 pub mod Authored
 pub mod Laws

@@ -2,7 +2,7 @@
 use Rattle.std.specs.Prelude.{ℕ, ◌-◌, ◌==◌, ◌&&◌, Bool, not, List, [], ◌∷◌, ◌++◌, drop, nat_lt, codes, option_to_list}
 use Rattle.std.specs.Prelude.{if◌then◌else◌, Option, Some, None, Result, Ok, Err}
 use Rattle.std.specs.List.{list_any, flat_map}
-use Rattle.paw_base.specs.Bytes.{Bytes, Token}
+use Rattle.paw_base.specs.Bytes.{Bytes, Names, Token}
 use Rattle.paw_base.specs.declared.fault.SourceKind.TheVariants as fault
 use Rattle.paw_base.specs.declared.rows.ParamKind.{ParamKind}
 use Rattle.paw_base.specs.declared.rows.ParamKind.TheVariants as param
@@ -14,7 +14,7 @@ use Rattle.paw_author.specs.declared.name_rows.TheConstants.{FIRST_FLAG, FLAGS_G
 use Rattle.paw_author.specs.declared.sections.TheConstants.{NAMES}
 use Rattle.paw_author.specs.Fragments.{Fragments, LinesInParts}
 use Rattle.paw_author.specs.Hooks.{first_line}
-use Rattle.paw_author.specs.Known.{KnownNames, NumbersGiven, kind_index, may_name, name_for, given_once}
+use Rattle.paw_author.specs.Known.{KnownNames, NumbersGiven, kind_index, may_be_name, name_for, given_once}
 use Rattle.paw_author.specs.Mistakes.{wrong_line}
 use Rattle.paw_author.specs.NamedLines.{kinds_left, two_words, is_table_entry}
 use Rattle.paw_author.specs.Sections.{written_number}
@@ -38,6 +38,22 @@ kind_of_word word =
 -- Whether a name is that of a flag.
 abbrev pub is_flag : NameKind → Bool
 is_flag kind = kind_index kind == kind_index Flag
+
+-- Whether a name is that of a location.
+abbrev pub is_location : NameKind → Bool
+is_location kind = kind_index kind == kind_index Location
+
+-- The names of places that no location may have.
+abbrev pub reserved_names : Names
+reserved_names = codes "HERE" ∷ codes "WORN" ∷ codes "CARRIED" ∷ codes "NOTCREATED" ∷ []
+
+-- Whether a word is the name of a place.
+abbrev pub is_reserved_name : Token → Bool
+is_reserved_name word = list_any (λ place. is_same word place) reserved_names
+
+-- Whether a word may be a name of this kind.
+abbrev pub may_name : NameKind → Token → Bool
+may_name kind word = may_be_name word && not (is_location kind && is_reserved_name word)
 
 -- ---- written numbers ----
 

@@ -1,5 +1,5 @@
 -- Lines with numbers in the place of names.
-use Rattle.std.specs.Prelude.{ℕ, ◌-◌, ◌==◌, ◌&&◌, ◌||◌, Bool, not, List, [], ◌∷◌, ◌++◌, drop, map}
+use Rattle.std.specs.Prelude.{ℕ, ◌-◌, ◌==◌, ◌&&◌, ◌||◌, Bool, true, false, not, List, [], ◌∷◌, ◌++◌, drop, map}
 use Rattle.std.specs.Prelude.{if◌then◌else◌, Option, Some, None, decimal}
 use Rattle.paw_base.specs.Bytes.{Bytes, Token}
 use Rattle.paw_base.specs.Condacts.{code_named, first_kind, second_kind}
@@ -7,13 +7,14 @@ use Rattle.paw_base.specs.declared.rows.ParamKind.{ParamKind}
 use Rattle.paw_base.specs.declared.rows.ParamKind.TheVariants as param
 use Rattle.paw_author.specs.declared.known.NameKind.TheVariants as name
 use Rattle.paw_author.specs.declared.sections.TheConstants.{WORDS, EXITS, OBJECTS, TABLES}
+use Rattle.paw_author.specs.declared.units.UnitKind.{UnitKind}
+use Rattle.paw_author.specs.declared.units.UnitKind.TheVariants.{Item}
 use Rattle.paw_author.specs.Fragments.{WithOrigin, Fragments, LinesInParts}
-use Rattle.paw_author.specs.ItemNumbers.{is_text_item, item_number}
 use Rattle.paw_author.specs.Known.{KnownNames, number_for, number_of_any}
 use Rattle.paw_author.specs.Sections.{is_number, is_table_section}
 use Rattle.paw_author.specs.TableNumbers.{is_numbered}
 use Rattle.paw_author.specs.Tokens.{is_token, starts_with_byte}
-use Rattle.paw_author.specs.Units.{UnitLines, is_data_unit, is_item}
+use Rattle.paw_author.specs.Units.{UnitLines, is_data_unit}
 
 -- ---- tokens ----
 
@@ -82,6 +83,11 @@ two_words = param.Noun ∷ param.Noun ∷ []
 -- The words that a row may have after its numbers, and more.
 abbrev pub some_words : List ParamKind
 some_words = param.Noun ∷ param.Noun ∷ param.Noun ∷ param.Noun ∷ param.Noun ∷ param.Noun ∷ []
+
+-- Whether a unit is an item.
+abbrev pub is_item : UnitKind → Bool
+is_item Item = true
+is_item _ = false
 
 -- The lines of an entry.
 abbrev pub entry_named : KnownNames → LinesInParts → LinesInParts
@@ -154,23 +160,11 @@ abbrev pub item_named : KnownNames → LinesInParts → LinesInParts
 item_named known [] = []
 item_named known (line ∷ lines) = mark_line known line ∷ lines
 
--- The first line of an item of texts with this number, which is left without its name.
-abbrev pub text_mark : Option ℕ → Fragments → Fragments
-text_mark number [] = []
-text_mark number (part ∷ parts) =
-    record part { bytes = if is_number (drop 1 part.bytes) then part.bytes else word_or_number part.bytes (47 ∷ []) number } ∷ without_name parts
-
--- The lines of an item of texts.
-abbrev pub text_named : Option ℕ → LinesInParts → LinesInParts
-text_named number [] = []
-text_named number (line ∷ lines) = text_mark number line ∷ lines
-
 -- The lines of a unit outside of tables.
 abbrev pub other_lines : KnownNames → UnitLines → LinesInParts
 other_lines known u =
     if has_numbers u then data_named known (data_kinds u.section) u.lines
     else if is_exits_item u then item_named known u.lines
-    else if is_text_item u then text_named (item_number known u) u.lines
     else u.lines
 
 -- The lines of a unit with numbers in the place of names.

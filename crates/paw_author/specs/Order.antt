@@ -1,16 +1,11 @@
 -- The order in which the units of several files come out.
-use Rattle.std.specs.Prelude.{ℕ, zero, suc, ◌==◌, ◌&&◌, ◌||◌, Bool, false, not, List, [], ◌∷◌, ◌++◌, ◌-◌, length, take, drop, filter, find, nat_le, nat_lt, decimal}
+use Rattle.std.specs.Prelude.{ℕ, zero, suc, ◌==◌, ◌&&◌, Bool, false, not, List, [], ◌∷◌, ◌++◌, ◌-◌, length, take, drop, filter, find, nat_le}
 use Rattle.std.specs.Prelude.{if◌then◌else◌, Option, Some, None, slice_get, codes}
-use Rattle.std.specs.List.{list_any, position, flat_map}
-use Rattle.std.specs.Option.{option_map_or}
+use Rattle.std.specs.List.{position, flat_map}
 use Rattle.paw_base.specs.Bytes.{Bytes, Lines}
-use Rattle.paw_author.specs.declared.sections.TheConstants.{NAMES, WORDS, SYSTEM_TEXTS, LOCATION_TEXTS, EXITS, OBJECTS}
+use Rattle.paw_author.specs.declared.sections.TheConstants.{NAMES, SECTIONS, WORDS}
 use Rattle.paw_author.specs.Fragments.{Fragments, LinesInParts}
 use Rattle.paw_author.specs.Hooks.{is_header, is_hook_kind, hook_name, unit_lines}
-use Rattle.paw_author.specs.declared.order.TheConstants.{ITEM_NUMBERS}
-use Rattle.paw_author.specs.ItemNumbers.{is_text_item, mark_number}
-use Rattle.paw_author.specs.NumberedRows.{exits_of, object_rows}
-use Rattle.paw_author.specs.Sections.{has_texts}
 use Rattle.paw_author.specs.Tokens.{bytes_if_any, line_origin}
 use Rattle.paw_author.specs.Units.{UnitLines}
 
@@ -75,61 +70,10 @@ files_of files section = if section == 0 then 1 else files
 abbrev pub header_lines : List UnitLines → ℕ → LinesInParts
 header_lines all section = header_or_made section (find (λ u. is_header_of section u) all)
 
--- ---- what has a number ----
-
--- Whether a unit is the item of a section with a number that a test lets through.
-abbrev pub is_item_where : (ℕ → Bool) → ℕ → UnitLines → Bool
-is_item_where test section u = is_text_item u && u.section == section && option_map_or test (mark_number u) false
-
--- The lines of an item. Where there is none, system messages and locations have the empty text below the greatest number.
-abbrev pub item_or_gap : List UnitLines → ℕ → ℕ → Option UnitLines → LinesInParts
-item_or_gap all section n (Some u) = u.lines
-item_or_gap all section n None =
-    if (section == SYSTEM_TEXTS || section == LOCATION_TEXTS) && list_any (λ u. is_item_where (λ m. nat_lt n m) section u) all
-    then made_line (Some (47 ∷ (decimal n ++ 10 ∷ []))) else []
-
--- Whether a unit is the item of a section with this number.
-abbrev pub is_item_with : ℕ → ℕ → UnitLines → Bool
-is_item_with n section u = is_item_where (λ m. m == n) section u
-
--- Whether an item with this number stands in a nearer file than a unit.
-abbrev pub has_nearer : List UnitLines → ℕ → ℕ → UnitLines → Bool
-has_nearer all section n u = list_any (λ v. is_item_with n section v && nat_lt v.file u.file) all
-
--- The item of a section with this number: that of the nearest file.
-abbrev pub item_with : List UnitLines → ℕ → ℕ → Option UnitLines
-item_with all section n = find (λ u. is_item_with n section u && not (has_nearer all section n u)) all
-
--- The lines of the item of a section with this number.
-abbrev pub item_lines : List UnitLines → ℕ → ℕ → LinesInParts
-item_lines all section n = item_or_gap all section n (item_with all section n)
-
--- The lines of what has this number in a section: a location and its exits, rows of an object, or an item of texts.
-abbrev pub numbered_lines : List UnitLines → ℕ → ℕ → LinesInParts
-numbered_lines all section n =
-    if section == EXITS then exits_of all n
-    else if section == OBJECTS then object_rows all n
-    else item_lines all section n
-
--- The lines of a section with this count of numbers from this one on.
-unfoldable pub numbered_from : ℕ → ℕ → List UnitLines → ℕ → LinesInParts
-numbered_from zero n all section = []
-numbered_from (suc count) n all section = numbered_lines all section n ++ numbered_from count (suc n) all section
-
--- Whether what a section holds comes out by number.
-abbrev pub is_by_number : ℕ → Bool
-is_by_number section = has_texts section || section == EXITS || section == OBJECTS
-
--- The lines of a section without its header.
-abbrev pub body_lines : ℕ → List UnitLines → ℕ → LinesInParts
-body_lines files all section =
-    if is_by_number section then numbered_from ITEM_NUMBERS 0 all section
-    else lines_in_files all section (files_of files section)
-
 -- The lines of a section: its header, and then the units of all files. Rows of names are left out.
 abbrev pub section_lines : ℕ → List UnitLines → ℕ → LinesInParts
 section_lines files all section =
-    if section == NAMES then [] else header_lines all section ++ body_lines files all section
+    if section == NAMES then [] else header_lines all section ++ lines_in_files all section (files_of files section)
 
 -- The lines of n sections from this one on, one section after another.
 unfoldable pub sections : ℕ → ℕ → ℕ → List UnitLines → LinesInParts
@@ -160,3 +104,9 @@ ended_line line =
 unfoldable pub all_ended : LinesInParts → LinesInParts
 all_ended [] = []
 all_ended (line ∷ lines) = (if length lines == 0 then line else ended_line line) ∷ all_ended lines
+
+-- ---- all units ----
+
+-- The lines of all units in the order in which they come out.
+abbrev pub in_order : ℕ → List UnitLines → LinesInParts
+in_order files all = all_ended (sections SECTIONS 0 files all)

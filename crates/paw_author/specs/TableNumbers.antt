@@ -1,15 +1,16 @@
 -- The numbers of tables: a table has the one that is written, and otherwise the least that no table has.
 use Rattle.std.specs.Prelude.{ℕ, ◌+◌, ◌-◌, ◌==◌, ◌&&◌, Bool, not, List, [], ◌∷◌, ◌++◌, nat_lt, nat_le, filter, map}
 use Rattle.std.specs.Prelude.{if◌then◌else◌, Option, Some, None, Result, Ok, Err}
-use Rattle.paw_base.specs.Bytes.{Names}
-use Rattle.paw_base.specs.declared.fault.SourceKind.TheVariants.{Word}
+use Rattle.paw_base.specs.Bytes.{Name, Names}
+use Rattle.paw_base.specs.declared.fault.SourceKind.TheVariants.{Word, Duplicate}
 use Rattle.paw_read_error.specs.Bind.{◌>>=◌}
+use Rattle.paw_author.specs.declared.fragment.Origin.{Origin}
 use Rattle.paw_author.specs.declared.known.NameKind.TheVariants.{Table}
 use Rattle.paw_author.specs.declared.mistake.Mistake.{Mistake}
 use Rattle.paw_author.specs.declared.sections.TheConstants.{TABLES, NAMED_TABLES}
 use Rattle.paw_author.specs.declared.table_numbers.TheConstants.{FIRST_GIVEN, GIVEN_COUNT}
 use Rattle.paw_author.specs.Hooks.{is_header, is_for_hook, first_line}
-use Rattle.paw_author.specs.Known.{KnownName, KnownNames, NumbersGiven, kind_index, number_for, may_be_name, known_once, given_once}
+use Rattle.paw_author.specs.Known.{KnownName, KnownNames, NumbersGiven, kind_index, number_for, may_be_name, name_for, given_once}
 use Rattle.paw_author.specs.Mistakes.{wrong_line}
 use Rattle.paw_author.specs.Tokens.{token_origin, token_at, token_count}
 use Rattle.paw_author.specs.Units.{UnitLines}
@@ -28,12 +29,18 @@ is_table_name k = kind_index k.kind == kind_index Table
 abbrev pub numbers_written : List UnitLines → List ℕ
 numbers_written all = map (λ u. u.section - TABLES) (filter (λ u. is_numbered u) all)
 
+-- A name is known for one number alone.
+abbrev pub known_once : ℕ → Option ℕ → Origin → Name → KnownNames → Result KnownNames Mistake
+known_once number None origin name known = Ok (known ++ name_for Table name number ∷ [])
+known_once number (Some other) origin name known =
+    if other == number then Ok known else Err (wrong_line origin Duplicate)
+
 -- The names so far with the one that stands after a number in a header.
 abbrev pub name_written : UnitLines → KnownNames → Result KnownNames Mistake
 name_written u known =
     if not (nat_lt 2 (token_count (first_line u))) then Ok known
     else if not (may_be_name (token_at 2 (first_line u))) then Err (wrong_line (token_origin 2 (first_line u)) Word)
-    else known_once Table (u.section - TABLES) (number_for Table (token_at 2 (first_line u)) known) (token_origin 2 (first_line u))
+    else known_once (u.section - TABLES) (number_for Table (token_at 2 (first_line u)) known) (token_origin 2 (first_line u))
     (token_at 2 (first_line u)) known
 
 -- The names so far with all that stand after numbers.

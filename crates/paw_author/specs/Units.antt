@@ -118,11 +118,6 @@ abbrev pub is_data_unit : UnitKind → Bool
 is_data_unit Row = true
 is_data_unit _ = false
 
--- Whether a unit is an item.
-abbrev pub is_item : UnitKind → Bool
-is_item Item = true
-is_item _ = false
-
 -- Whether a line has more of what stands above it: in a table it begins with a blank, among facts with a text.
 abbrev pub has_more : ℕ → Fragments → Bool
 has_more section line =

@@ -2,22 +2,20 @@
 
 ghost use Rattle.std.specs.Prelude.{◌≡◌, ◌<◌, true, false, length, IfOk, MatchOption};
 ghost use Rattle.paw_read_error.specs.inner.Gives.{Gives};
-ghost use Rattle.paw_author.specs.Authored.{is_plain_file, numbered_lines, named_lines, lines_with_tables, hooked_lines, lines_of_units, joined_lines, plain_lines, IsAnswered};
+ghost use Rattle.paw_author.specs.Authored.{is_plain_file, named_lines, lines_with_tables, hooked_lines, lines_of_units, joined_lines, plain_lines, IsAnswered};
 ghost use Rattle.paw_author.specs.FileLines.{file_lines};
 
-use crate::entry_texts::told_in_order;
 use crate::file::{File, Switch};
 use crate::fragment::LineInParts;
 use crate::hooks::{HookName, hook_names, hooks_known};
 use crate::includes::order_of_files;
-use crate::items_known::items_known;
 use crate::joining::{files_chosen, order_joined};
 use crate::known::Known;
 use crate::lines::file_lines;
 use crate::mistake::AuthorError;
 use crate::name_rows::names_known;
 use crate::named_lines::units_named;
-use crate::numbered_rows::rows_known;
+use crate::order::in_order;
 use crate::plain_sources::is_plain_source;
 use crate::table_numbers::{tables_known, units_numbered};
 use crate::units::Unit;
@@ -56,18 +54,6 @@ fn plain_file(alloc: Global, file: &File) -> Result<Option<Vec<LineInParts>>, Al
     })
 }
 
-// The lines of units with numbers in the place of names, and of texts in entries.
-fn numbered_lines(
-    alloc: Global,
-    files: usize,
-    units: Vec<Unit>,
-) -> Result<Vec<LineInParts>, AuthorError>
-    ensures gives { Gives (λ lines. lines.items) result (numbered_lines files units.items) }
-{
-    rows_known(units.as_slice())?;
-    told_in_order(alloc, files, units)
-}
-
 // The lines of units whose tables have numbers, with numbers in the place of names.
 fn named_lines(
     alloc: Global,
@@ -80,7 +66,7 @@ fn named_lines(
 {
     hooks_known(hooks, units.as_slice())?;
     let named = units_named(alloc, known, units)?;
-    numbered_lines(alloc, files, named)
+    Ok(in_order(alloc, files, named.as_slice())?)
 }
 
 // The lines of units, where tables have these names.
@@ -107,8 +93,7 @@ fn hooked_lines(
     ensures gives { Gives (λ lines. lines.items) result (hooked_lines files hooks.now units.items) }
 {
     let names = names_known(alloc, units.as_slice())?;
-    let more = items_known(alloc, names, units.as_slice())?;
-    let known = tables_known(alloc, hooks, more, units.as_slice())?;
+    let known = tables_known(alloc, hooks, names, units.as_slice())?;
     lines_with_tables(alloc, files, hooks, known.as_slice(), units)
 }
 

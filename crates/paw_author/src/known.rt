@@ -3,8 +3,8 @@
 ghost use Rattle.std.specs.Prelude.{◌≡◌, ◌+◌, ◌<◌, ◌^◌, ◌==◌, IfOk};
 ghost use Rattle.std.specs.List.{list_all, list_any};
 ghost use Rattle.paw_author.specs.Tokens.{is_same};
-ghost use Rattle.paw_author.specs.Known.{KnownName, kind_index, is_known_as, number_for, number_of_any, may_be_in_name, may_be_name, is_reserved_name, is_location, may_name};
-ghost use Rattle.paw_author.specs.Known.{is_in_use, least_free, name_for, known_once, with_given, given_unless, given_once};
+ghost use Rattle.paw_author.specs.Known.{KnownName, kind_index, is_known_as, number_for, number_of_any, may_be_in_name, may_be_name};
+ghost use Rattle.paw_author.specs.Known.{is_in_use, least_free, name_for, with_given, given_unless, given_once};
 ghost use Rattle.paw_read_error.specs.inner.Gives.{Gives};
 
 use crate::fragment::Origin;
@@ -116,32 +116,8 @@ pub(crate) fn may_be_name(word: &[u8]) -> bool
     }
 }
 
-// Whether a name is that of a location.
-fn is_location(kind: NameKind) -> bool
-    ensures value { result ≡ is_location kind }
-{
-    kind_index(kind) == kind_index(NameKind::Location)
-}
-
-// Whether a word is the name of a place.
-fn is_reserved_name(word: &[u8]) -> bool
-    ensures value { result ≡ is_reserved_name word.now }
-{
-    is_same(word, b"HERE")
-        || is_same(word, b"WORN")
-        || is_same(word, b"CARRIED")
-        || is_same(word, b"NOTCREATED")
-}
-
-/// Whether a word may be a name of this kind.
-pub(crate) fn may_name(kind: NameKind, word: &[u8]) -> bool
-    ensures value { result ≡ may_name kind word.now }
-{
-    may_be_name(word) && !(is_location(kind) && is_reserved_name(word))
-}
-
-/// Whether a number is one of these.
-pub(crate) fn is_in_use(numbers: &[u16], number: u16) -> bool
+// Whether a number is one of these.
+fn is_in_use(numbers: &[u16], number: u16) -> bool
     ensures value { result ≡ is_in_use numbers.now number }
 {
     numbers.iter().any(|other| *other == number)
@@ -177,36 +153,6 @@ pub(crate) fn name_for(
         name: Vec::from_slice(alloc, name)?,
         number,
     })
-}
-
-/// The names so far with one for a number. A name is known for one number alone.
-///
-/// # Errors
-/// Fault where it is known for another, or lack of memory.
-pub(crate) fn known_once(
-    alloc: Global,
-    kind: NameKind,
-    number: u16,
-    before: Option<u16>,
-    origin: Origin,
-    name: &[u8],
-    known: Vec<Known>,
-) -> Result<Vec<Known>, AuthorError>
-    ensures gives { Gives (λ more. more.items) result (known_once kind number before origin name.now known.items) }
-{
-    let mut more = known;
-    match before {
-        None => {
-            more.push(name_for(alloc, kind, name, number)?)?;
-            Ok(more)
-        }
-        Some(other) => {
-            if other != number {
-                return Err(ReadError::Fault(wrong_line(origin, SourceKind::Duplicate)));
-            }
-            Ok(more)
-        }
-    }
 }
 
 // ---- numbers that are given ----

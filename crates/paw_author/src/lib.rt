@@ -3,24 +3,17 @@
 
 pub mod author;
 mod choices;
-mod entry_texts;
 pub mod file;
 pub mod fragment;
 mod hooks;
 mod includes;
-mod insides;
-mod item_numbers;
-mod items_apart;
-mod items_known;
 mod joining;
 mod known;
-mod known_texts;
 pub mod laws;
 mod lines;
 pub mod mistake;
 mod name_rows;
 mod named_lines;
-mod numbered_rows;
 mod order;
 mod parts;
 mod plain_sources;

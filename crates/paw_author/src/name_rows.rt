@@ -6,14 +6,14 @@ ghost use Rattle.paw_read_error.specs.inner.Gives.{Gives};
 ghost use Rattle.paw_author.specs.Hooks.{first_line};
 ghost use Rattle.paw_author.specs.Known.{name_for};
 ghost use Rattle.paw_author.specs.Tokens.{token_origin};
-ghost use Rattle.paw_author.specs.NameRows.{kind_of_word, is_flag, is_naming};
+ghost use Rattle.paw_author.specs.NameRows.{kind_of_word, is_flag, is_location, is_reserved_name, may_name, is_naming};
 ghost use Rattle.paw_author.specs.NameRows.{nth_word, word_count, gives_flag_number, flag_in_word, flag_in_part, flags_in_line, flags_in_entry};
 ghost use Rattle.paw_author.specs.NameRows.{flags_in_unit, flags_written, name_the_same, naming_numbered, naming_given, naming_valued};
 ghost use Rattle.paw_author.specs.NameRows.{naming_of_kind, naming_known, namings_known, names_known};
 
 use crate::fragment::{Fragment, LineInParts, Origin};
 use crate::hooks::first_line;
-use crate::known::{Known, NameKind, Numbers, given_once, kind_index, may_name, name_for};
+use crate::known::{Known, NameKind, Numbers, given_once, kind_index, may_be_name, name_for};
 use crate::mistake::{AuthorError, wrong_line};
 use crate::named_lines::{is_table_entry, pass_part, two_words};
 use crate::sections::{NAMES, written_number};
@@ -66,6 +66,30 @@ fn is_flag(kind: NameKind) -> bool
     ensures value { result ≡ is_flag kind }
 {
     kind_index(kind) == kind_index(NameKind::Flag)
+}
+
+// Whether a name is that of a location.
+fn is_location(kind: NameKind) -> bool
+    ensures value { result ≡ is_location kind }
+{
+    kind_index(kind) == kind_index(NameKind::Location)
+}
+
+// Whether a word is the name of a place.
+fn is_reserved_name(word: &[u8]) -> bool
+    ensures value { result ≡ is_reserved_name word.now }
+{
+    is_same(word, b"HERE")
+        || is_same(word, b"WORN")
+        || is_same(word, b"CARRIED")
+        || is_same(word, b"NOTCREATED")
+}
+
+// Whether a word may be a name of this kind.
+fn may_name(kind: NameKind, word: &[u8]) -> bool
+    ensures value { result ≡ may_name kind word.now }
+{
+    may_be_name(word) && !(is_location(kind) && is_reserved_name(word))
 }
 
 // ---- written numbers ----

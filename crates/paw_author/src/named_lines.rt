@@ -1,15 +1,13 @@
 // Lines with numbers in the place of names.
 
-ghost use Rattle.std.specs.Prelude.{◌≡◌, ◌++◌, [], ◌∷◌, IfOk, if◌then◌else◌, drop, decimal, map};
+ghost use Rattle.std.specs.Prelude.{◌≡◌, ◌++◌, [], ◌∷◌, IfOk, decimal, map};
 ghost use Rattle.paw_author.specs.NamedLines.{number_meant, word_or_number, parameter_named, kind_list, kinds_of};
 ghost use Rattle.paw_author.specs.NamedLines.{kinds_left, part_named, line_named, two_words, entry_named, number_part, without_name, header_named};
 ghost use Rattle.paw_author.specs.NamedLines.{first_line_named, is_table_entry, unit_named, some_words, data_kinds, data_named, has_numbers, is_exits_item};
-ghost use Rattle.paw_author.specs.NamedLines.{mark_named, mark_line, item_named, text_mark, text_named, other_lines};
-ghost use Rattle.paw_author.specs.Sections.{is_number};
+ghost use Rattle.paw_author.specs.NamedLines.{mark_named, mark_line, item_named, other_lines};
 ghost use Rattle.paw_base.specs.Condacts.{code_named};
 
 use crate::fragment::{Fragment, LineInParts};
-use crate::item_numbers::{is_text_item, item_number};
 use crate::known::{Known, NameKind, number_for, number_of_any};
 use crate::sections::{EXITS, OBJECTS, WORDS, is_number, is_table_section};
 use crate::table_numbers::{is_numbered, table_number};
@@ -38,11 +36,8 @@ fn number_meant(kind: ParamKind, word: &[u8], known: &[Known]) -> Option<u16>
     }
 }
 
-/// Puts a number in decimal after bytes.
-///
-/// # Errors
-/// Where there is no memory.
-pub(crate) fn put_number(number: u16, bytes: &mut Vec<u8>) -> Result<(), AllocError>
+// Puts a number in decimal after bytes.
+fn put_number(number: u16, bytes: &mut Vec<u8>) -> Result<(), AllocError>
     ensures value { IfOk result (λ _. bytes.new.items ≡ bytes.old.items ++ decimal number) }
 {
     let mut digits = Buffer::new();
@@ -445,8 +440,8 @@ fn data_unit(alloc: Global, known: &[Known], u: Unit) -> Result<Unit, AllocError
     })
 }
 
-/// Whether a unit is an item of exits.
-pub(crate) fn is_exits_item(u: &Unit) -> bool
+// Whether a unit is an item of exits.
+fn is_exits_item(u: &Unit) -> bool
     ensures value { result ≡ is_exits_item u.now }
 {
     matches!(u.kind, UnitKind::Item) && u.section == EXITS
@@ -514,81 +509,6 @@ fn item_unit(alloc: Global, known: &[Known], u: Unit) -> Result<Unit, AllocError
     })
 }
 
-// The first part of an item of texts with this number.
-fn text_part(alloc: Global, number: Option<u16>, part: Fragment) -> Result<Fragment, AllocError>
-    ensures value { IfOk result (λ named. named ≡ record part {
-      bytes =
-          if is_number (drop 1 part.bytes) then part.bytes else word_or_number part.bytes (47 ∷ []) number;
-    }) }
-{
-    if is_number(without_first(part.bytes.as_slice())) {
-        return Ok(part);
-    }
-    let bytes = word_or_number(alloc, part.bytes.as_slice(), b"/", number)?;
-    Ok(Fragment {
-        origin: part.origin,
-        bytes,
-    })
-}
-
-// The first line of an item of texts with this number.
-fn text_mark(
-    alloc: Global,
-    number: Option<u16>,
-    line: LineInParts,
-) -> Result<LineInParts, AllocError>
-    ensures value { IfOk result (λ named. named ≡ text_mark number line) }
-{
-    let LineInParts { parts } = line;
-    let mut left = VecDeque::from(parts);
-    let Some(part) = left.pop_front() else {
-        return Ok(LineInParts {
-            parts: Vec::from(left),
-        });
-    };
-    let mut named = without_name(left)?;
-    named.push_front(text_part(alloc, number, part)?)?;
-    Ok(LineInParts {
-        parts: Vec::from(named),
-    })
-}
-
-// The lines of an item of texts with this number.
-fn text_named(
-    alloc: Global,
-    number: Option<u16>,
-    lines: Vec<LineInParts>,
-) -> Result<Vec<LineInParts>, AllocError>
-    ensures value { IfOk result (λ named. named.items ≡ text_named number lines.items) }
-{
-    let mut left = VecDeque::from(lines);
-    if let Some(line) = left.pop_front() {
-        left.push_front(text_mark(alloc, number, line)?)?;
-    }
-    Ok(Vec::from(left))
-}
-
-// An item of texts with this number.
-fn text_unit(alloc: Global, number: Option<u16>, u: Unit) -> Result<Unit, AllocError>
-    ensures value { IfOk result (λ named. named ≡ record u { lines = text_named number u.lines }) }
-{
-    let Unit {
-        section,
-        table,
-        file,
-        kind,
-        lines,
-    } = u;
-    let lines = text_named(alloc, number, lines)?;
-    Ok(Unit {
-        section,
-        table,
-        file,
-        kind,
-        lines,
-    })
-}
-
 // A unit outside of tables with numbers in the place of names.
 fn other_named(alloc: Global, known: &[Known], u: Unit) -> Result<Unit, AllocError>
     ensures value { IfOk result (λ named. named ≡ record u { lines = other_lines known.now u }) }
@@ -597,8 +517,6 @@ fn other_named(alloc: Global, known: &[Known], u: Unit) -> Result<Unit, AllocErr
         data_unit(alloc, known, u)
     } else if is_exits_item(&u) {
         item_unit(alloc, known, u)
-    } else if is_text_item(&u) {
-        text_unit(alloc, item_number(known, &u), u)
     } else {
         Ok(u)
     }

@@ -1,21 +1,17 @@
 // The order in which the units of several files come out.
 
-ghost use Rattle.std.specs.Prelude.{◌≡◌, ◌++◌, ◌-◌, ◌==◌, ◌∷◌, [], ◌&&◌, false, not, nat_lt, find, map, length, take, drop, filter, IfOk, IfSome, slice_get, ◌<◌, if◌then◌else◌};
-ghost use Rattle.std.specs.List.{list_any, flat_map, position};
-ghost use Rattle.std.specs.Option.{option_copied, option_map_or};
+ghost use Rattle.std.specs.Prelude.{◌≡◌, ◌++◌, ◌==◌, ◌∷◌, [], find, map, length, take, drop, filter, IfOk, IfSome, slice_get, ◌<◌, if◌then◌else◌};
+ghost use Rattle.std.specs.List.{flat_map, position};
+ghost use Rattle.std.specs.Option.{option_copied};
 ghost use Rattle.paw_author.specs.Hooks.{unit_lines};
 ghost use Rattle.paw_author.specs.Order.{made_headers, made_line, header_made, is_header_of, header_or_made, is_own};
-ghost use Rattle.paw_author.specs.Order.{is_open_hook, is_item_where, is_item_with, has_nearer, item_with, item_or_gap, item_lines, numbered_lines, numbered_from, is_by_number, body_lines, own_lines, lines_with_file, lines_in_files, files_of, header_lines, section_lines};
-ghost use Rattle.paw_author.specs.Order.{sections, ends_with_lf, has_line_end, ended_line, all_ended};
-ghost use Rattle.paw_author.specs.declared.sections.TheConstants.{WORDS};
-ghost use Rattle.paw_author.specs.declared.order.TheConstants.{ITEM_NUMBERS};
+ghost use Rattle.paw_author.specs.Order.{is_open_hook, own_lines, lines_with_file, lines_in_files, files_of, header_lines, section_lines};
+ghost use Rattle.paw_author.specs.Order.{sections, ends_with_lf, has_line_end, ended_line, all_ended, in_order};
+ghost use Rattle.paw_author.specs.declared.sections.TheConstants.{SECTIONS, WORDS};
 
 use crate::fragment::{Fragment, LineInParts, Origin};
 use crate::hooks::{add_lines, add_unit, has_no_name, is_header, is_hook};
-use crate::item_numbers::{is_text_item, mark_number};
-use crate::named_lines::put_number;
-use crate::numbered_rows::{add_exits, add_object_rows};
-use crate::sections::{EXITS, LOCATION_TEXTS, NAMES, OBJECTS, SYSTEM_TEXTS, WORDS, has_texts};
+use crate::sections::{NAMES, SECTIONS, WORDS};
 use crate::tokens::line_origin;
 use crate::units::Unit;
 use std::alloc::{AllocError, Global};
@@ -223,182 +219,6 @@ fn files_of(files: usize, section: usize) -> usize
     if section == 0 { 1 } else { files }
 }
 
-// ---- what has a number ----
-
-/// How many numbers come out in order. The last one stands for all from there on, which the compiler refuses.
-const ITEM_NUMBERS: u16 = 257;
-
-// Whether a unit is the item of a section with this number.
-fn is_item_with(number: u16, section: usize, u: &Unit) -> bool
-    ensures value { result ≡ is_item_with number section u.now }
-{
-    is_text_item(u) && u.section == section && is_number(mark_number(u), number)
-}
-
-// Whether a unit is such an item, and stands in a nearer file than another one.
-fn is_nearer(number: u16, section: usize, u: &Unit, v: &Unit) -> bool
-    ensures value { result ≡ (is_item_with number section v.now && nat_lt v.now.file u.now.file) }
-{
-    is_item_with(number, section, v) && v.file < u.file
-}
-
-// Whether an item with this number stands in a nearer file than a unit.
-fn has_nearer(all: &[Unit], section: usize, number: u16, u: &Unit) -> bool
-    ensures value { result ≡ has_nearer all.now section number u.now }
-{
-    all.iter().any(|v| is_nearer(number, section, u, v))
-}
-
-// Whether a unit is the item with this number of the nearest file.
-fn is_nearest(all: &[Unit], section: usize, number: u16, u: &Unit) -> bool
-    ensures value { result ≡ (is_item_with number section u.now && not (has_nearer all.now section number u.now)) }
-{
-    is_item_with(number, section, u) && !has_nearer(all, section, number, u)
-}
-
-// Whether a number is there and is this one.
-fn is_number(number: Option<u16>, wanted: u16) -> bool
-    ensures value { result ≡ option_map_or (λ m. m == wanted) number false }
-{
-    match number {
-        Some(m) => m == wanted,
-        None => false,
-    }
-}
-
-// Whether a number is there and is greater than this one.
-fn is_greater(number: Option<u16>, than: u16) -> bool
-    ensures value { result ≡ option_map_or (λ m. nat_lt than m) number false }
-{
-    match number {
-        Some(m) => than < m,
-        None => false,
-    }
-}
-
-// Whether a unit is an item of a section with a greater number than this one.
-fn is_item_above(number: u16, section: usize, u: &Unit) -> bool
-    ensures value { result ≡ is_item_where (λ m. nat_lt number m) section u.now }
-{
-    is_text_item(u) && u.section == section && is_greater(mark_number(u), number)
-}
-
-// Whether one of the units is such an item.
-fn has_item_above(number: u16, section: usize, all: &[Unit]) -> bool
-    ensures value { result ≡ list_any (λ u. is_item_where (λ m. nat_lt number m) section u) all.now }
-{
-    all.iter().any(|u| is_item_above(number, section, u))
-}
-
-/// The item of a section with this number: that of the nearest file.
-pub(crate) fn item_with(all: &[Unit], section: usize, number: u16) -> Option<&Unit>
-    ensures value { option_copied result ≡ item_with all.now section number }
-{
-    all.iter().find(|u| is_nearest(all, section, number, *u))
-}
-
-// Adds an item with the empty text where one is missing below the greatest number.
-fn add_gap(
-    alloc: Global,
-    all: &[Unit],
-    section: usize,
-    number: u16,
-    out: &mut Vec<LineInParts>,
-) -> Result<(), AllocError>
-    ensures value { IfOk result (λ _. out.new.items ≡ out.old.items ++ item_or_gap all.now section number None) }
-{
-    if (section == SYSTEM_TEXTS || section == LOCATION_TEXTS)
-        && has_item_above(number, section, all)
-    {
-        let mut bytes = Vec::new(alloc);
-        bytes.push(b'/')?;
-        put_number(number, &mut bytes)?;
-        bytes.push(b'\n')?;
-        let nowhere = Origin {
-            file: 0,
-            line: 0,
-            column: 0,
-        };
-        out.push(line_of(alloc, nowhere, bytes.as_slice())?)?;
-    }
-    Ok(())
-}
-
-// Adds the lines of the item of a section with this number.
-fn add_item(
-    alloc: Global,
-    all: &[Unit],
-    section: usize,
-    number: u16,
-    out: &mut Vec<LineInParts>,
-) -> Result<(), AllocError>
-    ensures value { IfOk result (λ _. out.new.items ≡ out.old.items ++ item_lines all.now section number) }
-{
-    match item_with(all, section, number) {
-        Some(u) => add_lines(alloc, u.lines.as_slice(), out),
-        None => add_gap(alloc, all, section, number, out),
-    }
-}
-
-// Adds the lines of what has this number in a section.
-fn add_numbered(
-    alloc: Global,
-    all: &[Unit],
-    section: usize,
-    number: u16,
-    out: &mut Vec<LineInParts>,
-) -> Result<(), AllocError>
-    ensures value { IfOk result (λ _. out.new.items ≡ out.old.items ++ numbered_lines all.now section number) }
-{
-    if section == EXITS {
-        add_exits(alloc, all, number, out)
-    } else if section == OBJECTS {
-        add_object_rows(alloc, all, number, out)
-    } else {
-        add_item(alloc, all, section, number, out)
-    }
-}
-
-// Adds the lines of a section that come out by number.
-fn add_by_number(
-    alloc: Global,
-    all: &[Unit],
-    section: usize,
-    out: &mut Vec<LineInParts>,
-) -> Result<(), AllocError>
-    ensures value { IfOk result (λ _. out.new.items ≡ out.old.items ++ numbered_from ITEM_NUMBERS 0 all.now section) }
-{
-    for number in 0..ITEM_NUMBERS {
-        add_numbered(alloc, all, section, number, out)?;
-    }
-    Ok(())
-}
-
-// Whether what a section holds comes out by number.
-fn is_by_number(section: usize) -> bool
-    ensures value { result ≡ is_by_number section }
-{
-    has_texts(section) || section == EXITS || section == OBJECTS
-}
-
-// Adds the lines of a section without its header.
-fn add_body(
-    alloc: Global,
-    files: usize,
-    all: &[Unit],
-    section: usize,
-    out: &mut Vec<LineInParts>,
-) -> Result<(), AllocError>
-    ensures value { IfOk result (λ _. out.new.items ≡ out.old.items ++ body_lines files all.now section) }
-{
-    if is_by_number(section) {
-        return add_by_number(alloc, all, section, out);
-    }
-    let mut lines = lines_in_files(alloc, all, section, files_of(files, section))?;
-    out.append(&mut lines)?;
-    Ok(())
-}
-
 // Adds the lines of a section.
 fn add_section(
     alloc: Global,
@@ -413,24 +233,17 @@ fn add_section(
         return Ok(());
     }
     add_header(alloc, all, section, out)?;
-    add_body(alloc, files, all, section, out)
+    let mut lines = lines_in_files(alloc, all, section, files_of(files, section))?;
+    out.append(&mut lines)?;
+    Ok(())
 }
 
-/// The lines of the sections from one on up to another, one section after another.
-///
-/// # Errors
-/// Where there is no memory.
-pub(crate) fn sections(
-    alloc: Global,
-    from: usize,
-    end: usize,
-    files: usize,
-    all: &[Unit],
-) -> Result<Vec<LineInParts>, AllocError>
-    ensures value { IfOk result (λ lines. lines.items ≡ sections (end - from) from files all.now) }
+// The lines of all sections, one section after another.
+fn sections(alloc: Global, files: usize, all: &[Unit]) -> Result<Vec<LineInParts>, AllocError>
+    ensures value { IfOk result (λ lines. lines.items ≡ sections SECTIONS 0 files all.now) }
 {
     let mut lines = Vec::new(alloc);
-    for section in from..end {
+    for section in 0..SECTIONS {
         add_section(alloc, files, all, section, &mut lines)?;
     }
     Ok(lines)
@@ -482,15 +295,9 @@ fn ended_unless(alloc: Global, last: bool, line: LineInParts) -> Result<LineInPa
     }
 }
 
-/// All lines, of which each but the last has a line end.
-///
-/// # Errors
-/// Where there is no memory.
+// All lines, of which each but the last has a line end.
 #[tactic(auto, unfolding(crate::specs::Order::all_ended))]
-pub(crate) fn all_ended(
-    alloc: Global,
-    lines: Vec<LineInParts>,
-) -> Result<Vec<LineInParts>, AllocError>
+fn all_ended(alloc: Global, lines: Vec<LineInParts>) -> Result<Vec<LineInParts>, AllocError>
     ensures value { IfOk result (λ ended. ended.items ≡ all_ended lines.items) }
 {
     let mut left = VecDeque::from(lines);
@@ -500,4 +307,19 @@ pub(crate) fn all_ended(
         ended.push(ended_unless(alloc, last, line)?)?;
     }
     Ok(ended)
+}
+
+/// The lines of all units of this number of files in the order in which they come out.
+///
+/// # Errors
+/// Where there is no memory.
+pub(crate) fn in_order(
+    alloc: Global,
+    files: usize,
+    all: &[Unit],
+) -> Result<Vec<LineInParts>, AllocError>
+    ensures value { IfOk result (λ lines. lines.items ≡ in_order files all.now) }
+{
+    let lines = sections(alloc, files, all)?;
+    all_ended(alloc, lines)
 }

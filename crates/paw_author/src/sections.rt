@@ -26,22 +26,10 @@ const KINDS: usize = 2;
 const THINGS: usize = 3;
 
 /// The section of letters, the first of those with texts.
-pub(crate) const LETTERS: usize = 4;
+const LETTERS: usize = 4;
 
 /// The section of words, the first that each plain source has.
 pub(crate) const WORDS: usize = 5;
-
-/// The section of system messages.
-pub(crate) const SYSTEM_TEXTS: usize = 6;
-
-/// The section of messages.
-pub(crate) const MESSAGE_TEXTS: usize = 7;
-
-/// The section of the names of objects.
-pub(crate) const OBJECT_TEXTS: usize = 8;
-
-/// The section of the texts of locations.
-pub(crate) const LOCATION_TEXTS: usize = 9;
 
 /// The section of exits, the first after those with texts.
 pub(crate) const EXITS: usize = 10;

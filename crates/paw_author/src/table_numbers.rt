@@ -6,14 +6,14 @@ ghost use Rattle.paw_author.specs.declared.sections.TheConstants.{TABLES, NAMED_
 ghost use Rattle.paw_author.specs.declared.known.NameKind.TheVariants.{Table};
 ghost use Rattle.paw_author.specs.Hooks.{is_for_hook};
 ghost use Rattle.paw_author.specs.Known.{number_for};
-ghost use Rattle.paw_author.specs.TableNumbers.{is_numbered, numbers_written, is_table_name, numbers_known, first_taken, name_written};
+ghost use Rattle.paw_author.specs.TableNumbers.{is_numbered, numbers_written, is_table_name, numbers_known, first_taken, known_once, name_written};
 ghost use Rattle.paw_author.specs.TableNumbers.{names_written, is_named_table, name_given, names_given};
 ghost use Rattle.paw_author.specs.TableNumbers.{tables_known, moved_to_table, unit_numbered};
 
 use crate::fragment::Origin;
 use crate::hooks::{HookName, first_line, is_for_hook, is_header};
 use crate::known::{
-    Known, NameKind, Numbers, given_once, kind_index, known_once, may_be_name, number_for,
+    Known, NameKind, Numbers, given_once, kind_index, may_be_name, name_for, number_for,
 };
 use crate::mistake::{AuthorError, wrong_line};
 use crate::sections::{NAMED_TABLES, TABLES};
@@ -67,6 +67,32 @@ fn add_numbers(all: &[Unit], numbers: &mut Vec<u16>) -> Result<(), AllocError>
     Ok(())
 }
 
+// A name is known for one number alone.
+fn known_once(
+    alloc: Global,
+    number: u16,
+    before: Option<u16>,
+    origin: Origin,
+    name: &[u8],
+    known: Vec<Known>,
+) -> Result<Vec<Known>, AuthorError>
+    ensures gives { Gives (λ more. more.items) result (known_once number before origin name.now known.items) }
+{
+    let mut more = known;
+    match before {
+        None => {
+            more.push(name_for(alloc, NameKind::Table, name, number)?)?;
+            Ok(more)
+        }
+        Some(other) => {
+            if other != number {
+                return Err(ReadError::Fault(wrong_line(origin, SourceKind::Duplicate)));
+            }
+            Ok(more)
+        }
+    }
+}
+
 // The names so far with the one that stands after a number in a header.
 fn name_written(alloc: Global, u: &Unit, known: Vec<Known>) -> Result<Vec<Known>, AuthorError>
     requires table { IsTrue (is_numbered u.now) }
@@ -82,15 +108,7 @@ fn name_written(alloc: Global, u: &Unit, known: Vec<Known>) -> Result<Vec<Known>
         return Err(ReadError::Fault(wrong_line(origin, SourceKind::Word)));
     }
     let before = number_for(NameKind::Table, name, known.as_slice());
-    known_once(
-        alloc,
-        NameKind::Table,
-        table_number(u),
-        before,
-        origin,
-        name,
-        known,
-    )
+    known_once(alloc, table_number(u), before, origin, name, known)
 }
 
 // The names so far with that of a unit, where it is the header of a table with a number.

@@ -169,53 +169,9 @@ fn names_stand_for_their_numbers(rt: HostRuntime) -> Result<(), Fail> {
     let bytes = bytes_of(alloc, plain.lines.as_slice())?;
     let wanted =
         b"/VOC\nN 1 verb\nX 5 verb\nhall 60 noun\n/STX\n/MTX\n/OTX\n/LTX\n/CON\n/1 ; here\nN 1\nEAST 0 ; x\n\
-        /OBJ\n1 WORN 1 C hall lamp\n2 1 5 - LAMP _\n/PRO 0\n_ _ SET 64 SET 62 SET 65\n/PRO 1\n/PRO 2\n/PRO 3\n\
+        /OBJ\n2 1 5 - LAMP _\n1 WORN 1 C hall lamp\n/PRO 0\n_ _ SET 64 SET 62 SET 65\n/PRO 1\n/PRO 2\n/PRO 3\n\
         _ _ MES @63 TIME 5 2\n/PRO 9\nhall lamp AT 1 PRESENT 2 PLACE 2 HERE EQ 30 5\n\
         \x20LET 63 3 SET @30 MESSAGE 4 SET 60 PROCESS 9 GT 61 5 + 1\n";
-    assert_eq!(rt; bytes.as_slice(), wanted.as_slice());
-    Ok(())
-}
-
-#[test]
-fn texts_in_entries_have_numbers(rt: HostRuntime) -> Result<(), Fail> {
-    let alloc = rt.alloc();
-    let game =
-        b"; a bell, with a library\n/INCLUDE lib\n/PRO 0\nRING _ AT tower LT strokes 4 PLUS strokes 1\n\
-        \x20MESSAGE \"Bong. Somewhere\"\n \"a dog barks.\" DONE ; far off\n/PRO odd\nSING _ MES \"La.\" DONE\n\
-        /NAMES\nstrokes flag\n/LTX\n/title\nThe Bell\n/tower\nA tower. ; high\n/CON\n/title\nIN tower\n";
-    let lib =
-        b"/LTX\n/0 title\nA game.\n/PRO 0\nIN _ ZERO 0 MOVE 38 DESC\n/HOOK ; the game's\nRING _ OK\n\
-        /HOOK odd\nSING _ MESSAGE \"La.\" DONE\n";
-    let plain = source_of_two(alloc, game, lib).ok().ok_or("refused")?;
-    let bytes = bytes_of(alloc, plain.lines.as_slice())?;
-    let wanted =
-        b"; a bell, with a library\n/VOC\n/STX\n/MTX\n/0\nBong. Somewhere\na dog barks.\n/1\nLa.\n/OTX\n/LTX\n\
-        /0\nThe Bell\n/1\nA tower. ; high\n/CON\n/0\nIN 1\n/OBJ\n/PRO 0\nIN _ ZERO 0 MOVE 38 DESC\n\
-        RING _ AT 1 LT 60 4 PLUS 60 1\n MESSAGE 0\n DONE ; far off\nRING _ OK\nSING _ MES 1 DONE\n\
-        SING _ MESSAGE 1 DONE\n/PRO 1\n/PRO 2\n";
-    assert_eq!(rt; bytes.as_slice(), wanted.as_slice());
-    Ok(())
-}
-
-#[test]
-fn what_has_numbers_stands_in_their_order(rt: HostRuntime) -> Result<(), Fail> {
-    let alloc = rt.alloc();
-    let game =
-        b"/INCLUDE lib\n/STX\n/3 ready ; here\nReady.\n; asked\n/OTX\n/coin\ncoin\n/5 bag\nbag\n/LTX\n\
-        /0 hall\nA hall.\n/cellar\n; dark\nA cellar.\n/CON\n/cellar\nUP hall\n/OBJ\ncoin bag 1 - _ _\n\
-        /PRO 0\n_ _ SYSMESS \"Ready.\"   ; again\n MESSAGE \"Ouch.\" ; once\n ; far\n  \"Twice.\" DONE\n\
-        _ _ MES \"Gone.\"\n \"Far.\"\n OK\n";
-    let lib =
-        b"/MTX\n/gone\nGone.\nFar.\n/2 ouch\nOuch.\n/STX\n/ready\nSet.\n/1\nOne.\n/OTX\n/box\na box\n/LTX\n\
-        /bag\n/box\n/CON\n/hall\nDOWN cellar\n/cellar ; down\nOUT bag\n/OBJ\n0 bag 3 - _ _\n\
-        box hall 1 C _ _\nbag hall 1 C _ _\n";
-    let plain = source_of_two(alloc, game, lib).ok().ok_or("refused")?;
-    let bytes = bytes_of(alloc, plain.lines.as_slice())?;
-    let wanted =
-        b"/VOC\n/STX\n/0\n/1\nOne.\n/2\n/3 ; here\nReady.\n; asked\n/MTX\n/0\nGone.\nFar.\n/1\nOuch.\nTwice.\n\
-        /2\nOuch.\n/OTX\n/0\ncoin\n/1\na box\n/5\nbag\n/LTX\n/0\nA hall.\n/1\n/2\n; dark\nA cellar.\n/3\n\
-        /4\n/5\n/CON\n/0\nDOWN 2\n/2\nUP 0\nOUT 5\n/OBJ\n0 5 1 - _ _\n1 0 1 C _ _\n5 0 1 C _ _\n/PRO 0\n\
-        _ _ SYSMESS 3   ; again\n MESSAGE 1 ; once\n ; far\n DONE\n_ _ MES 0\n OK\n/PRO 1\n/PRO 2\n";
     assert_eq!(rt; bytes.as_slice(), wanted.as_slice());
     Ok(())
 }
@@ -265,7 +221,7 @@ fn the_first_mistake_is_named(rt: HostRuntime) {
     let word = MistakeKind::Line(SourceKind::Word);
     let number = MistakeKind::Line(SourceKind::Number);
     let range = MistakeKind::Line(SourceKind::Range);
-    let faulty: [(&[u8], &[u8], usize, usize, usize, MistakeKind); 32] = [
+    let faulty: [(&[u8], &[u8], usize, usize, usize, MistakeKind); 31] = [
         (b"/IF\n", b"", 0, 1, 1, section),
         (b"\n/ENDIF\n", b"", 0, 2, 1, section),
         (b"/IF a\n/ELSE\n/ELSE\n/ENDIF\n", b"", 0, 3, 1, section),
@@ -318,56 +274,11 @@ fn the_first_mistake_is_named(rt: HostRuntime) {
         (b"/PRO 2a\n", b"", 0, 1, 6, word),
         (b"/CON\nN 1\n/HOOK\n", b"", 0, 2, 1, section),
         (b"/VOC\n/one\n/HOOK\n", b"", 0, 2, 1, section),
-        (
-            b"/INCLUDE lib\n/MTX\n/5 box\n/lamp\n",
-            b"/MTX\n/5 lamp\n",
-            1,
-            2,
-            1,
-            duplicate,
-        ),
     ];
     for (game, lib, file, line, column, kind) in faulty {
         let origin = Origin { file, line, column };
         assert_eq!(rt;
             mistake_of(rt.alloc(), game, lib),
-            Some(Mistake { origin, kind })
-        );
-    }
-}
-
-#[test]
-fn the_first_mistake_of_items_is_named(rt: HostRuntime) {
-    let duplicate = MistakeKind::Line(SourceKind::Duplicate);
-    let extra = MistakeKind::Line(SourceKind::Extra);
-    let number = MistakeKind::Line(SourceKind::Number);
-    let range = MistakeKind::Line(SourceKind::Range);
-    let text = MistakeKind::Line(SourceKind::Text);
-    let big = MistakeKind::Line(SourceKind::TooBig);
-    let word = MistakeKind::Line(SourceKind::Word);
-    let faulty: [(&[u8], usize, usize, MistakeKind); 13] = [
-        (b"/NAMES\n/STX\n/1\na\n/1 x\nb\n", 5, 1, range),
-        (b"/LTX\n/here\n", 2, 1, word),
-        (b"/LNG\n/x\n", 2, 1, word),
-        (b"/NAMES\n/MTX\n/256\n", 3, 1, big),
-        (b"/NAMES\na 252 location\n/LTX\n/a\n", 4, 1, big),
-        (b"/MTX\n/a b\n", 2, 4, extra),
-        (b"/NAMES\na 3 object\n/OTX\n/4 a\n", 4, 4, duplicate),
-        (b"/MTX\n/a\n/1 a\n", 3, 1, duplicate),
-        (b"/OTX\n/5 bag\n/LTX\n/5 a\n/bag\n", 5, 1, duplicate),
-        (b"/NAMES\n/CON\n/nowhere\n", 3, 1, number),
-        (b"/NAMES\n/CON\n/1 a\n", 3, 4, extra),
-        (b"/NAMES\n/OBJ\nlamp 1 1 - _ _\n", 3, 1, number),
-        (b"/PRO 0\n_ _ MES \"a\"\n \"/x\"\n", 3, 2, text),
-    ];
-    for (game, line, column, kind) in faulty {
-        let origin = Origin {
-            file: 0,
-            line,
-            column,
-        };
-        assert_eq!(rt;
-            mistake_of(rt.alloc(), game, b""),
             Some(Mistake { origin, kind })
         );
     }
