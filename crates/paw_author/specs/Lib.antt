@@ -12,6 +12,7 @@ pub mod Joining
 pub mod Hooks
 pub mod Known
 pub mod TableNumbers
+pub mod Sums
 pub mod NamedLines
 pub mod NameRows
 pub mod Order

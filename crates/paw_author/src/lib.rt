@@ -18,6 +18,7 @@ mod order;
 mod parts;
 mod plain_sources;
 mod sections;
+mod sums;
 mod table_numbers;
 #[cfg(test)]
 mod tests;

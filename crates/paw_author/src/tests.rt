@@ -159,19 +159,19 @@ fn names_stand_for_their_numbers(rt: HostRuntime) -> Result<(), Fail> {
     let game =
         b"/INCLUDE lib\n/NAMES\nlamp 2 object\nhall 1 location\ncoins flag\nscore 30 flag\nbest 5 number\n\
         bye 4 message\nwalk 9 table\n/CON\n/hall ; here\nN hall\nEAST 0 ; x\n/OBJ\nlamp hall best - LAMP _\n\
-        1 WORN 1 C hall lamp\n/VOC\nN 1 verb\nX best verb\nhall 60 noun\n/PRO walk\n\
+        1 WORN 1 C hall lamp\n/VOC\nN 1 verb\nX best + 2 + best verb\nhall 60 noun\n/PRO walk\n\
         hall lamp AT hall PRESENT lamp PLACE lamp HERE EQ score best\n\
-        \x20LET coins 3 SET @score MESSAGE bye SET 60 PROCESS walk GT 61 best + hall\n\
+        \x20LET coins 3 SET @score MESSAGE bye SET 60 PROCESS walk GT 61 best+ 3 +best ; +\n\
         /PRO other\n_ _ MES @coins TIME best lamp\n";
     let lib =
         b"/NAMES\nlamp 7 object\nextra flag\nothers flag\n/PRO 0\n_ _ SET extra SET 62 SET others\n";
     let plain = source_of_two(alloc, game, lib).ok().ok_or("refused")?;
     let bytes = bytes_of(alloc, plain.lines.as_slice())?;
     let wanted =
-        b"/VOC\nN 1 verb\nX 5 verb\nhall 60 noun\n/STX\n/MTX\n/OTX\n/LTX\n/CON\n/1 ; here\nN 1\nEAST 0 ; x\n\
+        b"/VOC\nN 1 verb\nX 12 verb\nhall 60 noun\n/STX\n/MTX\n/OTX\n/LTX\n/CON\n/1 ; here\nN 1\nEAST 0 ; x\n\
         /OBJ\n2 1 5 - LAMP _\n1 WORN 1 C hall lamp\n/PRO 0\n_ _ SET 64 SET 62 SET 65\n/PRO 1\n/PRO 2\n/PRO 3\n\
         _ _ MES @63 TIME 5 2\n/PRO 9\nhall lamp AT 1 PRESENT 2 PLACE 2 HERE EQ 30 5\n\
-        \x20LET 63 3 SET @30 MESSAGE 4 SET 60 PROCESS 9 GT 61 5 + 1\n";
+        \x20LET 63 3 SET @30 MESSAGE 4 SET 60 PROCESS 9 GT 61 13 ; +\n";
     assert_eq!(rt; bytes.as_slice(), wanted.as_slice());
     Ok(())
 }
