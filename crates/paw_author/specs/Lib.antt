@@ -15,6 +15,7 @@ pub mod TableNumbers
 pub mod Sums
 pub mod NamedLines
 pub mod NameRows
+pub mod Words
 pub mod Order
 pub mod PlainSources
 pub mod Authored

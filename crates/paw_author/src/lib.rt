@@ -24,5 +24,6 @@ mod table_numbers;
 mod tests;
 mod tokens;
 mod units;
+mod words;
 
 pub use author::plain_lines;
