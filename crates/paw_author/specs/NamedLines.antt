@@ -17,8 +17,14 @@ use Rattle.paw_author.specs.Sums.{line_summed}
 use Rattle.paw_author.specs.TableNumbers.{is_numbered}
 use Rattle.paw_author.specs.Tokens.{is_token, starts_with_byte, token_count}
 use Rattle.paw_author.specs.Units.{UnitLines, is_data_unit}
+use Rattle.paw_author.specs.Words.{letters_of, quoted_word, is_quoted_word}
 
 -- ---- tokens ----
+
+-- The number that a word stands for where any number may stand: a word in quotes has its value.
+abbrev pub any_number : Token → KnownNames → Option ℕ
+any_number word known =
+    if is_quoted_word word then number_for name.Word (letters_of (quoted_word word)) known else number_of_any word known
 
 -- The number that a word stands for as a parameter of this kind. Words of the vocabulary stand for none. What is added to
 -- a parameter is none itself, and has the name of a number.
@@ -27,7 +33,7 @@ number_meant param.Location word known = number_for name.Location word known
 number_meant param.Place word known = number_for name.Location word known
 number_meant param.Object word known = number_for name.Object word known
 number_meant param.Flag word known = number_for name.Flag word known
-number_meant param.Number word known = number_of_any word known
+number_meant param.Number word known = any_number word known
 number_meant param.Message word known = number_for name.Message word known
 number_meant param.System word known = number_for name.System word known
 number_meant param.Table word known = number_for name.Table word known

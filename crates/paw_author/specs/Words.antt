@@ -1,7 +1,7 @@
 -- Rows of words: one word or more, a value or none, and a class.
-use Rattle.std.specs.Prelude.{ℕ, ◌-◌, ◌==◌, ◌&&◌, ◌||◌, Bool, not, List, [], ◌∷◌, ◌++◌, filter, find, length, nat_lt, take, codes, slice_get}
+use Rattle.std.specs.Prelude.{ℕ, ◌+◌, ◌-◌, ◌==◌, ◌&&◌, ◌||◌, Bool, not, List, [], ◌∷◌, ◌++◌, drop, filter, find, length, nat_lt, take, codes, slice_get}
 use Rattle.std.specs.Prelude.{if◌then◌else◌, Option, Some, None}
-use Rattle.std.specs.List.{list_any, flat_map}
+use Rattle.std.specs.List.{before_first, list_any, flat_map}
 use Rattle.paw_base.specs.Bytes.{Bytes, Names, Token}
 use Rattle.paw_author.specs.declared.sections.TheConstants.{WORDS}
 use Rattle.paw_author.specs.declared.words.TheConstants.{LETTERS}
@@ -99,6 +99,14 @@ word_rows units = flat_map (λ u. if is_word_row u then word_row u ∷ [] else [
 -- The letters of a word that count.
 abbrev pub letters_of : Token → Bytes
 letters_of word = take LETTERS word
+
+-- What a word in quotes says: what stands behind the first quote and before the next.
+abbrev pub quoted_word : Token → Bytes
+quoted_word token = before_first (λ b. b == 39) (drop 1 token)
+
+-- Whether a token is a word in quotes.
+abbrev pub is_quoted_word : Token → Bool
+is_quoted_word token = starts_with_byte 39 token && length token == length (quoted_word token) + 2
 
 -- Whether a row has a word.
 abbrev pub has_word : Token → WordRow → Bool

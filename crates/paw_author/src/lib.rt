@@ -24,6 +24,8 @@ mod table_numbers;
 mod tests;
 mod tokens;
 mod units;
+mod word_lines;
+mod word_rows;
 mod words;
 
 pub use author::plain_lines;

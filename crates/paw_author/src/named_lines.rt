@@ -2,7 +2,7 @@
 
 ghost use Rattle.std.specs.Prelude.{◌≡◌, ◌++◌, [], ◌∷◌, IfOk, count_by, decimal, map};
 ghost use Rattle.paw_base.specs.declared.rows.ParamKind.TheVariants as param;
-ghost use Rattle.paw_author.specs.NamedLines.{number_meant, word_or_number, parameter_named, kind_list, kinds_of};
+ghost use Rattle.paw_author.specs.NamedLines.{any_number, number_meant, word_or_number, parameter_named, kind_list, kinds_of};
 ghost use Rattle.paw_author.specs.NamedLines.{kinds_left, part_named, line_named, two_words, entry_named, number_part, without_name, header_named};
 ghost use Rattle.paw_author.specs.NamedLines.{first_line_named, is_table_entry, unit_named, some_words, data_kinds, data_named, has_numbers, is_exits_item};
 ghost use Rattle.paw_author.specs.NamedLines.{line_numbered, words_before, word_kinds, mark_named, mark_line, item_named, other_lines};
@@ -18,12 +18,24 @@ use crate::sums::line_summed;
 use crate::table_numbers::{is_numbered, table_number};
 use crate::tokens::{are_token, is_token, starts_with_byte, token_count, without_first};
 use crate::units::{Unit, UnitKind};
+use crate::words::{is_quoted_word, letters_of, quoted_word};
 use itoa::Buffer;
 use paw_base::rows::{ParamKind, condact_named, condact_row};
 use std::alloc::{AllocError, Global};
 use std::collections::VecDeque;
 
 // ---- tokens ----
+
+// The number that a word stands for where any number may stand.
+fn any_number(word: &[u8], known: &[Known]) -> Option<u16>
+    ensures value { result ≡ any_number word.now known.now }
+{
+    if is_quoted_word(word) {
+        number_for(NameKind::Word, letters_of(quoted_word(word)), known)
+    } else {
+        number_of_any(word, known)
+    }
+}
 
 // The number that a word stands for as a parameter of this kind.
 fn number_meant(kind: ParamKind, word: &[u8], known: &[Known]) -> Option<u16>
@@ -33,7 +45,7 @@ fn number_meant(kind: ParamKind, word: &[u8], known: &[Known]) -> Option<u16>
         ParamKind::Location | ParamKind::Place => number_for(NameKind::Location, word, known),
         ParamKind::Object => number_for(NameKind::Object, word, known),
         ParamKind::Flag => number_for(NameKind::Flag, word, known),
-        ParamKind::Number => number_of_any(word, known),
+        ParamKind::Number => any_number(word, known),
         ParamKind::Message => number_for(NameKind::Message, word, known),
         ParamKind::System => number_for(NameKind::System, word, known),
         ParamKind::Table => number_for(NameKind::Table, word, known),
@@ -42,8 +54,11 @@ fn number_meant(kind: ParamKind, word: &[u8], known: &[Known]) -> Option<u16>
     }
 }
 
-// Puts a number in decimal after bytes.
-fn put_number(number: u16, bytes: &mut Vec<u8>) -> Result<(), AllocError>
+/// Puts a number in decimal after bytes.
+///
+/// # Errors
+/// Where there is no memory.
+pub(crate) fn put_number(number: u16, bytes: &mut Vec<u8>) -> Result<(), AllocError>
     ensures value { IfOk result (λ _. bytes.new.items ≡ bytes.old.items ++ decimal number) }
 {
     let mut digits = Buffer::new();
@@ -600,8 +615,11 @@ fn other_named(alloc: Global, known: &[Known], u: Unit) -> Result<Unit, AllocErr
     }
 }
 
-// A unit with numbers in the place of names.
-fn unit_named(alloc: Global, known: &[Known], u: Unit) -> Result<Unit, AllocError>
+/// A unit with numbers in the place of names.
+///
+/// # Errors
+/// Where there is no memory.
+pub(crate) fn unit_named(alloc: Global, known: &[Known], u: Unit) -> Result<Unit, AllocError>
     ensures value { IfOk result (λ named. named ≡ unit_named known.now u) }
 {
     if is_table_entry(&u) {

@@ -177,6 +177,26 @@ fn names_stand_for_their_numbers(rt: HostRuntime) -> Result<(), Fail> {
 }
 
 #[test]
+fn rows_of_words_have_one_word_each(rt: HostRuntime) -> Result<(), Fail> {
+    let alloc = rt.alloc();
+    let game =
+        b"/INCLUDE lib\n/NAMES\nmost 3 number\n/VOC\nRING TOLL verb ; ring\n; below\nLAMP LANTERN most + 1 noun\n\
+        X 31 verb\nTORCH TORCHES LAMP noun\nNORTH 2 noun\nBAG most noun\nSACK 'LAMP' noun\nJUMP HOP verb\n\
+        /PRO 0\n_ _ EQ 60 'LANTERNS' DONE\n_ _ EQ 60 'LAMP' + most + 1 DONE\n";
+    let lib =
+        b"/VOC\nIN ENTER 12 verb\nSING HUM 100 verb\nLAMP 9 noun\nN NORTH 3 noun\nHOP 13 verb\nRING 60 noun\n";
+    let plain = source_of_two(alloc, game, lib).ok().ok_or("refused")?;
+    let bytes = bytes_of(alloc, plain.lines.as_slice())?;
+    let wanted =
+        b"/VOC\nRING 101 verb ; ring\nTOLL 101 verb\n; below\nLAMP 4 noun\nLANTERN 4 noun\nX 31 verb\nTORCH 4 noun\n\
+        NORTH 2 noun\nBAG 3 noun\nSACK 4 noun\nJUMP 13 verb\nIN 12 verb\nENTER 12 verb\nSING 100 verb\nHUM 100 verb\n\
+        N 3 noun\nHOP 13 verb\n/STX\n/MTX\n/OTX\n/LTX\n/CON\n/OBJ\n/PRO 0\n_ _ EQ 60 4 DONE\n_ _ EQ 60 8 DONE\n\
+        /PRO 1\n/PRO 2\n";
+    assert_eq!(rt; bytes.as_slice(), wanted.as_slice());
+    Ok(())
+}
+
+#[test]
 fn each_file_stands_before_all_that_it_includes(rt: HostRuntime) -> Result<(), Fail> {
     let alloc = rt.alloc();
     let mut files = Vec::new(alloc);
@@ -221,7 +241,7 @@ fn the_first_mistake_is_named(rt: HostRuntime) {
     let word = MistakeKind::Line(SourceKind::Word);
     let number = MistakeKind::Line(SourceKind::Number);
     let range = MistakeKind::Line(SourceKind::Range);
-    let faulty: [(&[u8], &[u8], usize, usize, usize, MistakeKind); 31] = [
+    let faulty: [(&[u8], &[u8], usize, usize, usize, MistakeKind); 34] = [
         (b"/IF\n", b"", 0, 1, 1, section),
         (b"\n/ENDIF\n", b"", 0, 2, 1, section),
         (b"/IF a\n/ELSE\n/ELSE\n/ENDIF\n", b"", 0, 3, 1, section),
@@ -274,6 +294,9 @@ fn the_first_mistake_is_named(rt: HostRuntime) {
         (b"/PRO 2a\n", b"", 0, 1, 6, word),
         (b"/CON\nN 1\n/HOOK\n", b"", 0, 2, 1, section),
         (b"/VOC\n/one\n/HOOK\n", b"", 0, 2, 1, section),
+        (b"/VOC\n'B' noun\n", b"", 0, 2, 1, missing),
+        (b"/VOC\nA 'B' noun\n", b"", 0, 2, 3, number),
+        (b"/VOC\nA 5 noun\nC B A verb\n", b"", 0, 3, 5, duplicate),
     ];
     for (game, lib, file, line, column, kind) in faulty {
         let origin = Origin { file, line, column };

@@ -1,19 +1,21 @@
 // Rows of words: one word or more, a value or none, and a class.
 
-ghost use Rattle.std.specs.Prelude.{◌≡◌, ◌-◌, ◌++◌, ◌∷◌, [], IfOk, if◌then◌else◌, length, slice_get, take};
-ghost use Rattle.std.specs.List.{list_any, flat_map};
+ghost use Rattle.std.specs.Prelude.{◌≡◌, ◌≤◌, ◌==◌, ◌-◌, ◌++◌, ◌∷◌, [], IfOk, if◌then◌else◌, length, slice_get, take};
+ghost use Rattle.std.specs.List.{list_any, flat_map, position_or_len};
 ghost use Rattle.std.specs.Option.{option_copied};
 ghost use Rattle.paw_author.specs.Sections.{written_number};
 ghost use Rattle.paw_author.specs.Tokens.{is_same, is_token, line_tokens};
 ghost use Rattle.paw_author.specs.Words.{is_class, is_word_data, ends_with_class, is_word_row, is_value, has_value, part_if_any, value_of};
 ghost use Rattle.paw_author.specs.Words.{words_len, is_no_word, words_among, tail_after, row_with, word_row, word_rows};
-ghost use Rattle.paw_author.specs.Words.{letters_of, has_word, is_valued, takes_word, word_stands, words_standing};
+ghost use Rattle.paw_author.specs.Words.{letters_of, quoted_word, is_quoted_word, has_word, is_valued, takes_word, word_stands, words_standing};
 ghost use Rattle.paw_author.specs.Words.{word_for, row_declares, words_declared, declared_word};
 
 use crate::fragment::Fragment;
 use crate::hooks::{copy_of_part, first_line};
 use crate::sections::{WORDS, is_number, written_number};
-use crate::tokens::{is_same, is_token, origin_of, starts_with_byte, token_at, token_count};
+use crate::tokens::{
+    is_same, is_token, origin_of, starts_with_byte, token_at, token_count, without_first,
+};
 use crate::units::{Unit, UnitKind};
 use std::alloc::{AllocError, Global};
 use std::marker::Model;
@@ -280,6 +282,29 @@ pub(crate) fn letters_of(word: &[u8]) -> &[u8]
     ensures value { result.now ≡ letters_of word.now }
 {
     &word[..word.len().min(LETTERS)]
+}
+
+// How many bytes stand before the first quote.
+fn len_before_quote(bytes: &[u8]) -> usize
+    ensures value { result ≡ position_or_len (λ b. b == 39) bytes.now }
+    ensures within { result ≤ length bytes.now }
+{
+    bytes.iter().take_while(|b| **b != b'\'').count()
+}
+
+/// What a word in quotes says.
+pub(crate) fn quoted_word(token: &[u8]) -> &[u8]
+    ensures value { result.now ≡ quoted_word token.now }
+{
+    let rest = without_first(token);
+    &rest[..len_before_quote(rest)]
+}
+
+/// Whether a token is a word in quotes.
+pub(crate) fn is_quoted_word(token: &[u8]) -> bool
+    ensures value { result ≡ is_quoted_word token.now }
+{
+    starts_with_byte(b'\'', token) && token.len().saturating_sub(quoted_word(token).len()) == 2
 }
 
 // Whether a part is a word with these letters.

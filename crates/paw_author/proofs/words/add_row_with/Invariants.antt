@@ -1,4 +1,4 @@
-use Rattle.std.proofs.Common.{◌≡◌, ◌++◌, ◌∷◌, [], if◌then◌else◌, drop, length}
+use Rattle.std.proofs.Common.{◌≡◌, ◌++◌, ◌∷◌, [], if◌then◌else◌, drop}
 use Rattle.std.specs.List.{flat_map}
 use Rattle.paw_author.specs.Words.{word_stands, word_for}
 use Rattle.paw_author.proofs.words.add_row_with.Given as goal

@@ -1,4 +1,4 @@
-use Rattle.std.proofs.Common.{◌≡◌, ◌++◌, ◌∷◌, [], if◌then◌else◌, drop, length}
+use Rattle.std.proofs.Common.{◌≡◌, [], length}
 use Rattle.paw_author.specs.Words.{tail_after}
 use Rattle.paw_author.proofs.words.tail_of.Given as goal
 

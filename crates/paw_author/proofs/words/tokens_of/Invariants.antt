@@ -1,4 +1,4 @@
-use Rattle.std.proofs.Common.{◌≡◌, ◌++◌, ◌∷◌, [], if◌then◌else◌, drop, length}
+use Rattle.std.proofs.Common.{◌≡◌, ◌++◌, drop}
 use Rattle.paw_author.specs.Tokens.{line_tokens}
 use Rattle.paw_author.proofs.words.tokens_of.Given as goal
 

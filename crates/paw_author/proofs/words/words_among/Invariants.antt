@@ -1,4 +1,4 @@
-use Rattle.std.proofs.Common.{◌≡◌, ◌++◌, ◌∷◌, [], if◌then◌else◌, drop, length}
+use Rattle.std.proofs.Common.{◌≡◌, ◌++◌, drop}
 use Rattle.paw_author.specs.Words.{words_among}
 use Rattle.paw_author.proofs.words.words_among.Given as goal
 
