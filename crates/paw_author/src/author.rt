@@ -2,7 +2,8 @@
 
 ghost use Rattle.std.specs.Prelude.{◌≡◌, ◌<◌, true, false, length, IfOk, MatchOption};
 ghost use Rattle.paw_read_error.specs.inner.Gives.{Gives};
-ghost use Rattle.paw_author.specs.Authored.{is_plain_file, named_lines, lines_with_tables, lines_with_words, worded_lines, hooked_lines, lines_of_units, joined_lines, plain_lines, IsAnswered};
+ghost use Rattle.paw_author.specs.Authored.{is_plain_file, named_lines, lines_with_tables, lines_with_words, worded_lines};
+ghost use Rattle.paw_author.specs.Authored.{hooked_lines, lines_of_units, joined_lines, plain_lines, IsAnswered};
 ghost use Rattle.paw_author.specs.FileLines.{file_lines};
 
 use crate::file::{File, Switch};
