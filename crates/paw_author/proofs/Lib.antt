@@ -1,7 +1,6 @@
 pub mod WholeLines
 pub mod Digits
 pub mod FreeNumbers
-pub mod SumLaws
 pub mod Quoted
 pub mod CutLines
 pub mod RowOfFiles

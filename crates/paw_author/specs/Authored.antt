@@ -1,5 +1,5 @@
 -- The plain source of the files that an author writes.
-use Rattle.std.specs.Prelude.{◌≡◌, ℕ, ◌&&◌, Bool, List, [], ◌∷◌, ◌++◌, length, map, nat_le, if◌then◌else◌, Result, Ok, Err}
+use Rattle.std.specs.Prelude.{◌≡◌, ℕ, ◌&&◌, Bool, List, [], ◌∷◌, length, map, nat_le, if◌then◌else◌, Result, Ok, Err}
 use Rattle.paw_base.specs.Bytes.{Names}
 use Rattle.paw_base.specs.declared.limits.TheConstants.{SOURCE_LIMIT}
 use Rattle.paw_read_error.specs.Bind.{◌>>=◌}
@@ -19,8 +19,6 @@ use Rattle.paw_author.specs.NameRows.{names_known}
 use Rattle.paw_author.specs.PlainSources.{is_plain_source}
 use Rattle.paw_author.specs.TableNumbers.{tables_known, unit_numbered}
 use Rattle.paw_author.specs.Units.{UnitLines}
-use Rattle.paw_author.specs.WordRows.{word_names, words_given}
-use Rattle.paw_author.specs.Words.{DeclaredWord}
 
 -- Whether a file is a plain source that isn't too long.
 abbrev pub is_plain_file : NamedFile → Bool
@@ -35,18 +33,10 @@ named_lines files hooks known units =
 abbrev pub lines_with_tables : ℕ → Names → KnownNames → List UnitLines → Result LinesInParts Mistake
 lines_with_tables files hooks known units = named_lines files hooks known (map (λ u. unit_numbered hooks known u) units)
 
--- The lines of units, where words are declared.
-abbrev pub lines_with_words : ℕ → Names → KnownNames → List DeclaredWord → List UnitLines → Result LinesInParts Mistake
-lines_with_words files hooks known declared units = lines_with_tables files hooks (known ++ word_names declared) units
-
--- The lines of units, where tables have these names and words are to be declared.
-abbrev pub worded_lines : ℕ → Names → KnownNames → List UnitLines → Result LinesInParts Mistake
-worded_lines files hooks known units = words_given known units >>= λ s. lines_with_words files hooks known s.declared s.units
-
 -- The lines of units, where places have these names.
 abbrev pub hooked_lines : ℕ → Names → List UnitLines → Result LinesInParts Mistake
 hooked_lines files hooks units =
-    names_known units >>= λ names. tables_known hooks names units >>= λ known. worded_lines files hooks known units
+    names_known units >>= λ names. tables_known hooks names units >>= λ known. lines_with_tables files hooks known units
 
 -- The lines of these units of a number of files.
 abbrev pub lines_of_units : ℕ → List UnitLines → Result LinesInParts Mistake

@@ -7,7 +7,7 @@ use Rattle.paw_base.specs.Bytes.{Name, Token}
 use Rattle.paw_base.specs.declared.fault.SourceKind.TheVariants.{TooBig}
 use Rattle.paw_author.specs.declared.fragment.Origin.{Origin}
 use Rattle.paw_author.specs.declared.known.NameKind.{NameKind}
-use Rattle.paw_author.specs.declared.known.NameKind.TheVariants.{Flag, Number, Location, Object, Message, System, Table, Word}
+use Rattle.paw_author.specs.declared.known.NameKind.TheVariants.{Flag, Number, Location, Object, Message, System, Table}
 use Rattle.paw_author.specs.declared.mistake.Mistake.{Mistake}
 use Rattle.paw_author.specs.Mistakes.{wrong_line}
 use Rattle.paw_author.specs.Tokens.{is_same}
@@ -31,7 +31,6 @@ kind_index Object = 3
 kind_index Message = 4
 kind_index System = 5
 kind_index Table = 6
-kind_index Word = 7
 
 -- The number of the first name for which a test holds.
 abbrev pub number_where : (KnownName → Bool) → KnownNames → Option ℕ
@@ -45,13 +44,9 @@ is_known_as kind word k = kind_index k.kind == kind_index kind && is_same k.name
 abbrev pub number_for : NameKind → Token → KnownNames → Option ℕ
 number_for kind word known = number_where (is_known_as kind word) known
 
--- Whether a name is this word, and not one of the vocabulary.
-abbrev pub is_known_name : Token → KnownName → Bool
-is_known_name word k = not (kind_index k.kind == kind_index Word) && is_same k.name word
-
--- The number that a word stands for as a name of any kind. The words of the vocabulary are no names.
+-- The number that a word stands for as a name of any kind.
 abbrev pub number_of_any : Token → KnownNames → Option ℕ
-number_of_any word known = number_where (λ k. is_known_name word k) known
+number_of_any word known = number_where (λ k. is_same k.name word) known
 
 -- Whether a byte may stand in a name after its first letter.
 abbrev pub may_be_in_name : ℕ → Bool

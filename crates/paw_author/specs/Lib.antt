@@ -12,11 +12,8 @@ pub mod Joining
 pub mod Hooks
 pub mod Known
 pub mod TableNumbers
-pub mod Sums
-pub mod Words
 pub mod NamedLines
 pub mod NameRows
-pub mod WordRows
 pub mod Order
 pub mod PlainSources
 pub mod Authored

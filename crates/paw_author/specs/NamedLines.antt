@@ -1,6 +1,6 @@
 -- Lines with numbers in the place of names.
-use Rattle.std.specs.Prelude.{ℕ, ◌+◌, ◌-◌, ◌*◌, ◌==◌, ◌&&◌, ◌||◌, Bool, true, false, not, List, [], ◌∷◌, ◌++◌, count_by, drop, map}
-use Rattle.std.specs.Prelude.{if◌then◌else◌, Option, Some, None, decimal, replicate}
+use Rattle.std.specs.Prelude.{ℕ, ◌-◌, ◌==◌, ◌&&◌, ◌||◌, Bool, true, false, not, List, [], ◌∷◌, ◌++◌, drop, map}
+use Rattle.std.specs.Prelude.{if◌then◌else◌, Option, Some, None, decimal}
 use Rattle.paw_base.specs.Bytes.{Bytes, Token}
 use Rattle.paw_base.specs.Condacts.{code_named, first_kind, second_kind}
 use Rattle.paw_base.specs.declared.rows.ParamKind.{ParamKind}
@@ -10,34 +10,24 @@ use Rattle.paw_author.specs.declared.sections.TheConstants.{WORDS, EXITS, OBJECT
 use Rattle.paw_author.specs.declared.units.UnitKind.{UnitKind}
 use Rattle.paw_author.specs.declared.units.UnitKind.TheVariants.{Item}
 use Rattle.paw_author.specs.Fragments.{WithOrigin, Fragments, LinesInParts}
-use Rattle.paw_author.specs.Hooks.{first_line}
 use Rattle.paw_author.specs.Known.{KnownNames, number_for, number_of_any}
 use Rattle.paw_author.specs.Sections.{is_number, is_table_section}
-use Rattle.paw_author.specs.Sums.{line_summed}
 use Rattle.paw_author.specs.TableNumbers.{is_numbered}
-use Rattle.paw_author.specs.Tokens.{is_token, starts_with_byte, token_count}
+use Rattle.paw_author.specs.Tokens.{is_token, starts_with_byte}
 use Rattle.paw_author.specs.Units.{UnitLines, is_data_unit}
-use Rattle.paw_author.specs.Words.{letters_of, quoted_word, is_quoted_word}
 
 -- ---- tokens ----
 
--- The number that a word stands for where any number may stand: a word in quotes has its value.
-abbrev pub any_number : Token → KnownNames → Option ℕ
-any_number word known =
-    if is_quoted_word word then number_for name.Word (letters_of (quoted_word word)) known else number_of_any word known
-
--- The number that a word stands for as a parameter of this kind. Words of the vocabulary stand for none. What is added to
--- a parameter is none itself, and has the name of a number.
+-- The number that a word stands for as a parameter of this kind. Words of the vocabulary stand for none.
 abbrev pub number_meant : ParamKind → Token → KnownNames → Option ℕ
 number_meant param.Location word known = number_for name.Location word known
 number_meant param.Place word known = number_for name.Location word known
 number_meant param.Object word known = number_for name.Object word known
 number_meant param.Flag word known = number_for name.Flag word known
-number_meant param.Number word known = any_number word known
+number_meant param.Number word known = number_of_any word known
 number_meant param.Message word known = number_for name.Message word known
 number_meant param.System word known = number_for name.System word known
 number_meant param.Table word known = number_for name.Table word known
-number_meant param.Absent word known = number_for name.Number word known
 number_meant _ word known = None
 
 -- A number in decimal after these bytes; the word itself where it stands for none.
@@ -68,11 +58,11 @@ abbrev pub kinds_behind : List ParamKind → Token → List ParamKind
 kinds_behind [] word = kinds_of (code_named word)
 kinds_behind (kind ∷ kinds) word = kinds
 
--- The parameters that are still to come after a part; after `+` stands what is added.
+-- The parameters that are still to come after a part; `+` has a number after it.
 abbrev pub kinds_left : List ParamKind → Bytes → List ParamKind
 kinds_left kinds part =
     if not (is_token part) then kinds
-    else if starts_with_byte 43 part then param.Absent ∷ kinds
+    else if starts_with_byte 43 part then param.Number ∷ kinds
     else kinds_behind kinds part
 
 -- The bytes of a part where these parameters are still to come.
@@ -85,10 +75,6 @@ unfoldable pub line_named : KnownNames → List ParamKind → Fragments → Frag
 line_named known kinds [] = []
 line_named known kinds (part ∷ parts) =
     record part { bytes = part_named known kinds part.bytes } ∷ line_named known (kinds_left kinds part.bytes) parts
-
--- A line with numbers in the place of names, and with each sum in one number.
-abbrev pub line_numbered : KnownNames → List ParamKind → Fragments → Fragments
-line_numbered known kinds line = line_summed (line_named known kinds line)
 
 -- Before the condacts of the first line of an entry stand two words.
 abbrev pub two_words : List ParamKind
@@ -106,7 +92,7 @@ is_item _ = false
 -- The lines of an entry.
 abbrev pub entry_named : KnownNames → LinesInParts → LinesInParts
 entry_named known [] = []
-entry_named known (line ∷ lines) = line_numbered known two_words line ∷ map (λ more. line_numbered known [] more) lines
+entry_named known (line ∷ lines) = line_named known two_words line ∷ map (λ more. line_named known [] more) lines
 
 -- ---- headers of tables ----
 
@@ -138,18 +124,10 @@ first_line_named number (line ∷ lines) = header_named number line ∷ lines
 abbrev pub is_table_entry : UnitLines → Bool
 is_table_entry u = is_table_section u.section && is_data_unit u.kind
 
--- How many words stand before the value of a row of words: the token before the last one, or a sum.
-abbrev pub words_before : Fragments → ℕ
-words_before line = token_count line - (2 + 2 * count_by (λ part. starts_with_byte 43 part.bytes) line)
-
--- What the tokens of a row of words name, where so many words stand before its value. Without a word before it, it is one.
-abbrev pub word_kinds : ℕ → List ParamKind
-word_kinds words = if words == 0 then some_words else replicate words param.Noun ++ param.Number ∷ some_words
-
 -- What the tokens of a row name, by its section. Where no numbers stand, all are words.
-abbrev pub data_kinds : ℕ → Fragments → List ParamKind
-data_kinds section line =
-    if section == WORDS then word_kinds (words_before line)
+abbrev pub data_kinds : ℕ → List ParamKind
+data_kinds section =
+    if section == WORDS then param.Noun ∷ param.Number ∷ some_words
     else if section == EXITS then param.Noun ∷ param.Location ∷ some_words
     else if section == OBJECTS then param.Object ∷ param.Place ∷ param.Number ∷ some_words
     else some_words
@@ -157,7 +135,7 @@ data_kinds section line =
 -- The lines of a row: its first line has its tokens.
 abbrev pub data_named : KnownNames → List ParamKind → LinesInParts → LinesInParts
 data_named known kinds [] = []
-data_named known kinds (line ∷ lines) = line_numbered known kinds line ∷ lines
+data_named known kinds (line ∷ lines) = line_named known kinds line ∷ lines
 
 -- Whether a unit is a row of words, exits or objects.
 abbrev pub has_numbers : UnitLines → Bool
@@ -185,7 +163,7 @@ item_named known (line ∷ lines) = mark_line known line ∷ lines
 -- The lines of a unit outside of tables.
 abbrev pub other_lines : KnownNames → UnitLines → LinesInParts
 other_lines known u =
-    if has_numbers u then data_named known (data_kinds u.section (first_line u)) u.lines
+    if has_numbers u then data_named known (data_kinds u.section) u.lines
     else if is_exits_item u then item_named known u.lines
     else u.lines
 

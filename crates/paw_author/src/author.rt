@@ -2,8 +2,7 @@
 
 ghost use Rattle.std.specs.Prelude.{◌≡◌, ◌<◌, true, false, length, IfOk, MatchOption};
 ghost use Rattle.paw_read_error.specs.inner.Gives.{Gives};
-ghost use Rattle.paw_author.specs.Authored.{is_plain_file, named_lines, lines_with_tables, lines_with_words, worded_lines};
-ghost use Rattle.paw_author.specs.Authored.{hooked_lines, lines_of_units, joined_lines, plain_lines, IsAnswered};
+ghost use Rattle.paw_author.specs.Authored.{is_plain_file, named_lines, lines_with_tables, hooked_lines, lines_of_units, joined_lines, plain_lines, IsAnswered};
 ghost use Rattle.paw_author.specs.FileLines.{file_lines};
 
 use crate::file::{File, Switch};
@@ -20,8 +19,6 @@ use crate::order::in_order;
 use crate::plain_sources::is_plain_source;
 use crate::table_numbers::{tables_known, units_numbered};
 use crate::units::Unit;
-use crate::word_rows::{WordsRead, add_word_names, words_given};
-use crate::words::Declared;
 use paw_base::limits::SOURCE_LIMIT;
 use std::alloc::{AllocError, Global};
 use std::marker::Model;
@@ -86,36 +83,6 @@ fn lines_with_tables(
     named_lines(alloc, files, hooks, known, numbered)
 }
 
-// The lines of units, where words are declared.
-fn lines_with_words(
-    alloc: Global,
-    files: usize,
-    hooks: &[HookName],
-    known: Vec<Known>,
-    declared: &[Declared],
-    units: Vec<Unit>,
-) -> Result<Vec<LineInParts>, AuthorError>
-    ensures gives { Gives (λ lines. lines.items) result (lines_with_words files hooks.now known.items declared.now units.items) }
-{
-    let mut more = known;
-    add_word_names(alloc, declared, &mut more)?;
-    lines_with_tables(alloc, files, hooks, more.as_slice(), units)
-}
-
-// The lines of units, where tables have these names and words are to be declared.
-fn worded_lines(
-    alloc: Global,
-    files: usize,
-    hooks: &[HookName],
-    known: Vec<Known>,
-    units: Vec<Unit>,
-) -> Result<Vec<LineInParts>, AuthorError>
-    ensures gives { Gives (λ lines. lines.items) result (worded_lines files hooks.now known.items units.items) }
-{
-    let WordsRead { declared, units } = words_given(alloc, known.as_slice(), units)?;
-    lines_with_words(alloc, files, hooks, known, declared.as_slice(), units)
-}
-
 // The lines of units, where places have these names.
 fn hooked_lines(
     alloc: Global,
@@ -127,7 +94,7 @@ fn hooked_lines(
 {
     let names = names_known(alloc, units.as_slice())?;
     let known = tables_known(alloc, hooks, names, units.as_slice())?;
-    worded_lines(alloc, files, hooks, known, units)
+    lines_with_tables(alloc, files, hooks, known.as_slice(), units)
 }
 
 // The lines of these units of a number of files.

@@ -173,11 +173,8 @@ pub(crate) fn hooks_known(hooks: &[HookName], all: &[Unit]) -> Result<(), Author
 
 // ---- lines ----
 
-/// The same bytes with the same origin.
-///
-/// # Errors
-/// Where there is no memory.
-pub(crate) fn copy_of_part(alloc: Global, part: &Fragment) -> Result<Fragment, AllocError>
+// The same bytes with the same origin.
+fn copy_of_part(alloc: Global, part: &Fragment) -> Result<Fragment, AllocError>
     ensures value { IfOk result (λ copy. copy ≡ part.now) }
 {
     Ok(Fragment {

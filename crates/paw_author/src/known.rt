@@ -3,7 +3,7 @@
 ghost use Rattle.std.specs.Prelude.{◌≡◌, ◌+◌, ◌<◌, ◌^◌, ◌==◌, IfOk};
 ghost use Rattle.std.specs.List.{list_all, list_any};
 ghost use Rattle.paw_author.specs.Tokens.{is_same};
-ghost use Rattle.paw_author.specs.Known.{KnownName, kind_index, is_known_as, is_known_name, number_for, number_of_any, may_be_in_name, may_be_name};
+ghost use Rattle.paw_author.specs.Known.{KnownName, kind_index, is_known_as, number_for, number_of_any, may_be_in_name, may_be_name};
 ghost use Rattle.paw_author.specs.Known.{is_in_use, least_free, name_for, with_given, given_unless, given_once};
 ghost use Rattle.paw_read_error.specs.inner.Gives.{Gives};
 
@@ -25,7 +25,6 @@ pub(crate) enum NameKind {
     Message,
     System,
     Table,
-    Word,
 }
 
 /// A name: what it is the name of, and the number of that.
@@ -56,7 +55,6 @@ pub(crate) fn kind_index(kind: NameKind) -> u8
         NameKind::Message => 4,
         NameKind::System => 5,
         NameKind::Table => 6,
-        NameKind::Word => 7,
     }
 }
 
@@ -74,13 +72,6 @@ fn is_known_as(kind: NameKind, word: &[u8], known: &Known) -> bool
     kind_index(known.kind) == kind_index(kind) && is_known(word, known)
 }
 
-// Whether a name is this word, and not one of the vocabulary.
-fn is_known_name(word: &[u8], known: &Known) -> bool
-    ensures value { result ≡ is_known_name word.now known.now }
-{
-    kind_index(known.kind) != kind_index(NameKind::Word) && is_known(word, known)
-}
-
 /// The number that a word stands for as a name of this kind.
 pub(crate) fn number_for(kind: NameKind, word: &[u8], known: &[Known]) -> Option<u16>
     ensures value { result ≡ number_for kind word.now known.now }
@@ -95,7 +86,7 @@ pub(crate) fn number_for(kind: NameKind, word: &[u8], known: &[Known]) -> Option
 pub(crate) fn number_of_any(word: &[u8], known: &[Known]) -> Option<u16>
     ensures value { result ≡ number_of_any word.now known.now }
 {
-    match known.iter().find(|k| is_known_name(word, *k)) {
+    match known.iter().find(|k| is_known(word, *k)) {
         Some(k) => Some(k.number),
         None => None,
     }

@@ -18,14 +18,10 @@ mod order;
 mod parts;
 mod plain_sources;
 mod sections;
-mod sums;
 mod table_numbers;
 #[cfg(test)]
 mod tests;
 mod tokens;
 mod units;
-mod word_lines;
-mod word_rows;
-mod words;
 
 pub use author::plain_lines;

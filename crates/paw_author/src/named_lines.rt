@@ -1,41 +1,24 @@
 // Lines with numbers in the place of names.
 
-ghost use Rattle.std.specs.Prelude.{◌≡◌, ◌++◌, [], ◌∷◌, IfOk, count_by, decimal, map};
-ghost use Rattle.paw_base.specs.declared.rows.ParamKind.TheVariants as param;
-ghost use Rattle.paw_author.specs.NamedLines.{any_number, number_meant, word_or_number, parameter_named, kind_list, kinds_of};
+ghost use Rattle.std.specs.Prelude.{◌≡◌, ◌++◌, [], ◌∷◌, IfOk, decimal, map};
+ghost use Rattle.paw_author.specs.NamedLines.{number_meant, word_or_number, parameter_named, kind_list, kinds_of};
 ghost use Rattle.paw_author.specs.NamedLines.{kinds_left, part_named, line_named, two_words, entry_named, number_part, without_name, header_named};
 ghost use Rattle.paw_author.specs.NamedLines.{first_line_named, is_table_entry, unit_named, some_words, data_kinds, data_named, has_numbers, is_exits_item};
-ghost use Rattle.paw_author.specs.NamedLines.{line_numbered, words_before, word_kinds, mark_named, mark_line, item_named, other_lines};
-ghost use Rattle.paw_author.specs.Hooks.{first_line};
-ghost use Rattle.paw_author.specs.Tokens.{starts_with_byte};
+ghost use Rattle.paw_author.specs.NamedLines.{mark_named, mark_line, item_named, other_lines};
 ghost use Rattle.paw_base.specs.Condacts.{code_named};
 
 use crate::fragment::{Fragment, LineInParts};
-use crate::hooks::first_line;
 use crate::known::{Known, NameKind, number_for, number_of_any};
 use crate::sections::{EXITS, OBJECTS, WORDS, is_number, is_table_section};
-use crate::sums::line_summed;
 use crate::table_numbers::{is_numbered, table_number};
-use crate::tokens::{are_token, is_token, starts_with_byte, token_count, without_first};
+use crate::tokens::{are_token, is_token, starts_with_byte, without_first};
 use crate::units::{Unit, UnitKind};
-use crate::words::{is_quoted_word, letters_of, quoted_word};
 use itoa::Buffer;
 use paw_base::rows::{ParamKind, condact_named, condact_row};
 use std::alloc::{AllocError, Global};
 use std::collections::VecDeque;
 
 // ---- tokens ----
-
-// The number that a word stands for where any number may stand.
-fn any_number(word: &[u8], known: &[Known]) -> Option<u16>
-    ensures value { result ≡ any_number word.now known.now }
-{
-    if is_quoted_word(word) {
-        number_for(NameKind::Word, letters_of(quoted_word(word)), known)
-    } else {
-        number_of_any(word, known)
-    }
-}
 
 // The number that a word stands for as a parameter of this kind.
 fn number_meant(kind: ParamKind, word: &[u8], known: &[Known]) -> Option<u16>
@@ -45,20 +28,16 @@ fn number_meant(kind: ParamKind, word: &[u8], known: &[Known]) -> Option<u16>
         ParamKind::Location | ParamKind::Place => number_for(NameKind::Location, word, known),
         ParamKind::Object => number_for(NameKind::Object, word, known),
         ParamKind::Flag => number_for(NameKind::Flag, word, known),
-        ParamKind::Number => any_number(word, known),
+        ParamKind::Number => number_of_any(word, known),
         ParamKind::Message => number_for(NameKind::Message, word, known),
         ParamKind::System => number_for(NameKind::System, word, known),
         ParamKind::Table => number_for(NameKind::Table, word, known),
-        ParamKind::Absent => number_for(NameKind::Number, word, known),
         _ => None,
     }
 }
 
-/// Puts a number in decimal after bytes.
-///
-/// # Errors
-/// Where there is no memory.
-pub(crate) fn put_number(number: u16, bytes: &mut Vec<u8>) -> Result<(), AllocError>
+// Puts a number in decimal after bytes.
+fn put_number(number: u16, bytes: &mut Vec<u8>) -> Result<(), AllocError>
     ensures value { IfOk result (λ _. bytes.new.items ≡ bytes.old.items ++ decimal number) }
 {
     let mut digits = Buffer::new();
@@ -142,7 +121,7 @@ pub(crate) fn pass_part(part: &[u8], kinds: &mut VecDeque<ParamKind>) -> Result<
         return Ok(());
     }
     if starts_with_byte(b'+', part) {
-        kinds.push_front(ParamKind::Absent)?;
+        kinds.push_front(ParamKind::Number)?;
         return Ok(());
     }
     match kinds.pop_front() {
@@ -197,18 +176,6 @@ fn line_named(
     Ok(LineInParts { parts: named })
 }
 
-// A line with numbers in the place of names, and with each sum in one number.
-fn line_numbered(
-    alloc: Global,
-    known: &[Known],
-    kinds: VecDeque<ParamKind>,
-    line: LineInParts,
-) -> Result<LineInParts, AllocError>
-    ensures value { IfOk result (λ numbered. numbered ≡ line_numbered known.now kinds.items line) }
-{
-    line_summed(alloc, line_named(alloc, known, kinds, line)?)
-}
-
 /// Two words, which stand before the condacts of an entry.
 ///
 /// # Errors
@@ -229,12 +196,12 @@ fn more_named(
     lines: VecDeque<LineInParts>,
     before: Vec<LineInParts>,
 ) -> Result<Vec<LineInParts>, AllocError>
-    ensures value { IfOk result (λ named. named.items ≡ before.items ++ map (λ line. line_numbered known.now [] line) lines.items) }
+    ensures value { IfOk result (λ named. named.items ≡ before.items ++ map (λ line. line_named known.now [] line) lines.items) }
 {
     let mut left = lines;
     let mut named = before;
     while let Some(line) = left.pop_front() {
-        named.push(line_numbered(alloc, known, VecDeque::new(alloc), line)?)?;
+        named.push(line_named(alloc, known, VecDeque::new(alloc), line)?)?;
     }
     Ok(named)
 }
@@ -252,7 +219,7 @@ fn entry_named(
     match left.pop_front() {
         None => Ok(named),
         Some(line) => {
-            named.push(line_numbered(alloc, known, two_words(alloc)?, line)?)?;
+            named.push(line_named(alloc, known, two_words(alloc)?, line)?)?;
             more_named(alloc, known, left, named)
         }
     }
@@ -407,84 +374,24 @@ fn add_words(kinds: &mut VecDeque<ParamKind>) -> Result<(), AllocError>
     Ok(())
 }
 
-// How many `+` a line has.
-fn plus_count(line: &[Fragment]) -> usize
-    ensures value { result ≡ count_by (λ part. starts_with_byte 43 part.bytes) line.now }
-{
-    line.iter()
-        .filter(|part| starts_with_byte(b'+', part.bytes.as_slice()))
-        .count()
-}
-
-// How many words stand before the value of a row of words.
-fn words_before(line: &[Fragment]) -> usize
-    ensures value { result ≡ words_before line.now }
-{
-    token_count(line).saturating_sub(plus_count(line).saturating_mul(2).saturating_add(2))
-}
-
-// What the tokens of a row of words name, where so many words stand before its value.
-fn word_kinds(alloc: Global, words: usize) -> Result<VecDeque<ParamKind>, AllocError>
-    ensures value { IfOk result (λ kinds. kinds.items ≡ word_kinds words) }
+// What the tokens of a row name, by its section.
+fn data_kinds(alloc: Global, section: usize) -> Result<VecDeque<ParamKind>, AllocError>
+    ensures value { IfOk result (λ kinds. kinds.items ≡ data_kinds section) }
 {
     let mut kinds = VecDeque::new(alloc);
-    if words > 0 {
-        kinds = VecDeque::from(vec![in alloc; ParamKind::Noun; words]?);
+    if section == WORDS {
+        kinds.push_back(ParamKind::Noun)?;
+        kinds.push_back(ParamKind::Number)?;
+    } else if section == EXITS {
+        kinds.push_back(ParamKind::Noun)?;
+        kinds.push_back(ParamKind::Location)?;
+    } else if section == OBJECTS {
+        kinds.push_back(ParamKind::Object)?;
+        kinds.push_back(ParamKind::Place)?;
         kinds.push_back(ParamKind::Number)?;
     }
     add_words(&mut kinds)?;
     Ok(kinds)
-}
-
-// What the tokens of a row of exits name.
-fn exit_kinds(alloc: Global) -> Result<VecDeque<ParamKind>, AllocError>
-    ensures value { IfOk result (λ kinds. kinds.items ≡ param.Noun ∷ param.Location ∷ some_words) }
-{
-    let mut kinds = VecDeque::new(alloc);
-    kinds.push_back(ParamKind::Noun)?;
-    kinds.push_back(ParamKind::Location)?;
-    add_words(&mut kinds)?;
-    Ok(kinds)
-}
-
-// What the tokens of a row of objects name.
-fn object_kinds(alloc: Global) -> Result<VecDeque<ParamKind>, AllocError>
-    ensures value { IfOk result (λ kinds. kinds.items ≡ param.Object ∷ param.Place ∷ param.Number ∷ some_words) }
-{
-    let mut kinds = VecDeque::new(alloc);
-    kinds.push_back(ParamKind::Object)?;
-    kinds.push_back(ParamKind::Place)?;
-    kinds.push_back(ParamKind::Number)?;
-    add_words(&mut kinds)?;
-    Ok(kinds)
-}
-
-// What the tokens of a row name, by its section.
-fn data_kinds(
-    alloc: Global,
-    section: usize,
-    line: &[Fragment],
-) -> Result<VecDeque<ParamKind>, AllocError>
-    ensures value { IfOk result (λ kinds. kinds.items ≡ data_kinds section line.now) }
-{
-    if section == WORDS {
-        word_kinds(alloc, words_before(line))
-    } else if section == EXITS {
-        exit_kinds(alloc)
-    } else if section == OBJECTS {
-        object_kinds(alloc)
-    } else {
-        let mut kinds = VecDeque::new(alloc);
-        add_words(&mut kinds)?;
-        Ok(kinds)
-    }
-}
-
-// What the tokens of a row name.
-fn kinds_of_row(alloc: Global, u: &Unit) -> Result<VecDeque<ParamKind>, AllocError>
-    ensures value { IfOk result (λ kinds. kinds.items ≡ data_kinds u.now.section (first_line u.now)) }
-{
-    data_kinds(alloc, u.section, first_line(u))
 }
 
 // The lines of a row.
@@ -498,7 +405,7 @@ fn data_named(
 {
     let mut left = VecDeque::from(lines);
     if let Some(line) = left.pop_front() {
-        left.push_front(line_numbered(alloc, known, kinds, line)?)?;
+        left.push_front(line_named(alloc, known, kinds, line)?)?;
     }
     Ok(Vec::from(left))
 }
@@ -513,9 +420,8 @@ fn has_numbers(u: &Unit) -> bool
 
 // A row with numbers in the place of names.
 fn data_unit(alloc: Global, known: &[Known], u: Unit) -> Result<Unit, AllocError>
-    ensures value { IfOk result (λ named. named ≡ record u { lines = data_named known.now (data_kinds u.section (first_line u)) u.lines }) }
+    ensures value { IfOk result (λ named. named ≡ record u { lines = data_named known.now (data_kinds u.section) u.lines }) }
 {
-    let kinds = kinds_of_row(alloc, &u)?;
     let Unit {
         section,
         table,
@@ -523,6 +429,7 @@ fn data_unit(alloc: Global, known: &[Known], u: Unit) -> Result<Unit, AllocError
         kind,
         lines,
     } = u;
+    let kinds = data_kinds(alloc, section)?;
     let lines = data_named(alloc, known, kinds, lines)?;
     Ok(Unit {
         section,
@@ -615,11 +522,8 @@ fn other_named(alloc: Global, known: &[Known], u: Unit) -> Result<Unit, AllocErr
     }
 }
 
-/// A unit with numbers in the place of names.
-///
-/// # Errors
-/// Where there is no memory.
-pub(crate) fn unit_named(alloc: Global, known: &[Known], u: Unit) -> Result<Unit, AllocError>
+// A unit with numbers in the place of names.
+fn unit_named(alloc: Global, known: &[Known], u: Unit) -> Result<Unit, AllocError>
     ensures value { IfOk result (λ named. named ≡ unit_named known.now u) }
 {
     if is_table_entry(&u) {
