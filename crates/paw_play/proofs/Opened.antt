@@ -14,14 +14,11 @@ module _ {F : Type 0} (g : Story) (whole after : EndingOf) (now : Lines) (next :
 
   reads_on : (found : Step) → next.last ≡ found → IsStanding found → PlaysTo g after found next pieces traces →
       (ts : List (List StepRow)) × ReadsOn g (λ lines. whole (now ++ lines)) next.last next (pieces ++ next.piece ∷ []) ts
-  reads_on (step.Waits p) last shows plays =
-      let on = subst (λ s. ReadsOn g (λ lines. whole (now ++ lines)) s next (pieces ++ next.piece ∷ []) (traces ++ plays.0 ∷ [])) (sym last)
-      (λ lines. goes lines ∙ plays.1.1 lines) in (traces ++ plays.0 ∷ [], on)
-  reads_on step.Ended last shows plays =
-      let on = subst (λ s. ReadsOn g (λ lines. whole (now ++ lines)) s next (pieces ++ next.piece ∷ []) (traces ++ plays.0 ∷ [])) (sym last)
-      (λ lines. goes lines ∙ plays.1.1 lines) in (traces ++ plays.0 ∷ [], on)
   reads_on (step.Spent kind) last shows plays = absurd shows
   reads_on (step.TooDeep table) last shows plays = absurd shows
+  reads_on _ last shows plays =
+      let on = subst (λ s. ReadsOn g (λ lines. whole (now ++ lines)) s next (pieces ++ next.piece ∷ []) (traces ++ plays.0 ∷ [])) (sym last)
+      (λ lines. goes lines ∙ plays.1.1 lines) in (traces ++ plays.0 ∷ [], on)
 
   module _ (found : Step) (last : next.last ≡ found) (shows : IsStanding found) (plays : PlaysTo g after found next pieces traces) where
     machine_stands : StandsClosed found next.machine
@@ -51,8 +48,6 @@ step_halts : {F : Type 0} (g : Story) (whole after : EndingOf) (now : Lines) (ne
     end_if_no_piece found ≡ Some o → (P : PlayEnd → Type 0) →
     ((kind : _) → HaltsAfter whole now text (halt.Spent kind) → P (end.Spent kind)) →
     ((table : ℕ) → HaltsAfter whole now text (halt.TooDeep table) → P (end.TooDeep table)) → P o
-step_halts g whole after now next pieces traces text lines all is (step.Waits p) o plays e P spent deep = cc
-step_halts g whole after now next pieces traces text lines all is step.Ended o plays e P spent deep = cc
 step_halts g whole after now next pieces traces text lines all is (step.Spent kind) o plays e P spent deep =
     let k : end.Spent kind ≡ o = cc in
     let r = plays.1 [] in
@@ -61,6 +56,7 @@ step_halts g whole after now next pieces traces text lines all is (step.TooDeep 
     let k : end.TooDeep table ≡ o = cc in
     let r = plays.1 [] in
     subst P k (deep table (r.0, all ∙ r.1, r.4, ap concat r.2 ∙ sym is))
+step_halts g whole after now next pieces traces text lines all is _ o plays e P spent deep = cc
 
 -- ---- where a player has played some lines ----
 

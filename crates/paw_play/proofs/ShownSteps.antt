@@ -80,8 +80,7 @@ shown_more showing next pieces traces steps each keeps kept =
 pub shows_piece : (found : Step) → None ≡ end_if_no_piece found → IsStanding found
 shows_piece (step.Waits p) h = tt
 shows_piece step.Ended h = tt
-shows_piece (step.Spent kind) h = cc
-shows_piece (step.TooDeep table) h = cc
+shows_piece _ h = cc
 
 -- What holds of a player that stands holds where playing goes on.
 pub may_if_none : {P : Type 0} (found : Step) (o : Option PlayEnd) → o ≡ end_if_no_piece found → (IsStanding found → P) → IfNone o P

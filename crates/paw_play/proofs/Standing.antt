@@ -140,8 +140,6 @@ is_shown g name bytes _ (from_played seed es played stands) =
 
 never_refused : (g : Story) (digests : Digests) (bytes state piece : Bytes) (r : JournalRefusal) → IsOfStory g digests →
     recover bytes ≡ Shown digests state piece → ¬ Refuses (story_digests g) bytes r
-never_refused g digests bytes state piece (refusal.Unmade n mark) of is h = cc
-never_refused g digests bytes state piece (refusal.Damaged part at) of is h = cc
 never_refused g digests bytes state piece (refusal.WrongGame kept found) of is h =
     let one : h.0 ≡ digests = (same_shown h.0 digests h.1 h.2 state piece (sym h.3 ∙ is)).0 in
     h.5 (h.4 ∙ ap (λ (d : Digests). d.game) one ∙ of.of_game)
@@ -153,6 +151,7 @@ never_refused g digests bytes state piece (refusal.WrongRoutines kept found) of 
       | inr own ↦ h.7 (mine ∙ own)
     ]
 never_refused g digests bytes state piece (refusal.Outside c) of is h = h
+never_refused g digests bytes state piece _ of is h = cc
 
 -- A buffer that begins with the bytes of a state is fit.
 is_fit : (g : GameLists) (d e : Digests) (bytes buffer piece q : Bytes) (st : State) → ShowsState g d bytes st q →

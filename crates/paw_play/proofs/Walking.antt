@@ -73,10 +73,8 @@ pub on_waits : (g : Story) (p : Prompt) (m : OpenTables) (r : Run) → StandsAt 
 unfolding at_main
 on_waits g prompt.Main m r h = ap (λ fs. going_on_from g prompt.Main (reverse fs) (record r { events = [] })) h.frames
     ∙ ap (λ fs. WaitsAt prompt.Main (reverse fs) (record r { events = [] })) (sym h.frames)
-on_waits g prompt.Quit m r h = rw (path_waits g prompt.Quit 0 (reverse m.frames) r (some_path m.frames h.tables.tables.some)) refl
-on_waits g prompt.Again m r h = rw (path_waits g prompt.Again 0 (reverse m.frames) r (some_path m.frames h.tables.tables.some)) refl
-on_waits g prompt.Key m r h = rw (path_waits g prompt.Key 0 (reverse m.frames) r (some_path m.frames h.tables.tables.some)) refl
 on_waits g prompt.Over m r h = absurd h
+on_waits g p m r h = rw (path_waits g p 0 (reverse m.frames) r (some_path m.frames h.tables.tables.some)) refl
 
 -- ---- a step ----
 
@@ -94,8 +92,7 @@ text_shown showing g whole step.Ended next pieces traces each keeps h m plays =
     let r : Run = run_at next (pieces ++ next.piece ∷ []) (traces ++ plays.0 ∷ []) [] in
     ap (λ e. text_of (shown_ending showing e)) (plays.1.1 []) ∙ ap text_of (halts_shown showing halt.Over r)
     ∙ shown_more showing next pieces traces plays.0 each keeps plays.1.0
-text_shown showing g whole (step.Spent kind) next pieces traces each keeps h m plays = absurd h
-text_shown showing g whole (step.TooDeep u) next pieces traces each keeps h m plays = absurd h
+text_shown showing g whole _ next pieces traces each keeps h m plays = absurd h
 
 -- Nothing more is shown.
 pub shown_nothing : (mid : Standing) → mid ≡ record mid { shown = mid.shown ++ [] }
