@@ -16,10 +16,9 @@ kept_shown k steps keeps e =
 traced_more : (pieces : Texts) (traces : List (List StepRow)) (piece : Text) (steps : List StepRow) → length traces ≡ length pieces →
     traced_pieces (pieces ++ piece ∷ []) (traces ++ steps ∷ []) ≡ traced_pieces pieces traces ++ (steps_text steps ++ piece) ∷ []
 traced_more [] [] piece steps each = refl
-traced_more [] (t ∷ traces) piece steps each = absurd (omega (arith, each))
-traced_more (p ∷ pieces) [] piece steps each = absurd (omega (arith, each))
 traced_more (p ∷ pieces) (t ∷ traces) piece steps each =
     ap (λ xs. (steps_text t ++ p) ∷ xs) (traced_more pieces traces piece steps (omega (arith, each)))
+traced_more pieces traces piece steps each = absurd (omega (arith, each))
 
 -- One piece more of a player.
 pub pieces_more : {F : Type 0} (showing : ShowSteps) (next : PlayerView F) (pieces : Texts) (traces : List (List StepRow)) (steps : List StepRow) →
