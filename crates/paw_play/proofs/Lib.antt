@@ -1,5 +1,5 @@
 mod Names
-mod Doing
+pub mod Doing
 pub mod Halts
 mod ShownSteps
 pub mod Walking

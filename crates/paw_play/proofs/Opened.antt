@@ -109,38 +109,29 @@ module _ {F : Type 0} {g : Story} {whole : EndingOf} {taken : Lines} {seat : Pla
     text_is : text_of (whole taken) ≡ concat h.pieces
     text_is = ap text_of (waits_here p last seated)
 
-    next_brings : IsStanding found → Brings g whole events taken line next
-    next_brings shows =
+    pub next_played : (o : Option PlayEnd) → o ≡ end_if_no_piece found → MatchOption o (Brings g whole events taken line next)
+        (StopsAt whole events taken line)
+    next_played None e =
+        let shows = shows_piece found e in
         let more = step_played g whole _ (taken ++ line ∷ []) next h.pieces h.traces then_seated goes_then found is shows plays (text_of (whole taken)) text_is in
         let keeps = step_keeps g whole _ (taken ++ line ∷ []) next h.pieces h.traces then_seated goes_then found is shows plays in
         (few, waits, more, keeps, stays shows more)
-
-    next_stops : (o : PlayEnd) → end_if_no_piece found ≡ Some o → StopsAt whole events taken line o
-    next_stops o e =
+    next_played (Some o) e =
         step_halts g whole _ (taken ++ line ∷ []) next h.pieces h.traces (text_of (whole taken)) []
-        (ap whole (sym (append-nil (taken ++ line ∷ []))) ∙ goes_then []) text_is found o plays e (StopsAt whole events taken line)
+        (ap whole (sym (append-nil (taken ++ line ∷ []))) ∙ goes_then []) text_is found o plays (sym e) (StopsAt whole events taken line)
         (λ kind k. (few, waits, k)) (λ table k. (few, waits, k))
-
-    pub next_played : (o : Option PlayEnd) → o ≡ end_if_no_piece found → MatchOption o (Brings g whole events taken line next)
-        (StopsAt whole events taken line)
-    next_played None e = next_brings (shows_piece found e)
-    next_played (Some o) e = next_stops o (sym e)
 
 -- ---- the piece before the first line ----
 
 module _ {F : Type 0} (g : Story) (whole : EndingOf) (found : Step) (next : PlayerView F) (is : next.last ≡ found) (seated : IsSeated next)
     (plays : PlaysTo g whole found next [] []) where
-  pub first_brings : IsStanding found → HasPlayed g whole [] next [] next.piece × HoldsPlayer whole [] next
-  first_brings shows =
+  pub first_played : (o : Option PlayEnd) → o ≡ end_if_no_piece found → PlaysFirst g whole next o
+  first_played None e =
+      let shows = shows_piece found e in
       let more = step_played g whole whole [] next [] [] seated (λ lines. refl) found is shows plays [] refl in
       (more, step_keeps g whole whole [] next [] [] seated (λ lines. refl) found is shows plays)
-
-  pub first_stops : (o : PlayEnd) → end_if_no_piece found ≡ Some o → StopsAtOnce whole o
-  first_stops o e = step_halts g whole whole [] next [] [] [] [] refl refl found o plays e (StopsAtOnce whole) (λ kind k. (refl, k)) (λ table k. (refl, k))
-
-  pub first_played : (o : Option PlayEnd) → o ≡ end_if_no_piece found → PlaysFirst g whole next o
-  first_played None e = first_brings (shows_piece found e)
-  first_played (Some o) e = first_stops o (sym e)
+  first_played (Some o) e =
+      step_halts g whole whole [] next [] [] [] [] refl refl found o plays (sym e) (StopsAtOnce whole) (λ kind k. (refl, k)) (λ table k. (refl, k))
 
 -- ---- digests ----
 

@@ -94,10 +94,6 @@ text_shown showing g whole step.Ended next pieces traces each keeps h m plays =
     ∙ shown_more showing next pieces traces plays.0 each keeps plays.1.0
 text_shown showing g whole _ next pieces traces each keeps h m plays = absurd h
 
--- Nothing more is shown.
-pub shown_nothing : (mid : Standing) → mid ≡ record mid { shown = mid.shown ++ [] }
-shown_nothing mid = ap (λ t. record mid { shown = t }) (sym (append-nil mid.shown))
-
 -- How a step ends after n lines, where `after` is the reading of those that are left then.
 module _ {F : Type 0} (showing : ShowSteps) (g : Story) (whole after : EndingOf) (n : ℕ) (first mid new : Standing) (next : PlayerView F) (s : Step)
     (pieces : Texts) (traces : List (List StepRow)) (each : HaveSteps showing pieces traces)
@@ -147,7 +143,7 @@ module _ {F : Type 0} (showing : ShowSteps) (g : Story) (whole after : EndingOf)
   halts most few halt stopped same =
       let e = stopped.1 [] in
       let text = text_shown_is showing e.0 pieces traces e.2 e.3 ∙ sym (append-nil (concat (shown_pieces showing pieces traces))) in
-      let ends = takes (Halted halt e.0) (Halted halt (shown_run showing e.0)) [] e.1 (halts_shown showing halt e.0) (same ∙ shown_nothing mid) text in
+      let ends = takes (Halted halt e.0) (Halted halt (shown_run showing e.0)) [] e.1 (halts_shown showing halt e.0) (same ∙ ap (λ t. record mid { shown = t }) (sym (append-nil mid.shown))) text in
       (n, few, shown_run showing e.0, same_lines showing e.0 ∙ e.4, ends)
 
   pub comes_to : (most : ℕ) → n ≤ most → (o : Option PlayEnd) → ShowsStep mid new (seat_text showing next) s o →

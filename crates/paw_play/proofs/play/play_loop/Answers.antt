@@ -1,5 +1,5 @@
 use Rattle.paw_play.proofs.Names.{◌<◌, ◌∙◌, [], ◌∷◌, None, refl, sym, ap, subst, length, arith, Passes_map, Standing, PlayedSession, session_begun, InNewSession, unattached, occupied, starts_play, IsRestingStore, behind, in_front, serves_among, serves_still, serves_then, the_only_one, play_calls, call_of_end, story_of}
-use Rattle.paw_play.proofs.{Attaching.store_attached, Attaching.store_empty, Attaching.at_new_attach, Attaching.new_from, Failing.stands_in_parts, Parts.then_attached, Parts.attach_failed}
+use Rattle.paw_play.proofs.{Attaching.store_attached, Attaching.no_bytes, Attaching.at_new_attach, Attaching.new_from, Failing.stands_in_parts, Parts.then_attached, Parts.attach_failed}
 use Rattle.paw_stage.specs.declared.StageCall.TheVariants as call
 use Rattle.paw_play.proofs.play.play_loop.Goals as goal
 
@@ -37,7 +37,7 @@ returns-clause-plays g c = λ tells X answers.
     let name = c.args.name.now in
     let a = c.in-Ok.ensures.attached tells in
     let store = subst (IsRestingStore name) (sym a.1) (store_attached (g.S.Stage.standing c.args.stage.now) name) in
-    starts_play c.play_in.result (store_empty (g.S.Stage.standing c.args.stage.now) _ name c.in-Ok.at.length a (omega (arith, c.if-at-ne0.false)))
+    starts_play c.play_in.result (no_bytes _ (sym a.0 ∙ omega (arith, c.if-at-ne0.false)))
     (rw a.1 at ((c.play_in.ensures.promises (c.attach.ensures.serves.tells.0 tells) X answers name store).meaning))
 
 pub returns-clause-any_moment : goal.returns-clause-any_moment
