@@ -6,11 +6,8 @@ not_ok : (r : Result Restored StateFault) (e : StateFault) → r ≡ Err e → I
 not_ok (Ok x) e is h = cc
 not_ok (Err f) e is h = cc
 
-pub find-requires-clause-rests : goal.find-requires-clause-rests
-find-requires-clause-rests g c = λ tells. (c.requires.attached tells).rests
-
-pub find-requires-clause-attached : goal.find-requires-clause-attached
-find-requires-clause-attached g c = λ tells. (c.requires.attached tells).long
+pub find-requires : goal.find-requires
+find-requires g c = record { rests = λ tells. (c.requires.attached tells).rests; attached = λ tells. (c.requires.attached tells).long }
 
 pub returns-in-Err-clause-reads : goal.returns-in-Err-clause-reads
 returns-in-Err-clause-reads g c = rw c.not_found.ensures.call c.in-Err.ensures.call
