@@ -1,6 +1,5 @@
 -- Each plays as if alone.
 use Rattle.paw_host.proofs.Cited.{◌≡◌, inl, inr, suc, ◌+◌, ◌≤◌, List, [], ◌∷◌, ◌++◌, Option, Some, None, refl, sym, ap, ◌∙◌, subst, length, map, arith, append_assoc, if◌then◌else◌, append-nil, length-append, Lines, Text, Texts, Name, Seed, Story, Prompt, Frame, Run, StepRow, Ending, WaitsAt, Halted, Unended, reading, pieces_of, ending_followed, ending_with_past, goes_on_with, Counted, pieces_of_lines, going_on_is_reading, longer_reading, last_piece, Request, request_of, Absent, At, Sessions, Answer, gone_on, sessions_with, asked_first, answered_first, EachPlaysAlone, PiecesAreAnswered, asked_of, answered_to, session_after, answers_of, answer, sessions_after}
-use Rattle.paw_reading.specs.declared.halt.Halt.TheVariants as halt
 use Rattle.paw_host.proofs.{Named.by_name, Texts.StaysOrGoes, Texts.line_goes}
 
 -- ---- one name among others ----

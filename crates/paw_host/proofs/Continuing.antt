@@ -1,6 +1,5 @@
 -- Sessions stay such as may be, whatever is asked of them.
 use Rattle.paw_host.proofs.Cited.{◌≡◌, inl, inr, ℕ, ◌+◌, ◌<◌, ◌^◌, [], ◌∷◌, ◌++◌, refl, sym, subst, true, Option, Some, None, All-append, All-cons, All-nil, Lines, Text, Seed, Story, IsLine, ValidStory, Ending, WaitsAt, Halted, Unended, reading, going_on, IsPlayedWith, Request, is_name, NamedSession, Absent, At, From, Refused, Sessions, from_end, Answer, begun_answer, begun_with_text, answer_taking, sessions_with, MayBe, AllMay, answer}
-use Rattle.paw_reading.specs.declared.halt.Halt.TheVariants as halt
 use Rattle.paw_host.proofs.{Serving.each_name, Texts.StaysOrGoes, Texts.goes, Texts.text_goes, Texts.line_goes}
 
 -- The text, if there is one, is a line.

@@ -1,5 +1,5 @@
 -- What calls in a row did to the stage, and in which state the store is after them.
-use Rattle.paw_host.proofs.Cited.{◌≡◌, ◌+◌, ◌++◌, ◌∙◌, List, ◌∷◌, [], Option, None, Result, refl, ap, length, length-append, on_ok_weaker, OnOk, Ok, Err, Name, Text, Ghosts, StageCall, EachMoment, IsOneOf, FailsOnlyBy, Passes_map, Passes_on, DoneWithMoments, Standing, with_store_opened, writing_calls, IsAtRest, failed_stage_call, ChangesStoreOnly, ReadsStore, beside_same, in_front, serves_among, serves_then, IsAside, answer_calls, IsAttachedStable, LeavesStage}
+use Rattle.paw_host.proofs.Cited.{◌≡◌, ◌+◌, ◌++◌, ◌∙◌, List, ◌∷◌, [], Option, None, Result, refl, ap, length, length-append, on_ok_weaker, OnOk, Ok, Err, Name, Text, Ghosts, StageCall, IsOneOf, FailsOnlyBy, Standing, with_store_opened, writing_calls, IsAtRest, failed_stage_call, ChangesStoreOnly, ReadsStore, beside_same, in_front, serves_among, serves_then, IsAside, answer_calls, IsAttachedStable, LeavesStage}
 use Rattle.paw_stage.specs.declared.StageCall.TheVariants as call
 use Rattle.paw_host.proofs.Reaching.{attached_still, aside_beside}
 

@@ -1,5 +1,5 @@
 -- From a store at rest to one that is attached, and what a crash leaves of all files meanwhile.
-use Rattle.paw_host.proofs.Cited.{none_unmade, ◌≡◌, ◌≢◌, ◌⊎◌, inl, inr, [], Option, Some, None, refl, sym, ap, ◌∙◌, subst, length, ◌∷◌, if◌then◌else◌, Bytes, Name, Seed, Disk, MayLeave, stable, Standing, Files, file_bytes, bytes_or_none, made_if_missing, with_store_opened, Unattached, InAttach, IsUnmade, Recovered, Shown, Digests, ChangesStoreOnly, stable_is, stable_leaves, beside_none, in_later, Story, MayBeLeft, other_file, NamedSession, Absent, At, From, Refused, Stores, InFile, InAnswer, IsAside, LeftOf, StoresEither, Rests, recover, recover_by}
+use Rattle.paw_host.proofs.Cited.{none_unmade, ◌≡◌, ◌≢◌, ◌⊎◌, inl, inr, [], Option, Some, None, refl, sym, ap, ◌∙◌, subst, if◌then◌else◌, Bytes, Name, Seed, Disk, MayLeave, Standing, Files, file_bytes, bytes_or_none, made_if_missing, with_store_opened, Unattached, InAttach, IsUnmade, Recovered, Shown, Digests, ChangesStoreOnly, stable_is, stable_leaves, beside_none, in_later, Story, MayBeLeft, other_file, NamedSession, Absent, At, From, Refused, Stores, InFile, InAnswer, IsAside, LeftOf, StoresEither, Rests, recover}
 use Rattle.paw_host.proofs.Named.{by_name}
 
 -- A moment at which nothing is done yet: all rests, and each file has the bytes that it had.

@@ -6,7 +6,6 @@ pub mod host;
 pub mod laws;
 pub mod lines;
 mod names;
-mod open;
 pub mod outcome;
 mod reply;
 mod words;
