@@ -1,9 +1,9 @@
 // What a check says of small games: a bound, and a game for each cause why there is none.
 
-use crate::outcome::Outcome;
 use crate::tests::games::{compiles, stage_of};
 use crate::tests::running::{compare, settle_and_run};
 use crate::tests::sources::SMALLEST;
+use paw_top::outcome::Outcome;
 use std::alloc::{AllocError, Global};
 use std::process::Abort;
 use std::test::Fail;

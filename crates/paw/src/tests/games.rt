@@ -1,10 +1,10 @@
 // Sources that are compiled and played, over a stage in memory.
 
-use crate::outcome::Outcome;
 use crate::tests::running::{compare, settle_and_run};
 use crate::tests::sources::{LANTERN, LANTERN_CANONICAL, SMALLEST};
 use paw_base::fault::{NoRoom, SpentKind};
 use paw_stage::{LoadRefusal, MemoryStage, Stage};
+use paw_top::outcome::Outcome;
 use std::alloc::{AllocError, Global};
 use std::process::Abort;
 use std::test::Fail;

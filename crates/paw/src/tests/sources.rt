@@ -1,10 +1,10 @@
 // Sources that are compiled and images that are decompiled, over stages in memory, and each way in which one is
 // refused.
 
-use crate::outcome::Outcome;
 use crate::tests::running::{compare, run, settle, settle_and_run};
 use paw_base::fault::{SourceFault, SourceKind};
 use paw_stage::{Asked, FailStage, MemoryStage, Stage, StageCall};
+use paw_top::outcome::Outcome;
 use std::alloc::{AllocError, Global};
 use std::process::Abort;
 use std::test::Fail;

@@ -1,9 +1,9 @@
 // Walks over stages in memory, and each way in which a walk is refused.
 
-use crate::outcome::Outcome;
 use crate::tests::running::{compare, run, settle, settle_and_run};
 use paw_base::fault::SpentKind;
 use paw_stage::{Asked, FailStage, MemoryStage, Stage, StageCall};
+use paw_top::outcome::Outcome;
 use std::alloc::Global;
 use std::process::Abort;
 use std::test::Fail;
