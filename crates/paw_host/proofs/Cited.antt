@@ -25,7 +25,7 @@ pub use Rattle.paw_journal.proofs.{Disks.stable_leaves, Disks.stable_is, Moved.b
 pub use Rattle.paw_journal.proofs.Serving.{in_front, serves_among, serves_then, behind, serves_still, serves_done, serves_none}
 pub use Rattle.paw_journal.specs.{Journal.writing_calls, Session.IsUnmade, Session.Digests, Session.Recovered, Session.Shown, inner.Calls.ReadsStore, inner.Journal.IsAtRest, inner.Journal.failed_stage_call, inner.Store.ChangesStoreOnly}
 unfoldable pub use Rattle.paw_journal.specs.{Session.recover, Session.recover_by}
-pub use Rattle.paw_play.proofs.{Attaching.no_bytes, Attaching.none_unmade, Attaching.other_file, Doing.done_by, Doing.done_then, Failing.left_as_read, Going.whole_kept, ImageFiles.damage_loaded, ImageFiles.same_game, ImageFiles.holds_loaded, Standing.open_from, Standing.refuses_none, Standing.begun_keeps, Standing.later_keeps, Walking.drop_more, Walking.drop_all}
+pub use Rattle.paw_play.proofs.{Attaching.no_bytes, Attaching.none_unmade, Attaching.other_file, Doing.done_by, Doing.done_then, Failing.left_as_read, Going.whole_kept, Kept.last_more, ImageFiles.damage_loaded, ImageFiles.same_game, ImageFiles.holds_loaded, Standing.open_from, Standing.refuses_none, Standing.begun_keeps, Standing.later_keeps, Walking.drop_more, Walking.drop_all}
 pub use Rattle.paw_play.specs.{Calls.session_calls, Calls.walk_calls, ImageFiles.Holds, Laws.ShowsSome, Laws.MayBeLeft, Session.story_digests, Session.IsOfStory, Session.IsKept, Session.IsPlayed, Stands.Stands, Stands.IsPlayedWith, Stands.ending_since, declared.PlayEnd.PlayEnd, declared.open.OpenSession.OpenSession, inner.Calls.DoneWithMoments, inner.Calls.call_of_end}
 pub use Rattle.paw_play.specs.Played.{going_on, PlayedSession, from_shown, from_played, from_lines, from_state, session_begun}
 pub use Rattle.paw_play.specs.inner.Open.{IsOpen, ResumesTo, BeginsTo, HaltsAfter, InBeginning, InTaking, KeepsAfter, StopsAtState, TakesLineTo, WaitsAfter, AreDigestsOf, StaysSeated}

@@ -83,15 +83,6 @@ module _ {F : Type 0} {g : Story} {whole : EndingOf} {taken : Lines} {seat : Pla
       ap whole (sym (append-nil taken))
       ∙ subst (λ s. ReadsOn g (λ lines. whole (taken ++ lines)) s seat h.pieces h.traces) last h.goes_on []
 
-  pub over_stops : (events : ℕ) (line : Line) → seat.last ≡ step.Ended → StopsAt whole events taken line end.Ended
-  over_stops events line last =
-      let e = over_here last in (run_at seat h.pieces h.traces [], e, refl, ap text_of (sym e))
-
-  pub full_stops : (events : ℕ) (line : Line) (p : Prompt) → seat.last ≡ step.Waits p → IsSeated seat → EVENT_LIMIT ≤ events →
-      StopsAt whole events taken line (end.Long EVENT_LIMIT)
-  full_stops events line p last seated full =
-      (full, refl, (p, reverse seat.machine.frames, run_at seat h.pieces h.traces [], waits_here p last seated))
-
   -- One line more.
   module _ (p : Prompt) (last : seat.last ≡ step.Waits p) (seated : IsSeated seat) (events : ℕ) (few : events < EVENT_LIMIT) (line : Line)
       (found : Step) (next : PlayerView F) (is : next.last ≡ found) (then_seated : IsSeated next)

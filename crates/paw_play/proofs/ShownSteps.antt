@@ -1,5 +1,5 @@
 -- How a walk shows pieces: each as it is, or after the text of its steps.
-use Rattle.paw_play.proofs.Names.{◌≡◌, ℕ, zero, suc, List, [], ◌∷◌, ◌++◌, Option, Some, None, refl, sym, ap, ◌∙◌, length, take, arith, append_assoc, length-append, append-nil, ◌-◌, flat_map, IfNone, concat, Text, Texts, STEP_LIMIT, KeptSteps, kept_steps, Standing, InShow, with_shown, Prompt, Frame, Run, StepRow, Halt, WaitsAt, Halted, PlayerView, run_at, Step, PlayEnd, step_line, more_line, steps_text, traced_pieces, ShowSteps, Plain, Stepped, kept_text, seat_text, HaveSteps, NotesShown, shown_pieces, shown_run, shown_ending, IsStanding, end_if_no_piece, take-take, concat-append}
+use Rattle.paw_play.proofs.Names.{◌≡◌, ℕ, suc, List, [], ◌∷◌, ◌++◌, Option, Some, None, refl, sym, ap, ◌∙◌, length, take, arith, append_assoc, length-append, append-nil, ◌-◌, flat_map, IfNone, concat, Text, Texts, STEP_LIMIT, KeptSteps, kept_steps, Standing, InShow, with_shown, Prompt, Frame, Run, StepRow, Halt, WaitsAt, Halted, PlayerView, run_at, Step, PlayEnd, step_line, more_line, steps_text, traced_pieces, ShowSteps, Plain, Stepped, kept_text, seat_text, HaveSteps, NotesShown, shown_pieces, shown_run, shown_ending, IsStanding, end_if_no_piece, take-take, concat-append}
 use Rattle.paw_turn.specs.declared.Step.TheVariants as step
 
 -- ---- texts ----
@@ -90,9 +90,8 @@ may_if_none found (Some o) e f = tt
 
 -- A first part of the first text.
 part_of : (n : ℕ) (xs ys : Text) → (m : ℕ) × (take n xs ≡ take m (xs ++ ys))
-part_of zero xs ys = (0, refl)
-part_of (suc n) [] ys = (0, refl)
 part_of (suc n) (x ∷ xs) ys = let k = part_of n xs ys in (suc k.0, ap (λ zs. x ∷ zs) k.1)
+part_of n xs ys = (0, refl)
 
 -- The first text, and a first part of the second.
 past_part : (n : ℕ) (xs ys : Text) → (m : ℕ) × (xs ++ take n ys ≡ take m (xs ++ ys))
