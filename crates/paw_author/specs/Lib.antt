@@ -18,3 +18,4 @@ pub mod Order
 pub mod PlainSources
 pub mod Authored
 pub mod Laws
+pub mod ReadingOn

@@ -70,8 +70,15 @@ fn path_folder(path: &[u8]) -> &[u8]
     &path[..path.len() - name_len(path)]
 }
 
-// The path that a line of a file names.
-fn included_path(alloc: Global, name: &[u8], line: &[Fragment]) -> Result<Vec<u8>, AllocError>
+/// The path that a line of a file names.
+///
+/// # Errors
+/// Where there is no memory.
+pub(crate) fn included_path(
+    alloc: Global,
+    name: &[u8],
+    line: &[Fragment],
+) -> Result<Vec<u8>, AllocError>
     ensures value { IfOk result (λ path. path.items ≡ included_path name.now line.now) }
 {
     let written = written_path(alloc, line)?;
@@ -90,8 +97,8 @@ fn has_path(file: &TakenFile, path: &[u8]) -> bool
     file.name.as_slice() == path
 }
 
-// The index of the file with this path.
-fn index_of_path(files: &[TakenFile], path: &[u8]) -> Option<usize>
+/// The index of the file with this path.
+pub(crate) fn index_of_path(files: &[TakenFile], path: &[u8]) -> Option<usize>
     ensures value { result ≡ index_of_path files.now path.now }
     ensures within { IfSome result (λ i. i < length files.now) }
 {
@@ -108,8 +115,8 @@ fn path_of(alloc: Global, name: &[u8], line: &[Fragment]) -> Result<Vec<u8>, Aut
     Ok(included_path(alloc, name, line)?)
 }
 
-// The place of the path in a line.
-fn path_origin(line: &[Fragment]) -> Origin
+/// The place of the path in a line.
+pub(crate) fn path_origin(line: &[Fragment]) -> Origin
     ensures value { result ≡ path_origin line.now }
 {
     origin_of(token(line, 1))

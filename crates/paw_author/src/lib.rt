@@ -17,6 +17,7 @@ mod named_lines;
 mod order;
 mod parts;
 mod plain_sources;
+pub mod reading_on;
 mod sections;
 mod table_numbers;
 #[cfg(test)]
