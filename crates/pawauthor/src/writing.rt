@@ -1,0 +1,63 @@
+// What the program does with its words.
+
+use crate::files::plain_source;
+use crate::mistakes::mistake_line;
+use crate::outcome::Outcome;
+use crate::plain::plain_bytes;
+use paw_author::file::{File, Switch};
+use paw_author::fragment::LineInParts;
+use paw_author::mistake::Mistake;
+use paw_base::fault::NoRoom;
+use paw_read_error::read_error::ReadError;
+use paw_stage::Stage;
+use std::alloc::Global;
+
+// The switches of these names.
+fn switches_of(alloc: Global, words: &[String]) -> Result<Vec<Switch>, NoRoom> {
+    let mut switches = Vec::new(alloc);
+    for word in words {
+        let bytes = Vec::from_slice(alloc, word.as_bytes())?;
+        switches.push(Switch { bytes })?;
+    }
+    Ok(switches)
+}
+
+// Shows the bytes of a plain source.
+fn show_lines<S: Stage>(alloc: Global, stage: &mut S, lines: &[LineInParts]) -> Outcome {
+    let Ok(bytes) = plain_bytes(alloc, lines) else {
+        return Outcome::Memory;
+    };
+    match stage.show(bytes.as_slice()) {
+        Ok(()) => Outcome::Written,
+        Err(_) => Outcome::Unwritten,
+    }
+}
+
+// The outcome for a mistake.
+fn with_mistake(alloc: Global, source: &str, files: &[File], mistake: Mistake) -> Outcome {
+    match mistake_line(alloc, source, files, mistake) {
+        Ok(line) => Outcome::Mistaken(line),
+        Err(_) => Outcome::Memory,
+    }
+}
+
+// Writes the plain source of a source, where the switches of these names are on.
+fn write_plain<S: Stage>(alloc: Global, stage: &mut S, source: &str, names: &[String]) -> Outcome {
+    let Ok(switches) = switches_of(alloc, names) else {
+        return Outcome::Memory;
+    };
+    let mut files = Vec::new(alloc);
+    match plain_source(alloc, stage, switches.as_slice(), source, &mut files) {
+        Ok(plain) => show_lines(alloc, stage, plain.lines.as_slice()),
+        Err(ReadError::Fault(mistake)) => with_mistake(alloc, source, files.as_slice(), mistake),
+        Err(ReadError::Memory) => Outcome::Memory,
+    }
+}
+
+/// Writes the plain source of the file that the first word names, where the switches that the others name are on.
+pub fn write_source<S: Stage>(alloc: Global, stage: &mut S, words: &[String]) -> Outcome {
+    match words {
+        [] => Outcome::Usage,
+        [source, names @ ..] => write_plain(alloc, stage, source.as_str(), names),
+    }
+}
