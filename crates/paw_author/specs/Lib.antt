@@ -7,6 +7,7 @@ pub mod Tokens
 pub mod Choices
 pub mod Sections
 pub mod Includes
+pub mod Paths
 pub mod Units
 pub mod Joining
 pub mod Hooks

@@ -38,5 +38,5 @@ next_of_files files (file ∷ others) = option_or (next_of_lines files file.name
 
 -- The file that is read next, by the lines that these switches leave: the first that is included and isn't there. None where
 -- each is there.
-abbrev pub next_file : Names → NamedFiles → Result (Option NextPath) Mistake
-next_file switches files = files_chosen switches 0 [] files >>= λ chosen. Ok (next_of_files chosen chosen)
+abbrev pub next_included : Names → NamedFiles → Result (Option NextPath) Mistake
+next_included switches files = files_chosen switches 0 [] files >>= λ chosen. Ok (next_of_files chosen chosen)

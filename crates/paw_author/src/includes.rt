@@ -3,12 +3,13 @@
 ghost use Rattle.std.specs.Prelude.{◌≡◌, ◌<◌, ◌≤◌, ◌==◌, not, IfOk, IfSome, bytes_eq, length};
 ghost use Rattle.std.specs.List.{list_any, position, suffix_len};
 ghost use Rattle.paw_read_error.specs.inner.Gives.{Gives};
-ghost use Rattle.paw_author.specs.Includes.{is_include, written_path, path_folder, included_path, index_of_path, path_of};
+ghost use Rattle.paw_author.specs.Includes.{is_include, written_path, included_path, index_of_path, path_of};
 ghost use Rattle.paw_author.specs.Includes.{path_origin, file_of, line_before, lines_before, file_before, order_of_files};
 ghost use Rattle.paw_author.specs.Includes.{leads_to_itself};
 
 use crate::fragment::{Fragment, LineInParts, Origin};
 use crate::mistake::{AuthorError, Mistake, lost_file, wrong_line};
+use crate::paths::{path_folder, path_followed};
 use crate::tokens::{
     is_quoted, is_same, leading_word, line_origin, origin_of, starts_with_byte, token, token_at,
     token_count, without_quotes,
@@ -55,21 +56,6 @@ fn written_path(alloc: Global, line: &[Fragment]) -> Result<Vec<u8>, AllocError>
     }
 }
 
-// How many bytes stand after the last `/` of a path.
-fn name_len(path: &[u8]) -> usize
-    ensures value { result ≡ suffix_len (λ b. not (b == 47)) path.now }
-    ensures within { result ≤ length path.now }
-{
-    path.iter().rev().take_while(|b| **b != b'/').count()
-}
-
-// The folder of a path.
-fn path_folder(path: &[u8]) -> &[u8]
-    ensures value { result.now ≡ path_folder path.now }
-{
-    &path[..path.len() - name_len(path)]
-}
-
 /// The path that a line of a file names.
 ///
 /// # Errors
@@ -83,11 +69,11 @@ pub(crate) fn included_path(
 {
     let written = written_path(alloc, line)?;
     if starts_with_byte(b'/', written.as_slice()) {
-        return Ok(written);
+        return path_followed(alloc, written.as_slice());
     }
     let mut path = Vec::from_slice(alloc, path_folder(name))?;
     path.extend_from_slice(written.as_slice())?;
-    Ok(path)
+    path_followed(alloc, path.as_slice())
 }
 
 // Whether a file has this path.

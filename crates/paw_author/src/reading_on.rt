@@ -2,7 +2,7 @@
 
 ghost use Rattle.std.specs.Prelude.{◌≡◌, IfOk};
 ghost use Rattle.paw_read_error.specs.inner.Gives.{Gives};
-ghost use Rattle.paw_author.specs.ReadingOn.{leads_on, next_of_line, next_of_lines, next_of_files, next_file};
+ghost use Rattle.paw_author.specs.ReadingOn.{leads_on, next_of_line, next_of_lines, next_of_files, next_included};
 
 use crate::file::{File, Switch};
 use crate::fragment::{Fragment, LineInParts, Origin};
@@ -103,12 +103,12 @@ fn next_of_files(alloc: Global, files: &[TakenFile]) -> Result<Option<NextFile>,
 ///
 /// # Errors
 /// Fault where the files have a mistake before that, or lack of memory.
-pub fn next_file(
+pub fn next_included(
     alloc: Global,
     switches: &[Switch],
     files: &[File],
 ) -> Result<Option<NextFile>, AuthorError>
-    ensures gives { Gives (λ next. next) result (next_file switches.now files.now) }
+    ensures gives { Gives (λ next. next) result (next_included switches.now files.now) }
 {
     let chosen = files_chosen(alloc, switches, files)?;
     Ok(next_of_files(alloc, chosen.as_slice())?)
