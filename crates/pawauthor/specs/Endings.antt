@@ -1,21 +1,21 @@
--- What an outcome says to the system and to a person.
+-- What an ending says to the system and to a person.
 use Rattle.std.specs.Prelude.{ℕ, [], codes}
 use Rattle.paw_base.specs.Bytes.{Text}
-use Rattle.pawauthor.specs.declared.outcome.Outcome.{Outcome}
-use Rattle.pawauthor.specs.declared.outcome.Outcome.TheVariants as outcome
+use Rattle.pawauthor.specs.declared.ending.Ending.{Ending}
+use Rattle.pawauthor.specs.declared.ending.Ending.TheVariants as ending
 
 -- The exit status of the program.
-abbrev pub status_of : Outcome → ℕ
-status_of outcome.Written = 0
-status_of (outcome.Mistaken line) = 1
-status_of outcome.Usage = 2
-status_of outcome.Unwritten = 7
-status_of outcome.Memory = 8
+abbrev pub ending_status : Ending → ℕ
+ending_status ending.Written = 0
+ending_status (ending.Mistaken line) = 1
+ending_status ending.Usage = 2
+ending_status ending.Unwritten = 7
+ending_status ending.Memory = 8
 
 -- The text for standard error.
-abbrev pub text_of : Outcome → Text
-text_of outcome.Written = []
-text_of (outcome.Mistaken line) = line.items
-text_of outcome.Usage = codes "usage: pawauthor SOURCE [SWITCH ..]\n"
-text_of outcome.Unwritten = codes "outside failed: Show\n"
-text_of outcome.Memory = codes "no memory\n"
+abbrev pub ending_text : Ending → Text
+ending_text ending.Written = []
+ending_text (ending.Mistaken line) = line.items
+ending_text ending.Usage = codes "usage: pawauthor SOURCE [SWITCH ..]\n"
+ending_text ending.Unwritten = codes "outside failed: Show\n"
+ending_text ending.Memory = codes "no memory\n"

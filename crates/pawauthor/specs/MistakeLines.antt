@@ -24,16 +24,16 @@ line_kind_name kind.Text = codes "Text"
 line_kind_name kind.TooBig = codes "TooBig"
 
 -- The name of a kind of mistake.
-abbrev pub kind_name : MistakeKind → Name
-kind_name File = codes "File"
-kind_name (Line kind) = line_kind_name kind
+abbrev pub mistake_name : MistakeKind → Name
+mistake_name File = codes "File"
+mistake_name (Line kind) = line_kind_name kind
 
 -- The name of the file with this index; that of the source where there is no such file.
 abbrev pub name_or : Name → Option NamedFile → Name
 name_or source None = source
 name_or source (Some file) = file.name
 
--- Line and column, each behind a colon. A file as a whole has none.
+-- Line and column, each after a colon. A file as a whole has none.
 abbrev pub place_text : Origin → Text
 place_text origin =
     if origin.line == 0 then [] else codes ":" ++ decimal origin.line ++ codes ":" ++ decimal origin.column
@@ -41,5 +41,5 @@ place_text origin =
 -- The line of a mistake: the file's name, the place in it, and the name of the mistake's kind.
 abbrev pub mistake_line : Name → NamedFiles → Mistake → Text
 mistake_line source files mistake =
-    name_or source (slice_get files mistake.origin.file) ++ place_text mistake.origin ++ codes ": " ++ kind_name mistake.kind
+    name_or source (slice_get files mistake.origin.file) ++ place_text mistake.origin ++ codes ": " ++ mistake_name mistake.kind
     ++ codes "\n"

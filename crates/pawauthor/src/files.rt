@@ -4,7 +4,7 @@ use paw_author::author::{PlainSource, plain_lines};
 use paw_author::file::{File, Switch};
 use paw_author::fragment::Origin;
 use paw_author::mistake::{AuthorError, Mistake, MistakeKind};
-use paw_author::reading_on::{NextFile, next_file};
+use paw_author::reading_on::{NextFile, next_included};
 use paw_base::limits::SOURCE_LIMIT;
 use paw_read_error::read_error::ReadError;
 use paw_stage::{LoadRefusal, Stage};
@@ -60,7 +60,7 @@ fn load_files<S: Stage>(
     let first = source_as_next(alloc, source)?;
     files.push(load_next(alloc, stage, first)?)?;
     for _ in 0..INCLUDE_LIMIT {
-        match next_file(alloc, switches, files.as_slice())? {
+        match next_included(alloc, switches, files.as_slice())? {
             Some(next) => files.push(load_next(alloc, stage, next)?)?,
             None => return Ok(()),
         }

@@ -1,7 +1,7 @@
 // The line that says a mistake to a person.
 
 ghost use Rattle.std.specs.Prelude.{◌≡◌, ◌++◌, IfOk, string_bytes, slice_get};
-ghost use Rattle.pawauthor.specs.MistakeLines.{line_kind_name, kind_name, name_or, place_text, mistake_line};
+ghost use Rattle.pawauthor.specs.MistakeLines.{line_kind_name, mistake_name, name_or, place_text, mistake_line};
 
 use paw_author::file::File;
 use paw_author::fragment::Origin;
@@ -28,8 +28,8 @@ fn line_kind_name(kind: SourceKind) -> &'static str
 }
 
 // The name of a kind of mistake.
-fn kind_name(kind: MistakeKind) -> &'static str
-    ensures value { result.now ≡ kind_name kind }
+fn mistake_name(kind: MistakeKind) -> &'static str
+    ensures value { result.now ≡ mistake_name kind }
 {
     match kind {
         MistakeKind::File => "File",
@@ -47,7 +47,7 @@ fn name_of<'a>(source: &'a str, files: &'a [File], index: usize) -> &'a [u8]
     }
 }
 
-// Line and column, each behind a colon. A file as a whole has none.
+// Line and column, each after a colon. A file as a whole has none.
 fn place_text(alloc: Global, origin: Origin) -> Result<String, NoRoom>
     ensures value { IfOk result (λ text. string_bytes text ≡ place_text origin) }
 {
@@ -73,7 +73,7 @@ pub fn mistake_line(
 {
     let name = name_of(source, files, mistake.origin.file);
     let place = place_text(alloc, mistake.origin)?;
-    let kind = kind_name(mistake.kind);
+    let kind = mistake_name(mistake.kind);
     let mut text = Vec::from_slice(alloc, name)?;
     text.extend_from_slice(place.as_bytes())?;
     text.extend_from_slice(b": ")?;

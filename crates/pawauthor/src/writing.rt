@@ -1,8 +1,8 @@
 // What the program does with its words.
 
+use crate::ending::Ending;
 use crate::files::plain_source;
 use crate::mistakes::mistake_line;
-use crate::outcome::Outcome;
 use crate::plain::plain_bytes;
 use paw_author::file::{File, Switch};
 use paw_author::fragment::LineInParts;
@@ -23,41 +23,41 @@ fn switches_of(alloc: Global, words: &[String]) -> Result<Vec<Switch>, NoRoom> {
 }
 
 // Shows the bytes of a plain source.
-fn show_lines<S: Stage>(alloc: Global, stage: &mut S, lines: &[LineInParts]) -> Outcome {
+fn show_lines<S: Stage>(alloc: Global, stage: &mut S, lines: &[LineInParts]) -> Ending {
     let Ok(bytes) = plain_bytes(alloc, lines) else {
-        return Outcome::Memory;
+        return Ending::Memory;
     };
     match stage.show(bytes.as_slice()) {
-        Ok(()) => Outcome::Written,
-        Err(_) => Outcome::Unwritten,
+        Ok(()) => Ending::Written,
+        Err(_) => Ending::Unwritten,
     }
 }
 
-// The outcome for a mistake.
-fn with_mistake(alloc: Global, source: &str, files: &[File], mistake: Mistake) -> Outcome {
+// The ending for a mistake.
+fn with_mistake(alloc: Global, source: &str, files: &[File], mistake: Mistake) -> Ending {
     match mistake_line(alloc, source, files, mistake) {
-        Ok(line) => Outcome::Mistaken(line),
-        Err(_) => Outcome::Memory,
+        Ok(line) => Ending::Mistaken(line),
+        Err(_) => Ending::Memory,
     }
 }
 
 // Writes the plain source of a source, where the switches of these names are on.
-fn write_plain<S: Stage>(alloc: Global, stage: &mut S, source: &str, names: &[String]) -> Outcome {
+fn write_plain<S: Stage>(alloc: Global, stage: &mut S, source: &str, names: &[String]) -> Ending {
     let Ok(switches) = switches_of(alloc, names) else {
-        return Outcome::Memory;
+        return Ending::Memory;
     };
     let mut files = Vec::new(alloc);
     match plain_source(alloc, stage, switches.as_slice(), source, &mut files) {
         Ok(plain) => show_lines(alloc, stage, plain.lines.as_slice()),
         Err(ReadError::Fault(mistake)) => with_mistake(alloc, source, files.as_slice(), mistake),
-        Err(ReadError::Memory) => Outcome::Memory,
+        Err(ReadError::Memory) => Ending::Memory,
     }
 }
 
 /// Writes the plain source of the file that the first word names, where the switches that the others name are on.
-pub fn write_source<S: Stage>(alloc: Global, stage: &mut S, words: &[String]) -> Outcome {
+pub fn write_source<S: Stage>(alloc: Global, stage: &mut S, words: &[String]) -> Ending {
     match words {
-        [] => Outcome::Usage,
+        [] => Ending::Usage,
         [source, names @ ..] => write_plain(alloc, stage, source.as_str(), names),
     }
 }
