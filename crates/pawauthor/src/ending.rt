@@ -6,7 +6,7 @@ ghost use Rattle.pawauthor.specs.Endings.{ending_status, ending_text};
 /// How the program ends. Written: the plain source is on standard output. Mistaken: the files have a mistake; the line that
 /// says it. Usage: the words have no form. Unwritten: standard output didn't take the source. Memory: lack of memory.
 #[derive(Drop)]
-pub enum Ending {
+pub enum AuthorEnd {
     Written,
     Mistaken(Vec<u8>),
     Usage,
@@ -17,18 +17,18 @@ pub enum Ending {
 /// The exit status for lack of memory.
 pub const NO_MEMORY: u8 = 8;
 
-impl Ending {
+impl AuthorEnd {
     /// The exit status: 0 where the source is written, 1 for a mistake, 2 for words with no form, 7 where standard output
     /// failed, 8 for lack of memory.
     pub fn status(&self) -> u8
         ensures value { result ≡ ending_status self.now }
     {
         match self {
-            Ending::Written => 0,
-            Ending::Mistaken(_) => 1,
-            Ending::Usage => 2,
-            Ending::Unwritten => 7,
-            Ending::Memory => NO_MEMORY,
+            AuthorEnd::Written => 0,
+            AuthorEnd::Mistaken(_) => 1,
+            AuthorEnd::Usage => 2,
+            AuthorEnd::Unwritten => 7,
+            AuthorEnd::Memory => NO_MEMORY,
         }
     }
 
@@ -37,11 +37,11 @@ impl Ending {
         ensures value { result.now ≡ ending_text self.now }
     {
         match self {
-            Ending::Written => b"",
-            Ending::Mistaken(line) => line.as_slice(),
-            Ending::Usage => b"usage: pawauthor SOURCE [SWITCH ..]\n",
-            Ending::Unwritten => b"outside failed: Show\n",
-            Ending::Memory => b"no memory\n",
+            AuthorEnd::Written => b"",
+            AuthorEnd::Mistaken(line) => line.as_slice(),
+            AuthorEnd::Usage => b"usage: pawauthor SOURCE [SWITCH ..]\n",
+            AuthorEnd::Unwritten => b"outside failed: Show\n",
+            AuthorEnd::Memory => b"no memory\n",
         }
     }
 }

@@ -1,5 +1,11 @@
 // The files that a source is made of, as they are read.
 
+ghost use Rattle.std.specs.Prelude.{◌≡◌, ◌↔◌, Ok, IfOk};
+ghost use Rattle.paw_base.specs.declared.limits.TheConstants.{SOURCE_LIMIT};
+ghost use Rattle.paw_stage.specs.AcrossCalls.{IfTelling};
+ghost use Rattle.paw_stage.specs.Stage.{LoadsTo};
+ghost use Rattle.pawauthor.specs.Loading.{ReadsNext};
+
 use paw_author::author::{PlainSource, plain_lines};
 use paw_author::file::{File, Switch};
 use paw_author::fragment::Origin;
@@ -15,7 +21,11 @@ use std::alloc::Global;
 const INCLUDE_LIMIT: usize = 255;
 
 // The bytes of the file of this path: of a file that is too long one byte more than a source may have.
-fn load_path<S: Stage>(alloc: Global, stage: &mut S, path: &[u8]) -> Result<Vec<u8>, LoadRefusal> {
+fn load_path<S: Stage>(alloc: Global, stage: &mut S, path: &[u8]) -> Result<Vec<u8>, LoadRefusal>
+    ensures tells { S.Tells stage.old ↔ S.Tells stage.new }
+    ensures reads { IfTelling S.Stage stage.old stage.new (λ old new.
+        (new ≡ old) × IfOk result (λ bytes. LoadsTo old path.now SOURCE_LIMIT (Ok bytes))) }
+{
     match str::from_utf8(path) {
         Ok(path) => stage.load(alloc, path, SOURCE_LIMIT),
         Err(_) => Err(LoadRefusal::Absent),
@@ -23,7 +33,10 @@ fn load_path<S: Stage>(alloc: Global, stage: &mut S, path: &[u8]) -> Result<Vec<
 }
 
 // Reads the next file. One that can't be read is a mistake of the line that includes it.
-fn load_next<S: Stage>(alloc: Global, stage: &mut S, next: NextFile) -> Result<File, AuthorError> {
+fn load_next<S: Stage>(alloc: Global, stage: &mut S, next: NextFile) -> Result<File, AuthorError>
+    ensures tells { S.Tells stage.old ↔ S.Tells stage.new }
+    ensures reads { IfTelling S.Stage stage.old stage.new (λ old new. (new ≡ old) × ReadsNext old next result) }
+{
     match load_path(alloc, stage, next.path.as_slice()) {
         Ok(bytes) => Ok(File {
             name: next.path,

@@ -5,7 +5,7 @@ ghost use Rattle.std.specs.Prelude.{◌≡◌};
 ghost use Rattle.std.specs.Process.{exit_status};
 ghost use Rattle.pawauthor.specs.Endings.{ending_status};
 
-use ending::{Ending, NO_MEMORY};
+use ending::{AuthorEnd, NO_MEMORY};
 use paw_stage::RealStage;
 use paw_words::words_of;
 use std::process::ExitCode;
@@ -19,7 +19,7 @@ mod writing;
 
 // Writes the ending's line to standard error, and gives its status. Where standard error doesn't take it, there is the
 // status alone.
-fn report<R: Eprint>(rt: &R, ending: Ending) -> ExitCode
+fn report<R: Eprint>(rt: &R, ending: AuthorEnd) -> ExitCode
     ensures status { exit_status result ≡ ending_status ending }
 {
     if let Ok(text) = str::from_utf8(ending.text()) {

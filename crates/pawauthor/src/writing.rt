@@ -1,6 +1,6 @@
 // What the program does with its words.
 
-use crate::ending::Ending;
+use crate::ending::AuthorEnd;
 use crate::files::plain_source;
 use crate::mistakes::mistake_line;
 use crate::plain::plain_bytes;
@@ -23,41 +23,46 @@ fn switches_of(alloc: Global, words: &[String]) -> Result<Vec<Switch>, NoRoom> {
 }
 
 // Shows the bytes of a plain source.
-fn show_lines<S: Stage>(alloc: Global, stage: &mut S, lines: &[LineInParts]) -> Ending {
+fn show_lines<S: Stage>(alloc: Global, stage: &mut S, lines: &[LineInParts]) -> AuthorEnd {
     let Ok(bytes) = plain_bytes(alloc, lines) else {
-        return Ending::Memory;
+        return AuthorEnd::Memory;
     };
     match stage.show(bytes.as_slice()) {
-        Ok(()) => Ending::Written,
-        Err(_) => Ending::Unwritten,
+        Ok(()) => AuthorEnd::Written,
+        Err(_) => AuthorEnd::Unwritten,
     }
 }
 
 // The ending for a mistake.
-fn with_mistake(alloc: Global, source: &str, files: &[File], mistake: Mistake) -> Ending {
+fn with_mistake(alloc: Global, source: &str, files: &[File], mistake: Mistake) -> AuthorEnd {
     match mistake_line(alloc, source, files, mistake) {
-        Ok(line) => Ending::Mistaken(line),
-        Err(_) => Ending::Memory,
+        Ok(line) => AuthorEnd::Mistaken(line),
+        Err(_) => AuthorEnd::Memory,
     }
 }
 
 // Writes the plain source of a source, where the switches of these names are on.
-fn write_plain<S: Stage>(alloc: Global, stage: &mut S, source: &str, names: &[String]) -> Ending {
+fn write_plain<S: Stage>(
+    alloc: Global,
+    stage: &mut S,
+    source: &str,
+    names: &[String],
+) -> AuthorEnd {
     let Ok(switches) = switches_of(alloc, names) else {
-        return Ending::Memory;
+        return AuthorEnd::Memory;
     };
     let mut files = Vec::new(alloc);
     match plain_source(alloc, stage, switches.as_slice(), source, &mut files) {
         Ok(plain) => show_lines(alloc, stage, plain.lines.as_slice()),
         Err(ReadError::Fault(mistake)) => with_mistake(alloc, source, files.as_slice(), mistake),
-        Err(ReadError::Memory) => Ending::Memory,
+        Err(ReadError::Memory) => AuthorEnd::Memory,
     }
 }
 
 /// Writes the plain source of the file that the first word names, where the switches that the others name are on.
-pub fn write_source<S: Stage>(alloc: Global, stage: &mut S, words: &[String]) -> Ending {
+pub fn write_source<S: Stage>(alloc: Global, stage: &mut S, words: &[String]) -> AuthorEnd {
     match words {
-        [] => Ending::Usage,
+        [] => AuthorEnd::Usage,
         [source, names @ ..] => write_plain(alloc, stage, source.as_str(), names),
     }
 }
