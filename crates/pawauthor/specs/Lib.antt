@@ -1,3 +1,4 @@
 pub mod Endings
 pub mod MistakeLines
 pub mod Loading
+pub mod Writing

@@ -4,6 +4,7 @@ ghost use Rattle.std.specs.Prelude.{◌≡◌, ◌↔◌, Ok, IfOk};
 ghost use Rattle.paw_base.specs.declared.limits.TheConstants.{SOURCE_LIMIT};
 ghost use Rattle.paw_stage.specs.AcrossCalls.{IfTelling};
 ghost use Rattle.paw_stage.specs.Stage.{LoadsTo};
+ghost use Rattle.paw_author.specs.Authored.{plain_lines};
 ghost use Rattle.pawauthor.specs.Loading.{ReadsNext};
 
 use paw_author::author::{PlainSource, plain_lines};
@@ -69,7 +70,10 @@ fn load_files<S: Stage>(
     switches: &[Switch],
     source: &str,
     files: &mut Vec<File>,
-) -> Result<(), AuthorError> {
+) -> Result<(), AuthorError>
+    ensures tells { S.Tells stage.old ↔ S.Tells stage.new }
+    ensures still { IfTelling S.Stage stage.old stage.new (λ old new. new ≡ old) }
+{
     let first = source_as_next(alloc, source)?;
     files.push(load_next(alloc, stage, first)?)?;
     for _ in 0..INCLUDE_LIMIT {
@@ -92,7 +96,11 @@ pub fn plain_source<S: Stage>(
     switches: &[Switch],
     source: &str,
     files: &mut Vec<File>,
-) -> Result<PlainSource, AuthorError> {
+) -> Result<PlainSource, AuthorError>
+    ensures tells { S.Tells stage.old ↔ S.Tells stage.new }
+    ensures still { IfTelling S.Stage stage.old stage.new (λ old new. new ≡ old) }
+    ensures plain { IfOk result (λ lines. plain_lines switches.now files.new.items ≡ Ok lines) }
+{
     load_files(alloc, stage, switches, source, files)?;
     plain_lines(alloc, switches, files.as_slice())
 }

@@ -1,5 +1,11 @@
 // What the program does with its words.
 
+ghost use Rattle.std.specs.Prelude.{◌≡◌, ◌≢◌, ◌↔◌, ◌++◌, [], IfOk, map, string_bytes};
+ghost use Rattle.paw_author.specs.Laws.{all_bytes};
+ghost use Rattle.paw_stage.specs.AcrossCalls.{IfTelling};
+ghost use Rattle.pawauthor.specs.declared.ending.AuthorEnd.TheVariants as ending;
+ghost use Rattle.pawauthor.specs.Writing.{EndsWith};
+
 use crate::ending::AuthorEnd;
 use crate::files::plain_source;
 use crate::mistakes::mistake_line;
@@ -13,7 +19,9 @@ use paw_stage::Stage;
 use std::alloc::Global;
 
 // The switches of these names.
-fn switches_of(alloc: Global, words: &[String]) -> Result<Vec<Switch>, NoRoom> {
+fn switches_of(alloc: Global, words: &[String]) -> Result<Vec<Switch>, NoRoom>
+    ensures value { IfOk result (λ switches. switches.items ≡ map (λ word. string_bytes word) words.now) }
+{
     let mut switches = Vec::new(alloc);
     for word in words {
         let bytes = Vec::from_slice(alloc, word.as_bytes())?;
@@ -23,7 +31,11 @@ fn switches_of(alloc: Global, words: &[String]) -> Result<Vec<Switch>, NoRoom> {
 }
 
 // Shows the bytes of a plain source.
-fn show_lines<S: Stage>(alloc: Global, stage: &mut S, lines: &[LineInParts]) -> AuthorEnd {
+fn show_lines<S: Stage>(alloc: Global, stage: &mut S, lines: &[LineInParts]) -> AuthorEnd
+    ensures shows { IfTelling S.Stage stage.old stage.new
+        (λ old new. result ≡ ending.Written → new ≡ record old { shown = old.shown ++ all_bytes lines.now }) }
+    ensures form { result ≢ ending.Usage }
+{
     let Ok(bytes) = plain_bytes(alloc, lines) else {
         return AuthorEnd::Memory;
     };
@@ -34,7 +46,9 @@ fn show_lines<S: Stage>(alloc: Global, stage: &mut S, lines: &[LineInParts]) -> 
 }
 
 // The ending for a mistake.
-fn with_mistake(alloc: Global, source: &str, files: &[File], mistake: Mistake) -> AuthorEnd {
+fn with_mistake(alloc: Global, source: &str, files: &[File], mistake: Mistake) -> AuthorEnd
+    ensures ends { EndsWith source.now files.now mistake result }
+{
     match mistake_line(alloc, source, files, mistake) {
         Ok(line) => AuthorEnd::Mistaken(line),
         Err(_) => AuthorEnd::Memory,
@@ -42,12 +56,9 @@ fn with_mistake(alloc: Global, source: &str, files: &[File], mistake: Mistake) -
 }
 
 // Writes the plain source of a source, where the switches of these names are on.
-fn write_plain<S: Stage>(
-    alloc: Global,
-    stage: &mut S,
-    source: &str,
-    names: &[String],
-) -> AuthorEnd {
+fn write_plain<S: Stage>(alloc: Global, stage: &mut S, source: &str, names: &[String]) -> AuthorEnd
+    ensures form { result ≢ ending.Usage }
+{
     let Ok(switches) = switches_of(alloc, names) else {
         return AuthorEnd::Memory;
     };
@@ -60,7 +71,9 @@ fn write_plain<S: Stage>(
 }
 
 /// Writes the plain source of the file that the first word names, where the switches that the others name are on.
-pub fn write_source<S: Stage>(alloc: Global, stage: &mut S, words: &[String]) -> AuthorEnd {
+pub fn write_source<S: Stage>(alloc: Global, stage: &mut S, words: &[String]) -> AuthorEnd
+    ensures usage { (result ≡ ending.Usage) ↔ (words.now ≡ []) }
+{
     match words {
         [] => AuthorEnd::Usage,
         [source, names @ ..] => write_plain(alloc, stage, source.as_str(), names),
