@@ -8,7 +8,7 @@ use Rattle.pawauthor.specs.declared.ending.AuthorEnd.TheVariants as ending
 use Rattle.pawauthor.specs.MistakeLines.{mistake_line}
 
 -- The end for a mistake in these files: its line is written, unless there is no memory for it.
-abbrev pub EndsWith : Name → NamedFiles → Mistake → AuthorEnd → Type 0
-EndsWith source files mistake (ending.Mistaken line) = line.items ≡ mistake_line source files mistake
-EndsWith source files mistake ending.Memory = Unit {0}
-EndsWith source files mistake _ = ⊥
+abbrev pub SaysMistake : Name → NamedFiles → Mistake → AuthorEnd → Type 0
+SaysMistake source files mistake (ending.Mistaken line) = line.items ≡ mistake_line source files mistake
+SaysMistake source files mistake ending.Memory = Unit {0}
+SaysMistake source files mistake _ = ⊥

@@ -4,7 +4,7 @@ ghost use Rattle.std.specs.Prelude.{◌≡◌, ◌≢◌, ◌↔◌, ◌++◌, [
 ghost use Rattle.paw_author.specs.Laws.{all_bytes};
 ghost use Rattle.paw_stage.specs.AcrossCalls.{IfTelling};
 ghost use Rattle.pawauthor.specs.declared.ending.AuthorEnd.TheVariants as ending;
-ghost use Rattle.pawauthor.specs.Writing.{EndsWith};
+ghost use Rattle.pawauthor.specs.Writing.{SaysMistake};
 
 use crate::ending::AuthorEnd;
 use crate::files::plain_source;
@@ -47,7 +47,7 @@ fn show_lines<S: Stage>(alloc: Global, stage: &mut S, lines: &[LineInParts]) -> 
 
 // The ending for a mistake.
 fn with_mistake(alloc: Global, source: &str, files: &[File], mistake: Mistake) -> AuthorEnd
-    ensures ends { EndsWith source.now files.now mistake result }
+    ensures ends { SaysMistake source.now files.now mistake result }
 {
     match mistake_line(alloc, source, files, mistake) {
         Ok(line) => AuthorEnd::Mistaken(line),
