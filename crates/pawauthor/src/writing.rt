@@ -1,10 +1,9 @@
 // What the program does with its words.
 
-ghost use Rattle.std.specs.Prelude.{◌≡◌, ◌≢◌, ◌↔◌, ◌++◌, [], IfOk, map, string_bytes};
-ghost use Rattle.paw_author.specs.Laws.{all_bytes};
+ghost use Rattle.std.specs.Prelude.{◌≡◌, ◌≢◌, ◌↔◌, ◌++◌, [], IfOk, drop, map, string_bytes};
 ghost use Rattle.paw_stage.specs.AcrossCalls.{IfTelling};
 ghost use Rattle.pawauthor.specs.declared.ending.AuthorEnd.TheVariants as ending;
-ghost use Rattle.pawauthor.specs.Writing.{SaysMistake};
+ghost use Rattle.pawauthor.specs.Writing.{SaysMistake, ShowsLines, WritesPlain};
 
 use crate::ending::AuthorEnd;
 use crate::files::plain_source;
@@ -33,7 +32,7 @@ fn switches_of(alloc: Global, words: &[String]) -> Result<Vec<Switch>, NoRoom>
 // Shows the bytes of a plain source.
 fn show_lines<S: Stage>(alloc: Global, stage: &mut S, lines: &[LineInParts]) -> AuthorEnd
     ensures shows { IfTelling S.Stage stage.old stage.new
-        (λ old new. result ≡ ending.Written → new ≡ record old { shown = old.shown ++ all_bytes lines.now }) }
+        (λ old new. ShowsLines lines.now old new result) }
     ensures form { result ≢ ending.Usage }
 {
     let Ok(bytes) = plain_bytes(alloc, lines) else {
@@ -58,6 +57,8 @@ fn with_mistake(alloc: Global, source: &str, files: &[File], mistake: Mistake) -
 // Writes the plain source of a source, where the switches of these names are on.
 fn write_plain<S: Stage>(alloc: Global, stage: &mut S, source: &str, names: &[String]) -> AuthorEnd
     ensures form { result ≢ ending.Usage }
+    ensures writes { IfTelling S.Stage stage.old stage.new
+        (λ old new. WritesPlain (map (λ name. string_bytes name) names.now) old new result) }
 {
     let Ok(switches) = switches_of(alloc, names) else {
         return AuthorEnd::Memory;
@@ -73,6 +74,8 @@ fn write_plain<S: Stage>(alloc: Global, stage: &mut S, source: &str, names: &[St
 /// Writes the plain source of the file that the first word names, where the switches that the others name are on.
 pub fn write_source<S: Stage>(alloc: Global, stage: &mut S, words: &[String]) -> AuthorEnd
     ensures usage { (result ≡ ending.Usage) ↔ (words.now ≡ []) }
+    ensures writes { IfTelling S.Stage stage.old stage.new
+        (λ old new. WritesPlain (map (λ name. string_bytes name) (drop 1 words.now)) old new result) }
 {
     match words {
         [] => AuthorEnd::Usage,
