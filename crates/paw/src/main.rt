@@ -10,12 +10,22 @@ use paw_routines::routines::Routines;
 use paw_stage::RealStage;
 use paw_top::outcome::{NO_MEMORY, Outcome};
 use paw_top::top::paw;
-use paw_words::words_of;
 use std::alloc::Global;
+use std::env::{self, Env};
+use std::io::{self, ErrorKind};
 use std::process::ExitCode;
 
 #[cfg(test)]
 mod tests;
+
+// The words after the program's name; none of them where one isn't text.
+fn words_of<R: Env + AllocGlobal>(rt: &R) -> io::Result<Vec<String>> {
+    match env::args(rt) {
+        Ok(words) => Ok(words.skip(1).collect(rt.alloc())?),
+        Err(e) if e.kind() == ErrorKind::InvalidData => Ok(Vec::new(rt.alloc())),
+        Err(e) => Err(e),
+    }
+}
 
 // Writes the outcome's text to standard error, and gives its status. Where there is no memory for the text, or standard
 // error doesn't take it, there is the status alone.

@@ -1,7 +1,7 @@
 -- The row of files: which files there are, by the lines that include them, and in which order they stand.
-use Rattle.std.specs.Prelude.{ℕ, zero, suc, ◌==◌, Bool, List, [], ◌∷◌, ◌++◌, length, if◌then◌else◌}
+use Rattle.std.specs.Prelude.{ℕ, zero, suc, ◌-◌, ◌==◌, Bool, not, List, [], ◌∷◌, ◌++◌, length, take, if◌then◌else◌}
 use Rattle.std.specs.Prelude.{Option, Some, None, Result, Ok, Err, bytes_eq, codes, slice_get}
-use Rattle.std.specs.List.{list_any, position}
+use Rattle.std.specs.List.{list_any, position, suffix_len}
 use Rattle.std.specs.Option.{ok_or}
 use Rattle.paw_base.specs.Bytes.{Name}
 use Rattle.paw_base.specs.declared.fault.SourceKind.TheVariants.{Section}
@@ -10,7 +10,6 @@ use Rattle.paw_author.specs.declared.fragment.Origin.{Origin}
 use Rattle.paw_author.specs.declared.mistake.Mistake.{Mistake}
 use Rattle.paw_author.specs.Fragments.{Fragments, LinesInParts}
 use Rattle.paw_author.specs.Mistakes.{wrong_line, lost_file}
-use Rattle.paw_author.specs.Paths.{path_folder, path_followed}
 use Rattle.paw_author.specs.Tokens.{line_origin, origin_of, leading_word, line_tokens, token_at, token_count}
 use Rattle.paw_author.specs.Tokens.{is_same, is_quoted, without_quotes, starts_with_byte}
 
@@ -33,12 +32,14 @@ is_include line = is_same (leading_word line) (codes "/INCLUDE")
 abbrev pub written_path : Fragments → Name
 written_path line = if is_quoted (token_at 1 line) then without_quotes (token_at 1 line) else token_at 1 line
 
--- The path that a line of a file names: from the folder of that file on, or from the top where it begins with `/`. Its `.`
--- and `..` are followed, so that a file has one path.
+-- The folder of a path: all up to its last `/`, and with it.
+abbrev pub path_folder : Name → Name
+path_folder path = take (length path - suffix_len (λ b. not (b == 47)) path) path
+
+-- The path that a line of a file names: from the folder of that file on, or from the top where it begins with `/`.
 abbrev pub included_path : Name → Fragments → Name
 included_path name line =
-    path_followed
-    (if starts_with_byte 47 (written_path line) then written_path line else path_folder name ++ written_path line)
+    if starts_with_byte 47 (written_path line) then written_path line else path_folder name ++ written_path line
 
 -- The index of the file with this path.
 abbrev pub index_of_path : ReadFiles → Name → Option ℕ

@@ -7,7 +7,6 @@ pub mod Tokens
 pub mod Choices
 pub mod Sections
 pub mod Includes
-pub mod Paths
 pub mod Units
 pub mod Joining
 pub mod Hooks
@@ -19,4 +18,3 @@ pub mod Order
 pub mod PlainSources
 pub mod Authored
 pub mod Laws
-pub mod ReadingOn

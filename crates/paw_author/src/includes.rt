@@ -3,13 +3,12 @@
 ghost use Rattle.std.specs.Prelude.{◌≡◌, ◌<◌, ◌≤◌, ◌==◌, not, IfOk, IfSome, bytes_eq, length};
 ghost use Rattle.std.specs.List.{list_any, position, suffix_len};
 ghost use Rattle.paw_read_error.specs.inner.Gives.{Gives};
-ghost use Rattle.paw_author.specs.Includes.{is_include, written_path, included_path, index_of_path, path_of};
+ghost use Rattle.paw_author.specs.Includes.{is_include, written_path, path_folder, included_path, index_of_path, path_of};
 ghost use Rattle.paw_author.specs.Includes.{path_origin, file_of, line_before, lines_before, file_before, order_of_files};
 ghost use Rattle.paw_author.specs.Includes.{leads_to_itself};
 
 use crate::fragment::{Fragment, LineInParts, Origin};
 use crate::mistake::{AuthorError, Mistake, lost_file, wrong_line};
-use crate::paths::{path_folder, path_followed};
 use crate::tokens::{
     is_quoted, is_same, leading_word, line_origin, origin_of, starts_with_byte, token, token_at,
     token_count, without_quotes,
@@ -56,24 +55,32 @@ fn written_path(alloc: Global, line: &[Fragment]) -> Result<Vec<u8>, AllocError>
     }
 }
 
-/// The path that a line of a file names.
-///
-/// # Errors
-/// Where there is no memory.
-pub(crate) fn included_path(
-    alloc: Global,
-    name: &[u8],
-    line: &[Fragment],
-) -> Result<Vec<u8>, AllocError>
+// How many bytes stand after the last `/` of a path.
+fn name_len(path: &[u8]) -> usize
+    ensures value { result ≡ suffix_len (λ b. not (b == 47)) path.now }
+    ensures within { result ≤ length path.now }
+{
+    path.iter().rev().take_while(|b| **b != b'/').count()
+}
+
+// The folder of a path.
+fn path_folder(path: &[u8]) -> &[u8]
+    ensures value { result.now ≡ path_folder path.now }
+{
+    &path[..path.len() - name_len(path)]
+}
+
+// The path that a line of a file names.
+fn included_path(alloc: Global, name: &[u8], line: &[Fragment]) -> Result<Vec<u8>, AllocError>
     ensures value { IfOk result (λ path. path.items ≡ included_path name.now line.now) }
 {
     let written = written_path(alloc, line)?;
     if starts_with_byte(b'/', written.as_slice()) {
-        return path_followed(alloc, written.as_slice());
+        return Ok(written);
     }
     let mut path = Vec::from_slice(alloc, path_folder(name))?;
     path.extend_from_slice(written.as_slice())?;
-    path_followed(alloc, path.as_slice())
+    Ok(path)
 }
 
 // Whether a file has this path.
@@ -83,8 +90,8 @@ fn has_path(file: &TakenFile, path: &[u8]) -> bool
     file.name.as_slice() == path
 }
 
-/// The index of the file with this path.
-pub(crate) fn index_of_path(files: &[TakenFile], path: &[u8]) -> Option<usize>
+// The index of the file with this path.
+fn index_of_path(files: &[TakenFile], path: &[u8]) -> Option<usize>
     ensures value { result ≡ index_of_path files.now path.now }
     ensures within { IfSome result (λ i. i < length files.now) }
 {
@@ -101,8 +108,8 @@ fn path_of(alloc: Global, name: &[u8], line: &[Fragment]) -> Result<Vec<u8>, Aut
     Ok(included_path(alloc, name, line)?)
 }
 
-/// The place of the path in a line.
-pub(crate) fn path_origin(line: &[Fragment]) -> Origin
+// The place of the path in a line.
+fn path_origin(line: &[Fragment]) -> Origin
     ensures value { result ≡ path_origin line.now }
 {
     origin_of(token(line, 1))

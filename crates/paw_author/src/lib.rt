@@ -16,9 +16,7 @@ mod name_rows;
 mod named_lines;
 mod order;
 mod parts;
-mod paths;
 mod plain_sources;
-pub mod reading_on;
 mod sections;
 mod table_numbers;
 #[cfg(test)]

@@ -1,5 +1,6 @@
 -- Each plays as if alone.
-use Rattle.paw_host.proofs.Cited.{last_more, ◌≡◌, inl, inr, suc, ◌+◌, ◌≤◌, List, [], ◌∷◌, ◌++◌, Option, Some, None, refl, sym, ap, ◌∙◌, subst, length, map, arith, append_assoc, if◌then◌else◌, append-nil, length-append, Lines, Text, Texts, Name, Seed, Story, Prompt, Frame, Run, StepRow, Ending, WaitsAt, Halted, Unended, reading, pieces_of, ending_followed, ending_with_past, goes_on_with, Counted, pieces_of_lines, going_on_is_reading, longer_reading, last_piece, Request, request_of, Absent, At, Sessions, Answer, gone_on, sessions_with, asked_first, answered_first, EachPlaysAlone, PiecesAreAnswered, asked_of, answered_to, session_after, answers_of, answer, sessions_after}
+use Rattle.paw_host.proofs.Cited.{◌≡◌, inl, inr, suc, ◌+◌, ◌≤◌, List, [], ◌∷◌, ◌++◌, Option, Some, None, refl, sym, ap, ◌∙◌, subst, length, map, arith, append_assoc, if◌then◌else◌, append-nil, length-append, Lines, Text, Texts, Name, Seed, Story, Prompt, Frame, Run, StepRow, Ending, WaitsAt, Halted, Unended, reading, pieces_of, ending_followed, ending_with_past, goes_on_with, Counted, pieces_of_lines, going_on_is_reading, longer_reading, last_piece, Request, request_of, Absent, At, Sessions, Answer, gone_on, sessions_with, asked_first, answered_first, EachPlaysAlone, PiecesAreAnswered, asked_of, answered_to, session_after, answers_of, answer, sessions_after}
+use Rattle.paw_reading.specs.declared.halt.Halt.TheVariants as halt
 use Rattle.paw_host.proofs.{Named.by_name, Texts.StaysOrGoes, Texts.line_goes}
 
 -- ---- one name among others ----
@@ -50,7 +51,8 @@ each_plays_alone = record { session = session_alone; answers = answers_alone }
 waits_by : (g : Story) (fs : Lines) (e : Ending) (p : Prompt) (path : List Frame) (r : Run) → ending_followed g fs e ≡ WaitsAt p path r →
     (q : Prompt) × (at : List Frame) × (s : Run) × (e ≡ WaitsAt q at s)
 waits_by g fs (WaitsAt q at s) p path r h = (q, at, s, refl)
-waits_by g fs _ p path r h = cc
+waits_by g fs (Halted halt s) p path r h = cc
+waits_by g fs Unended p path r h = cc
 
 -- Where the reading of more lines waits, that of some does.
 waits_before : (g : Story) (seed : Seed) (es fs : Lines) (p : Prompt) (path : List Frame) (r : Run) → reading g seed (es ++ fs) ≡ WaitsAt p path r →
@@ -59,9 +61,15 @@ waits_before g seed es fs p path r h = waits_by g fs (reading g seed es) p path 
 
 -- ---- one piece for each text ----
 
+last_more : (pieces : Texts) (piece : Text) → last_piece (pieces ++ piece ∷ []) ≡ piece
+last_more [] piece = refl
+last_more (x ∷ []) piece = refl
+last_more (x ∷ y ∷ pieces) piece = last_more (y ∷ pieces) piece
+
 one_piece : (pieces : Texts) → length pieces ≡ 1 → pieces ≡ last_piece pieces ∷ []
+one_piece [] h = absurd (omega (arith, h))
 one_piece (x ∷ []) h = refl
-one_piece _ h = absurd (omega (arith, h))
+one_piece (x ∷ y ∷ pieces) h = absurd (omega (arith, h))
 
 -- A reading that waits has one piece for each line, and one before them.
 pieces_count : (g : Story) (seed : Seed) (es : Lines) (p : Prompt) (path : List Frame) (r : Run) → reading g seed es ≡ WaitsAt p path r →

@@ -1,5 +1,6 @@
 -- Answers that are put together of the parts of a session's work.
 use Rattle.paw_host.proofs.Cited.{◌≡◌, ◌⊎◌, inl, inr, [], ◌∷◌, ◌++◌, refl, sym, ap, ◌∙◌, subst, append_assoc, Option, Some, None, Bytes, Lines, Text, Seed, Story, Standing, IsUnmade, recover, ChangesStoreOnly, Stands, NamedSession, Absent, At, Answer, begun_answer, begun_with_text, answer_taking, Stores, LeftOfMaking, Answers, InFile, LeftOf, LeftOfBeginning, StoresEither, answer}
+use Rattle.paw_reading.specs.declared.halt.Halt.TheVariants as halt
 use Rattle.paw_host.proofs.{Reaching.in_file, Reaching.in_file_on, Texts.line_goes}
 
 -- ---- sessions that are begun ----

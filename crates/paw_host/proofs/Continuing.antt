@@ -1,5 +1,6 @@
 -- Sessions stay such as may be, whatever is asked of them.
-use Rattle.paw_host.proofs.Cited.{◌≡◌, inl, inr, ℕ, ◌+◌, ◌<◌, ◌^◌, [], ◌∷◌, ◌++◌, refl, sym, subst, true, Option, Some, None, All-append, All-cons, All-nil, Lines, Text, Seed, Story, IsLine, ValidStory, Ending, WaitsAt, reading, going_on, IsPlayedWith, Request, is_name, NamedSession, Absent, At, From, Refused, Sessions, from_end, Answer, begun_answer, begun_with_text, answer_taking, sessions_with, MayBe, AllMay, answer}
+use Rattle.paw_host.proofs.Cited.{◌≡◌, inl, inr, ℕ, ◌+◌, ◌<◌, ◌^◌, [], ◌∷◌, ◌++◌, refl, sym, subst, true, Option, Some, None, All-append, All-cons, All-nil, Lines, Text, Seed, Story, IsLine, ValidStory, Ending, WaitsAt, Halted, Unended, reading, going_on, IsPlayedWith, Request, is_name, NamedSession, Absent, At, From, Refused, Sessions, from_end, Answer, begun_answer, begun_with_text, answer_taking, sessions_with, MayBe, AllMay, answer}
+use Rattle.paw_reading.specs.declared.halt.Halt.TheVariants as halt
 use Rattle.paw_host.proofs.{Serving.each_name, Texts.StaysOrGoes, Texts.goes, Texts.text_goes, Texts.line_goes}
 
 -- The text, if there is one, is a line.
@@ -20,7 +21,8 @@ taken_may g own es text p l = may_go g (At own es) (At own (es ++ text ∷ [])) 
 
 end_may : (g : Story) (n : ℕ) (e : Ending) → MayBe g (from_end n e)
 end_may g n (WaitsAt p path r) = tt
-end_may g n _ = tt
+end_may g n (Halted halt r) = tt
+end_may g n Unended = tt
 
 begun_may : (g : Story) (text : Option Text) (body : Text) (s : NamedSession) → MayBe g s → IfLine text → MayBe g (begun_with_text g text body s).session
 begun_may g None body s p l = p

@@ -39,7 +39,8 @@ in_making : (g : Story) (seed : Seed) (before after : NamedSession) (bytes : Byt
 in_making g seed Absent (At own lines) bytes valid small (inl h) = half g seed own lines bytes h
 in_making g seed Absent (At own lines) bytes valid small (inr h) =
     (At seed [], (record { valid = valid; fits = small; lines = All-nil IsLine }, h, at_no_lines refl tt))
-in_making g seed _ _ bytes valid small h = absurd h
+in_making g seed Absent _ bytes valid small h = absurd h
+in_making g seed _ after bytes valid small h = absurd h
 
 found : (g : Story) (seed : Seed) (before after : NamedSession) (bytes : Bytes) (Attached : Type 0) → ValidStory g → seed < 2 ^ 64 → MayBe g before →
     MayBe g after →

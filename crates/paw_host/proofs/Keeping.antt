@@ -1,7 +1,7 @@
 -- Answers of a session that was kept.
-use Rattle.paw_host.proofs.Cited.{none_unmade, ◌≡◌, inl, ◌<◌, [], ◌++◌, refl, sym, ap, ◌∙◌, subst, length, arith, Option, None, codes, Ok, Err, Bytes, Text, Seed, Valid, Story, pieces_of, IsStable, EachMoment, Ghosts, StageCall, Passes_map, PlayerView, recover, ReadsStore, stable_leaves, last_piece, PlayEnd, OpenSession, ShowsSome, PlayedSession, from_shown, from_played, from_lines, from_state, call_of_end, IsOpen, ResumesTo, open_from, refuses_none, NamedSession, Absent, At, From, Refused, Stores, MayBe, IsPlayedAs, after_lines, after_state, end_word, TakesTexts, Answers, InFile, StoresEither, answer}
+use Rattle.paw_host.proofs.Cited.{◌≡◌, inl, ◌<◌, [], ◌++◌, refl, sym, ap, ◌∙◌, subst, length, arith, Option, None, codes, Ok, Err, Bytes, Text, Seed, Valid, Story, pieces_of, IsStable, EachMoment, Ghosts, StageCall, Passes_map, PlayerView, recover, ReadsStore, stable_leaves, last_piece, PlayEnd, OpenSession, ShowsSome, PlayedSession, from_shown, from_played, from_lines, from_state, call_of_end, IsOpen, ResumesTo, open_from, refuses_none, NamedSession, Absent, At, From, Refused, Stores, MayBe, IsPlayedAs, after_lines, after_state, end_word, TakesTexts, Answers, InFile, StoresEither, answer}
 use Rattle.paw_play.specs.declared.PlayEnd.TheVariants as end
-use Rattle.paw_host.proofs.{Played.piece_shown, Played.same_piece, Played.takes_texts, Reaching.not_shown}
+use Rattle.paw_host.proofs.{Played.piece_shown, Played.same_piece, Played.takes_texts, Reaching.not_shown, Reaching.unmade}
 
 -- ---- a session that is resumed ----
 
@@ -9,7 +9,7 @@ module _ {F : Type 0} (g : Story) (valid : Valid g.game) (bytes : Bytes) (seat :
   -- The store of a name that is resumed has the session of the name, and that is played.
   pub resumed : (o : OpenSession) → ResumesTo g bytes seat piece (Ok o) → (a : NamedSession) → MayBe g a → Stores g a bytes →
       (s : PlayedSession) × IsPlayedAs g a s × IsOpen g s 0 [] seat [] piece bytes × (o.events ≡ s.before)
-  resumed o r Absent may stores = absurd (not_shown (recover bytes) _ _ _ (none_unmade bytes stores) r.2.shown)
+  resumed o r Absent may stores = absurd (not_shown (recover bytes) _ _ _ (unmade bytes stores) r.2.shown)
   resumed o r (At seed es) may stores =
       let s : PlayedSession = from_lines g seed es stores.digests [] in
       let opened = open_from g [] bytes s valid (from_played seed es may stores) seat piece o r in

@@ -1,5 +1,5 @@
 -- What calls in a row did to the stage, and in which state the store is after them.
-use Rattle.paw_host.proofs.Cited.{◌≡◌, ◌+◌, ◌++◌, ◌∙◌, List, ◌∷◌, [], Option, None, Result, refl, ap, length, length-append, on_ok_weaker, OnOk, Ok, Err, Name, Text, Ghosts, StageCall, IsOneOf, FailsOnlyBy, Standing, with_store_opened, writing_calls, IsAtRest, failed_stage_call, ChangesStoreOnly, ReadsStore, beside_same, in_front, serves_among, serves_then, IsAside, answer_calls, IsAttachedStable, LeavesStage}
+use Rattle.paw_host.proofs.Cited.{◌≡◌, ◌+◌, ◌++◌, ◌∙◌, List, ◌∷◌, [], Option, None, Result, refl, ap, length, length-append, on_ok_weaker, OnOk, Ok, Err, Name, Text, Ghosts, StageCall, EachMoment, IsOneOf, FailsOnlyBy, Passes_map, Passes_on, DoneWithMoments, Standing, with_store_opened, writing_calls, IsAtRest, failed_stage_call, ChangesStoreOnly, ReadsStore, beside_same, in_front, serves_among, serves_then, IsAside, answer_calls, IsAttachedStable, LeavesStage}
 use Rattle.paw_stage.specs.declared.StageCall.TheVariants as call
 use Rattle.paw_host.proofs.Reaching.{attached_still, aside_beside}
 
@@ -51,3 +51,15 @@ pub serves_next : {S : Type 0} {g : Ghosts S} {first next calls : List StageCall
     FailsOnlyBy g first None old mid → FailsOnlyBy g next failed mid new → ((c : StageCall) → IsOneOf next c → IsOneOf calls c) →
     FailsOnlyBy g calls failed old new
 serves_next a b among = serves_then _ _ _ _ _ _ _ a (serves_among _ _ _ _ _ _ among b)
+
+-- What calls promise, by less.
+pub promised : {S : Type 0} {g : Ghosts S} {old new : S} {Done Less : Type 0} {Inside Within : Standing → Type 0} →
+    DoneWithMoments g old new Done Inside → (Done → Less) → ((m : Standing) → Inside m → Within m) → DoneWithMoments g old new Less Within
+promised {Inside} {Within} h less within = record { meaning = less h.meaning; any_moment = Passes_map _ _ _ _ Inside Within h.any_moment within }
+
+-- What they promise after others.
+pub promised_after : {S : Type 0} {g : Ghosts S} {old mid new : S} {Done Less : Type 0} {Inside Within : Standing → Type 0} →
+    DoneWithMoments g mid new Done Inside → EachMoment g old mid Within → (Done → Less) → ((m : Standing) → Inside m → Within m) →
+    DoneWithMoments g old new Less Within
+promised_after {Inside} {Within} h before less within =
+    record { meaning = less h.meaning; any_moment = Passes_on _ _ _ _ _ _ Within Inside before h.any_moment within }

@@ -8,8 +8,11 @@ ascii_byte b h = elim (or_cases (is_ascii_lowercase b) (is_ascii_digit b) h) [
 ]
 
 ascii_end : (i : ℕ) → get_or (codes ".paw") i 0 < 128
+ascii_end zero = omega arith
+ascii_end (suc zero) = omega arith
+ascii_end (suc (suc zero)) = omega arith
 ascii_end (suc (suc (suc zero))) = omega arith
-ascii_end i = omega arith
+ascii_end (suc (suc (suc (suc i)))) = omega arith
 
 ascii_at : (name : Name) → list_all is_name_byte name ≡ true → (i : ℕ) → get_or (name ++ codes ".paw") i 0 < 128
 ascii_at [] h i = ascii_end i

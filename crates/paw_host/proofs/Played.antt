@@ -1,5 +1,5 @@
 -- The session that is played for a name: what it says at once, and what a text brings there.
-use Rattle.paw_host.proofs.Cited.{◌≡◌, inl, inr, ℕ, ◌+◌, ◌<◌, [], ◌∷◌, ◌++◌, refl, sym, ap, ◌∙◌, subst, false, List, length, length-append, arith, Some, None, Ok, Err, append-nil, le-leb, lt-leb, Bytes, Lines, Seed, Text, EVENT_LIMIT, Standing, Story, Prompt, Frame, Run, Halt, Ending, WaitsAt, Halted, reading, pieces_of, Counted, pieces_of_lines, PlayerView, Digests, Recovered, Shown, recover, last_piece, PlayEnd, story_digests, IsOfStory, IsKept, IsPlayed, Stands, ending_since, PlayedSession, going_on, session_begun, call_of_end, BeginsTo, HaltsAfter, InBeginning, InTaking, IsOpen, KeepsAfter, StopsAtState, TakesLineTo, WaitsAfter, whole_kept, begun_keeps, later_keeps, NamedSession, Absent, At, From, Answer, from_end, gone_on, unless_closed, begun_answer, is_over, Stores, IsPlayedAs, begun, after_lines, after_state, end_word, TakesTexts, ending_with, session_with, Answers, InFile, LeftOfBeginning, StoresEither, answer}
+use Rattle.paw_host.proofs.Cited.{◌≡◌, inl, inr, ℕ, ◌+◌, ◌<◌, [], ◌∷◌, ◌++◌, refl, sym, ap, ◌∙◌, subst, false, List, length, length-append, arith, Some, None, Ok, Err, append-nil, le-leb, lt-leb, Bytes, Lines, Seed, Text, EVENT_LIMIT, Standing, Story, Prompt, Frame, Run, Halt, Ending, WaitsAt, Halted, Unended, reading, pieces_of, Counted, pieces_of_lines, PlayerView, Digests, Recovered, Shown, recover, last_piece, PlayEnd, story_digests, IsOfStory, IsKept, IsPlayed, Stands, ending_since, PlayedSession, going_on, session_begun, call_of_end, BeginsTo, HaltsAfter, InBeginning, InTaking, IsOpen, KeepsAfter, StopsAtState, TakesLineTo, WaitsAfter, whole_kept, begun_keeps, later_keeps, NamedSession, Absent, At, From, Answer, from_end, gone_on, unless_closed, begun_answer, is_over, Stores, IsPlayedAs, begun, after_lines, after_state, end_word, TakesTexts, ending_with, session_with, Answers, InFile, LeftOfBeginning, StoresEither, answer}
 use Rattle.paw_reading.specs.declared.halt.Halt.TheVariants as halt
 use Rattle.paw_play.specs.declared.PlayEnd.TheVariants as end
 use Rattle.paw_host.proofs.Reaching.{in_file}
@@ -22,13 +22,15 @@ piece_shown h k = same_piece _ _ _ _ _ _ (sym h.shown ∙ k.shown)
 
 -- A reading that is followed from some piece on halts as it does from its first.
 same_halt : (n : ℕ) (e : Ending) (halt : Halt) (r : Run) → ending_since n e ≡ Halted halt r → (s : Run) × (e ≡ Halted halt s)
+same_halt n (WaitsAt p path s) halt r h = cc
 same_halt n (Halted other s) halt r h = let k : other ≡ halt = cc in (s, ap (λ x. Halted x s) k)
-same_halt n _ halt r h = cc
+same_halt n Unended halt r h = cc
 
 -- And waits as it does.
 same_wait : (n : ℕ) (e : Ending) (p : Prompt) (path : List Frame) (r : Run) → ending_since n e ≡ WaitsAt p path r → is_over e ≡ false
 same_wait n (WaitsAt q fs s) p path r h = refl
-same_wait n _ p path r h = cc
+same_wait n (Halted halt s) p path r h = cc
+same_wait n Unended p path r h = cc
 
 -- ---- the session that is played ----
 

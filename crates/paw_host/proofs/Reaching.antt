@@ -1,5 +1,5 @@
 -- From a store at rest to one that is attached, and what a crash leaves of all files meanwhile.
-use Rattle.paw_host.proofs.Cited.{none_unmade, ◌≡◌, ◌≢◌, ◌⊎◌, inl, inr, [], Option, Some, None, refl, sym, ap, ◌∙◌, subst, if◌then◌else◌, Bytes, Name, Seed, Disk, MayLeave, Standing, Files, file_bytes, bytes_or_none, made_if_missing, with_store_opened, Unattached, InAttach, IsUnmade, Recovered, Shown, Digests, ChangesStoreOnly, stable_is, stable_leaves, beside_none, in_later, Story, MayBeLeft, other_file, NamedSession, Absent, At, From, Refused, Stores, InFile, InAnswer, IsAside, LeftOf, StoresEither, Rests, recover}
+use Rattle.paw_host.proofs.Cited.{◌≡◌, ◌≢◌, ◌⊎◌, inl, inr, [], Option, Some, None, refl, sym, ap, ◌∙◌, subst, length, ◌∷◌, if◌then◌else◌, Bytes, Name, Seed, Disk, MayLeave, stable, Standing, Files, file_bytes, bytes_or_none, made_if_missing, with_store_opened, Unattached, InAttach, IsUnmade, Recovered, Shown, Digests, ChangesStoreOnly, stable_is, stable_leaves, beside_none, in_later, Story, MayBeLeft, other_file, NamedSession, Absent, At, From, Refused, Stores, InFile, InAnswer, IsAside, LeftOf, StoresEither, Rests, recover, recover_by}
 use Rattle.paw_host.proofs.Named.{by_name}
 
 -- A moment at which nothing is done yet: all rests, and each file has the bytes that it had.
@@ -142,13 +142,22 @@ answer_in_kept g seed name before after old mid m stores is i =
 
 -- ---- what it leaves ----
 
+pub no_bytes : (bytes : Bytes) → length bytes ≡ 0 → bytes ≡ []
+no_bytes [] h = refl
+no_bytes (b ∷ bytes) h = cc
+
+-- No bytes are no session.
+pub unmade : (bytes : Bytes) → bytes ≡ [] → IsUnmade (recover bytes)
+unfolding recover recover_by
+unmade bytes e = rw e tt
+
 pub not_shown : (r : Recovered) (d : Digests) (state piece : Bytes) → IsUnmade r → r ≡ Shown d state piece → ⊥
 not_shown r d state piece h e = subst IsUnmade e h
 
 pub none_stored : (g : Story) (before : NamedSession) (bytes : Bytes) → bytes ≡ [] → Stores g before bytes → before ≡ Absent
 none_stored g Absent bytes e h = refl
-none_stored g (At own es) bytes e h = absurd (not_shown (recover bytes) _ _ _ (none_unmade bytes e) h.keeps.shown)
-none_stored g (From st piece) bytes e h = absurd (not_shown (recover bytes) _ _ _ (none_unmade bytes e) h.shows.shown)
+none_stored g (At own es) bytes e h = absurd (not_shown (recover bytes) _ _ _ (unmade bytes e) h.keeps.shown)
+none_stored g (From st piece) bytes e h = absurd (not_shown (recover bytes) _ _ _ (unmade bytes e) h.shows.shown)
 none_stored g (Refused kept) bytes e h = absurd (h.1.0 (sym h.0 ∙ e))
 
 -- An attach that failed.

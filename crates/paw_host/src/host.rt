@@ -18,11 +18,10 @@ ghost use Rattle.paw_host.specs.declared.outcome.HostOutcome.TheVariants as outc
 
 use crate::answer::Hosted;
 use crate::lines::Seats;
+use crate::open::{load, view_in};
 use crate::outcome::HostOutcome;
 use crate::words::call_of;
-use paw_base::limits::IMAGE_LIMIT;
 use paw_game::tables::Tables;
-use paw_image::view::View;
 use paw_journal::digest;
 use paw_routines::routines::Routines;
 use paw_stage::Stage;
@@ -85,13 +84,13 @@ pub fn host<S: Stage, F: Fn(u8, u8) -> u8>(
         Some(call) => call,
         None => return HostOutcome::Usage,
     };
-    let bytes = match stage.load(alloc, call.image, IMAGE_LIMIT) {
+    let bytes = match load(alloc, stage, call.image) {
         Ok(bytes) => bytes,
-        Err(refusal) => return refusal.into(),
+        Err(outcome) => return outcome,
     };
-    let view = match View::new(alloc, bytes.as_slice()) {
+    let view = match view_in(alloc, bytes.as_slice()) {
         Ok(view) => view,
-        Err(refusal) => return refusal.into(),
+        Err(outcome) => return outcome,
     };
     let hosted = Hosted {
         tables: &view,

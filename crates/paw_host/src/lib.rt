@@ -6,6 +6,7 @@ pub mod host;
 pub mod laws;
 pub mod lines;
 mod names;
+mod open;
 pub mod outcome;
 mod reply;
 mod words;

@@ -3,8 +3,7 @@
 ghost use Rattle.std.specs.Prelude.{◌≡◌};
 ghost use Rattle.paw_host.specs.Outcomes.{host_status};
 
-use paw_image::refusal::ImageRefusal;
-use paw_stage::{LoadRefusal, StageCall};
+use paw_stage::StageCall;
 
 /// How hosting ends. InputEnded: no line is left, and each got its reply. Usage: the words have no form. ImageDamaged:
 /// the file is no image of a valid game; the offset of the first field that breaks its rule. Outside: a call of the
@@ -35,37 +34,6 @@ impl HostOutcome {
             HostOutcome::Outside(_) => 7,
             HostOutcome::Memory => NO_MEMORY,
             HostOutcome::Long { .. } => 9,
-        }
-    }
-}
-
-/// A load that gave no bytes.
-impl From<LoadRefusal> for HostOutcome {
-    ghost use Rattle.std.specs.Prelude.{◌≡◌};
-    ghost use Rattle.paw_host.specs.inner.Opens.{outcome_of_load};
-
-    ghost from_gives = { λ refusal outcome. outcome ≡ outcome_of_load refusal };
-
-    fn from(refusal: LoadRefusal) -> HostOutcome {
-        match refusal {
-            LoadRefusal::Absent => HostOutcome::Outside(StageCall::LoadAbsent),
-            LoadRefusal::Failed => HostOutcome::Outside(StageCall::Load),
-            LoadRefusal::Memory => HostOutcome::Memory,
-        }
-    }
-}
-
-/// Bytes that give no game.
-impl From<ImageRefusal> for HostOutcome {
-    ghost use Rattle.std.specs.Prelude.{◌≡◌};
-    ghost use Rattle.paw_host.specs.inner.Opens.{outcome_of_image};
-
-    ghost from_gives = { λ refusal outcome. outcome ≡ outcome_of_image refusal };
-
-    fn from(refusal: ImageRefusal) -> HostOutcome {
-        match refusal {
-            ImageRefusal::Damaged { at } => HostOutcome::ImageDamaged { at },
-            ImageRefusal::Memory => HostOutcome::Memory,
         }
     }
 }

@@ -1,5 +1,5 @@
 -- The attach of a session's store.
-use Rattle.paw_play.proofs.Names.{◌≡◌, ◌≢◌, [], ◌∷◌, Option, Some, None, refl, ap, ◌∙◌, subst, length, inl, inr, Bytes, Name, MayLeave, stable, Standing, Files, bytes_or_none, made_if_missing, stable_is, stable_leaves, IsUnmade, PlayedSession, InPlay, InMaking, InNewSession, attached_to, store_bytes, IsRestingStore, holds_same, holds_other, recover, recover_by}
+use Rattle.paw_play.proofs.Names.{◌≡◌, ◌≢◌, ℕ, [], ◌∷◌, Option, Some, None, Ok, refl, sym, ap, ◌∙◌, subst, length, inl, inr, Bytes, Name, MayLeave, stable, Standing, Files, bytes_or_none, made_if_missing, AttachesTo, stable_is, stable_leaves, IsUnmade, PlayedSession, InPlay, InMaking, InNewSession, attached_to, store_bytes, IsRestingStore, holds_same, holds_other, recover, recover_by}
 
 pub no_bytes : (bytes : Bytes) → length bytes ≡ 0 → bytes ≡ []
 no_bytes [] h = refl
@@ -10,6 +10,9 @@ no_bytes (b ∷ bytes) h = cc
 there_by : (name : Name) (files : Files) (file : Option Bytes) → files name ≡ file → made_if_missing name file files name ≡ Some (bytes_or_none file)
 there_by name files None e = holds_same name (Some []) files
 there_by name files (Some bytes) e = e
+
+is_there : (name : Name) (files : Files) → made_if_missing name (files name) files name ≡ Some (bytes_or_none (files name))
+is_there name files = there_by name files (files name) refl
 
 other_by : (name n : Name) (files : Files) (file : Option Bytes) → n ≢ name → made_if_missing name file files n ≡ files n
 other_by name n files None ne = holds_other name n (Some []) files ne
@@ -22,10 +25,13 @@ other_file old name n ne = other_by name n old.files (old.files name) ne
 -- ---- the store ----
 
 pub store_attached : (old : Standing) (name : Name) → IsRestingStore name (attached_to old name)
-store_attached old name = record { attached = refl; stable = stable_is (store_bytes old name); file = there_by name old.files (old.files name) refl }
+store_attached old name = record { attached = refl; stable = stable_is (store_bytes old name); file = is_there name old.files }
+
+pub store_empty : (old new : Standing) (name : Name) (n : ℕ) → AttachesTo old new name (Ok n) → n ≡ 0 → store_bytes old name ≡ []
+store_empty old new name n a e = no_bytes (store_bytes old name) (sym a.0 ∙ e)
 
 -- No bytes are no session.
-pub none_unmade : (image : Bytes) → image ≡ [] → IsUnmade (recover image)
+none_unmade : (image : Bytes) → image ≡ [] → IsUnmade (recover image)
 unfolding recover recover_by
 none_unmade image e = rw e tt
 

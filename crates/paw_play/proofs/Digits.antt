@@ -1,5 +1,5 @@
 -- A word of decimal digits, and the number that it is parsed as.
-use Rattle.paw_play.proofs.Names.{◌≡◌, ℕ, ◌<◌, ◌^◌, true, false, ltb, leb, cond, length, Option, Some, None, Result, Ok, Err, refl, ◌&&◌, list_all, option_and_then, and_from, and_parts, le-leb, leb-true, lt-ltb, ltb-true, Bytes, is_ascii_digit, OkIff, result_ok, digits_value, ParsesUnsigned, and-true, IsNumeralModel, numerals_by_value, parse_digits, number_of}
+use Rattle.paw_play.proofs.Names.{◌≡◌, ℕ, ◌<◌, ◌^◌, true, false, ltb, leb, cond, length, Option, Some, None, Result, Ok, Err, refl, ◌&&◌, list_all, option_and_then, and_from, and_parts, le-leb, leb-true, lt-ltb, ltb-true, Bytes, is_ascii_digit, OkIff, result_ok, digits_value, ParsesUnsigned, and-true, IsNumeralModel, numerals_by_value, parse_digits, number_of, seed_of}
 
 -- What decimal digits alone make, and what they are worth.
 pub decimal_digits : IsNumeralModel (λ ds. list_all is_ascii_digit ds ≡ true) (digits_value 10)
@@ -32,3 +32,8 @@ number_is bits most word r t h =
     let both = and_parts (leb (length word) most) _ t in
     rw (both.0, both.1, and-true (ltb 0 (length word)))
     (parsed_below (2 ^ bits) (digits_value 10 word) (length word) r (parse_digits decimal_digits bits word r h both.1))
+
+-- A seed is parsed so.
+pub seed_is : {E : Type 0} (word : Bytes) (r : Result ℕ E) → (leb (length word) 20 && list_all is_ascii_digit word) ≡ true
+    → ParsesUnsigned 64 10 word r → result_ok r ≡ seed_of word
+seed_is word r t h = number_is 64 20 word r t h

@@ -54,7 +54,8 @@ module _ {F : Type 0} {g : Story} {whole : EndingOf} {taken : Lines} {next : Pla
       let frames = (subst (λ q. StandsClosed q next.machine) is within.seated.machine).frames in
       let rightly = subst (λ (fs : List Frame). StandsRightly g.game prompt.Over (reverse fs) (run_at next h.pieces h.traces [])) frames closed in
       subst (StopsAtState g.game n) (sym at) (follows_at prompt.Over [] rightly (ap pieces_of at))
-  stops_by _ is shows = absurd shows
+  stops_by (step.Spent kind) is shows = absurd shows
+  stops_by (step.TooDeep table) is shows = absurd shows
 
 bounds_of : {F : Type 0} (g : Story) (seed : Seed) (n : ℕ) (whole : EndingOf) (s : Step) (next : PlayerView F) → IsStanding s → StandsClosed s next.machine →
     PlaysTo g whole s next [] [] → StopsBounded seed n (whole []) →
@@ -63,7 +64,8 @@ bounds_of g seed n whole (step.Waits q) next shows stands plays b =
     let is = plays.1.1 [] ∙ on_waits g q next.machine (run_at next (next.piece ∷ []) (plays.0 ∷ []) []) stands in
     (plays.0 ∷ [], subst (StopsBounded seed n) is b)
 bounds_of g seed n whole step.Ended next shows stands plays b = (plays.0 ∷ [], subst (StopsBounded seed n) (plays.1.1 []) b)
-bounds_of g seed n whole _ next shows stands plays b = absurd shows
+bounds_of g seed n whole (step.Spent kind) next shows stands plays b = absurd shows
+bounds_of g seed n whole (step.TooDeep table) next shows stands plays b = absurd shows
 
 module _ {F : Type 0} {g : Story} {whole : EndingOf} {taken : Lines} {seat : PlayerView F} {earlier piece : Text} (h : HasPlayed g whole taken seat earlier piece)
     (v : ValidStory g) (own : seat.game ≡ g.game) (n : ℕ) (few : n < EVENT_LIMIT) (drew : seat.world.draws ≤ READ_LIMIT * (n + 1))

@@ -20,14 +20,17 @@ IsSettled g n _ = Unit {0}
 -- ---- a reading from one of its pieces on ----
 
 from_last : (n : ℕ) (ps qs : Texts) → length ps ≡ suc n → drop n (ps ++ qs) ≡ last_piece ps ∷ qs
+from_last n [] qs all = absurd (omega arith)
 from_last zero (p ∷ []) qs all = refl
+from_last (suc n) (p ∷ []) qs all = absurd (omega arith)
+from_last zero (p ∷ q ∷ ps) qs all = absurd (omega arith)
 from_last (suc n) (p ∷ q ∷ ps) qs all = from_last n (q ∷ ps) qs (omega arith)
-from_last n ps qs all = absurd (omega arith)
 
 last_dropped : (n : ℕ) (ps : Texts) → n < length ps → last_piece (drop n ps) ≡ last_piece ps
+last_dropped n [] low = absurd (omega arith)
 last_dropped zero (p ∷ ps) low = refl
+last_dropped (suc n) (p ∷ []) low = absurd (omega arith)
 last_dropped (suc n) (p ∷ q ∷ ps) low = last_dropped n (q ∷ ps) (omega arith)
-last_dropped n ps low = absurd (omega arith)
 
 module _ (n : ℕ) (ps : Texts) (ts : List (List StepRow)) (all : length ps ≡ suc n) (each : length ts ≡ suc n) where
   run_since : (r : Run) → since_piece n (with_past ps ts r) ≡ with_past (last_piece ps ∷ []) [] r

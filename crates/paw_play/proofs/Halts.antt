@@ -7,4 +7,10 @@ pub ends_by_halt : (o : PlayEnd) (halt : Halt) → end_halt o ≡ Some halt → 
 ends_by_halt end.Ended halt e = ap (λ x. option_map_or end_of_halt x end.Memory) e
 ends_by_halt (end.Spent kind) halt e = ap (λ x. option_map_or end_of_halt x end.Memory) e
 ends_by_halt (end.TooDeep table) halt e = ap (λ x. option_map_or end_of_halt x end.Memory) e
-ends_by_halt _ halt e = cc
+ends_by_halt end.InputEnded halt e = cc
+ends_by_halt (end.Occupied n) halt e = cc
+ends_by_halt (end.Refused r) halt e = cc
+ends_by_halt (end.State at) halt e = cc
+ends_by_halt (end.Long events) halt e = cc
+ends_by_halt (end.Outside c) halt e = cc
+ends_by_halt end.Memory halt e = cc

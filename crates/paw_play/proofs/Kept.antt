@@ -34,4 +34,5 @@ step_kept g digests events whole (step.Waits p) next pieces traces shows last st
 step_kept g digests events whole step.Ended next pieces traces shows last stands plays =
     let closed = ap (λ fs. frames_at (reverse fs) next.machine.turning) stands.frames in
     rw (plays.1.1 [], last) (record { played = refl; shown = shown_at digests events prompt.Over [] next pieces closed })
-step_kept g digests events whole _ next pieces traces shows last stands plays = absurd shows
+step_kept g digests events whole (step.Spent kind) next pieces traces shows last stands plays = absurd shows
+step_kept g digests events whole (step.TooDeep u) next pieces traces shows last stands plays = absurd shows

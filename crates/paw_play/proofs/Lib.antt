@@ -1,5 +1,5 @@
 mod Names
-pub mod Doing
+mod Doing
 pub mod Halts
 mod ShownSteps
 pub mod Walking

@@ -1,5 +1,5 @@
 -- The lines of steps, and how long they are.
-use Rattle.paw_play.proofs.Names.{or-true, ◌≡◌, ℕ, zero, suc, ◌+◌, ◌-◌, ◌≤◌, ◌<◌, Bool, true, false, List, [], ◌∷◌, ◌++◌, refl, ap, inl, inr, length, arith, length-append, nat_le, ◌^◌, codes, decimal, if◌then◌else◌, slice_index_or, list_all, leb-true, cases_lt, lt-ltb, get_or_past, Bytes, Text, CondactLine, is_indirect, no_line, indirect_line, name_of, Puts, PIECE_LIMIT, StepRow, step_address, answer_text, step_line, more_line, length-decimal-le, INDIRECT, is_plain_code, condact_lines, plain_line, line_of, IsCode, plain_is, first_of_and, second_of_and}
+use Rattle.paw_play.proofs.Names.{◌≡◌, ℕ, zero, suc, ◌+◌, ◌-◌, ◌||◌, ◌≤◌, ◌<◌, Bool, true, false, List, [], ◌∷◌, ◌++◌, refl, ap, inl, inr, length, arith, length-append, nat_le, ◌^◌, codes, decimal, if◌then◌else◌, slice_index_or, list_all, leb-true, cases_lt, lt-ltb, get_or_past, Bytes, Text, CondactLine, is_indirect, no_line, indirect_line, name_of, Puts, PIECE_LIMIT, StepRow, step_address, answer_text, step_line, more_line, length-decimal-le, INDIRECT, is_plain_code, condact_lines, plain_line, line_of, IsCode, plain_is, first_of_and, second_of_and}
 
 -- What fits is put.
 pub put_whole : (ok : Bool) (old new text : Bytes) → Puts old new ok text → length old + length text ≤ PIECE_LIMIT
@@ -31,8 +31,12 @@ name_short code = go (is_indirect code)
     go true = plain_short (code - INDIRECT)
     go false = plain_short code
 
+or_true : (b : Bool) → (b || true) ≡ true
+or_true true = refl
+or_true false = refl
+
 indirect_is : (code : ℕ) → is_indirect code ≡ true → IsCode code
-indirect_is code e = rw e (or-true (is_plain_code code))
+indirect_is code e = rw e (or_true (is_plain_code code))
 
 no_plain_name : (code : ℕ) → ¬ IsCode code → (plain_line code).name ≡ []
 unfolding plain_line is_plain_code

@@ -1,6 +1,6 @@
 -- The names of other modules that the proofs of this crate cite, passed on: a proof takes all that it cites of them by one
 -- line.
-pub use Rattle.std.proofs.{Math.Bool.and-true, Math.Bool.or-true, Math.Path.fun_ext, Math.Seq.take-append_seam, lemmas.Fmt.length-decimal-le, lemmas.List.Elements.All-cons, lemmas.List.Elements.All-nil, lemmas.List.Elements.All-append, lemmas.List.Elements.All-map, lemmas.List.Elements.All-take, lemmas.List.Folds.concat-append, lemmas.Result.on_ok_weaker, lemmas.Slice.Eq.bytes_eq-Decides, lemmas.Str.Parse.IsNumeralModel, lemmas.Str.Parse.numerals_by_value, lemmas.Str.Parse.parse_digits}
+pub use Rattle.std.proofs.{Math.Bool.and-true, Math.Path.fun_ext, Math.Seq.take-append_seam, lemmas.Fmt.length-decimal-le, lemmas.List.Elements.All-cons, lemmas.List.Elements.All-nil, lemmas.List.Elements.All-append, lemmas.List.Elements.All-map, lemmas.List.Elements.All-take, lemmas.List.Folds.concat-append, lemmas.Result.on_ok_weaker, lemmas.Slice.Eq.bytes_eq-Decides, lemmas.Str.Parse.IsNumeralModel, lemmas.Str.Parse.numerals_by_value, lemmas.Str.Parse.parse_digits}
 pub use Rattle.std.proofs.Common.{◌≡◌, ◌≢◌, ◌+◌, ◌-◌, ◌≤◌, [], Some, refl, sym, ap, ◌∙◌, subst, arith, Ok, Err, append-nil, ℕ, ◌∷◌, Option, None, length, inl, inr, ◌<◌, ◌^◌, true, false, ltb, leb, cond, Result, ◌&&◌, ◌⊎◌, Bool, ◌*◌, List, ◌++◌, zero, suc, drop, take, ◌||◌, length-append, nat_le, append_assoc, map}
 pub use Rattle.std.proofs.lemmas.Bool.{and_from, and_parts, le-leb, leb-true, lt-ltb, ltb-true, cases_lt}
 pub use Rattle.std.proofs.lemmas.List.{take_all, length-take-le, get_or_past, take_at, take-append-drop, length-take, length-map, length-reverse, take_min, take-take, map-append, length-drop, drop_at}

@@ -14,11 +14,14 @@ module _ {F : Type 0} (g : Story) (whole after : EndingOf) (now : Lines) (next :
 
   reads_on : (found : Step) → next.last ≡ found → IsStanding found → PlaysTo g after found next pieces traces →
       (ts : List (List StepRow)) × ReadsOn g (λ lines. whole (now ++ lines)) next.last next (pieces ++ next.piece ∷ []) ts
-  reads_on (step.Spent kind) last shows plays = absurd shows
-  reads_on (step.TooDeep table) last shows plays = absurd shows
-  reads_on _ last shows plays =
+  reads_on (step.Waits p) last shows plays =
       let on = subst (λ s. ReadsOn g (λ lines. whole (now ++ lines)) s next (pieces ++ next.piece ∷ []) (traces ++ plays.0 ∷ [])) (sym last)
       (λ lines. goes lines ∙ plays.1.1 lines) in (traces ++ plays.0 ∷ [], on)
+  reads_on step.Ended last shows plays =
+      let on = subst (λ s. ReadsOn g (λ lines. whole (now ++ lines)) s next (pieces ++ next.piece ∷ []) (traces ++ plays.0 ∷ [])) (sym last)
+      (λ lines. goes lines ∙ plays.1.1 lines) in (traces ++ plays.0 ∷ [], on)
+  reads_on (step.Spent kind) last shows plays = absurd shows
+  reads_on (step.TooDeep table) last shows plays = absurd shows
 
   module _ (found : Step) (last : next.last ≡ found) (shows : IsStanding found) (plays : PlaysTo g after found next pieces traces) where
     machine_stands : StandsClosed found next.machine
@@ -48,6 +51,8 @@ step_halts : {F : Type 0} (g : Story) (whole after : EndingOf) (now : Lines) (ne
     end_if_no_piece found ≡ Some o → (P : PlayEnd → Type 0) →
     ((kind : _) → HaltsAfter whole now text (halt.Spent kind) → P (end.Spent kind)) →
     ((table : ℕ) → HaltsAfter whole now text (halt.TooDeep table) → P (end.TooDeep table)) → P o
+step_halts g whole after now next pieces traces text lines all is (step.Waits p) o plays e P spent deep = cc
+step_halts g whole after now next pieces traces text lines all is step.Ended o plays e P spent deep = cc
 step_halts g whole after now next pieces traces text lines all is (step.Spent kind) o plays e P spent deep =
     let k : end.Spent kind ≡ o = cc in
     let r = plays.1 [] in
@@ -56,7 +61,6 @@ step_halts g whole after now next pieces traces text lines all is (step.TooDeep 
     let k : end.TooDeep table ≡ o = cc in
     let r = plays.1 [] in
     subst P k (deep table (r.0, all ∙ r.1, r.4, ap concat r.2 ∙ sym is))
-step_halts g whole after now next pieces traces text lines all is _ o plays e P spent deep = cc
 
 -- ---- where a player has played some lines ----
 
@@ -83,6 +87,15 @@ module _ {F : Type 0} {g : Story} {whole : EndingOf} {taken : Lines} {seat : Pla
       ap whole (sym (append-nil taken))
       ∙ subst (λ s. ReadsOn g (λ lines. whole (taken ++ lines)) s seat h.pieces h.traces) last h.goes_on []
 
+  pub over_stops : (events : ℕ) (line : Line) → seat.last ≡ step.Ended → StopsAt whole events taken line end.Ended
+  over_stops events line last =
+      let e = over_here last in (run_at seat h.pieces h.traces [], e, refl, ap text_of (sym e))
+
+  pub full_stops : (events : ℕ) (line : Line) (p : Prompt) → seat.last ≡ step.Waits p → IsSeated seat → EVENT_LIMIT ≤ events →
+      StopsAt whole events taken line (end.Long EVENT_LIMIT)
+  full_stops events line p last seated full =
+      (full, refl, (p, reverse seat.machine.frames, run_at seat h.pieces h.traces [], waits_here p last seated))
+
   -- One line more.
   module _ (p : Prompt) (last : seat.last ≡ step.Waits p) (seated : IsSeated seat) (events : ℕ) (few : events < EVENT_LIMIT) (line : Line)
       (found : Step) (next : PlayerView F) (is : next.last ≡ found) (then_seated : IsSeated next)
@@ -100,29 +113,38 @@ module _ {F : Type 0} {g : Story} {whole : EndingOf} {taken : Lines} {seat : Pla
     text_is : text_of (whole taken) ≡ concat h.pieces
     text_is = ap text_of (waits_here p last seated)
 
-    pub next_played : (o : Option PlayEnd) → o ≡ end_if_no_piece found → MatchOption o (Brings g whole events taken line next)
-        (StopsAt whole events taken line)
-    next_played None e =
-        let shows = shows_piece found e in
+    next_brings : IsStanding found → Brings g whole events taken line next
+    next_brings shows =
         let more = step_played g whole _ (taken ++ line ∷ []) next h.pieces h.traces then_seated goes_then found is shows plays (text_of (whole taken)) text_is in
         let keeps = step_keeps g whole _ (taken ++ line ∷ []) next h.pieces h.traces then_seated goes_then found is shows plays in
         (few, waits, more, keeps, stays shows more)
-    next_played (Some o) e =
+
+    next_stops : (o : PlayEnd) → end_if_no_piece found ≡ Some o → StopsAt whole events taken line o
+    next_stops o e =
         step_halts g whole _ (taken ++ line ∷ []) next h.pieces h.traces (text_of (whole taken)) []
-        (ap whole (sym (append-nil (taken ++ line ∷ []))) ∙ goes_then []) text_is found o plays (sym e) (StopsAt whole events taken line)
+        (ap whole (sym (append-nil (taken ++ line ∷ []))) ∙ goes_then []) text_is found o plays e (StopsAt whole events taken line)
         (λ kind k. (few, waits, k)) (λ table k. (few, waits, k))
+
+    pub next_played : (o : Option PlayEnd) → o ≡ end_if_no_piece found → MatchOption o (Brings g whole events taken line next)
+        (StopsAt whole events taken line)
+    next_played None e = next_brings (shows_piece found e)
+    next_played (Some o) e = next_stops o (sym e)
 
 -- ---- the piece before the first line ----
 
 module _ {F : Type 0} (g : Story) (whole : EndingOf) (found : Step) (next : PlayerView F) (is : next.last ≡ found) (seated : IsSeated next)
     (plays : PlaysTo g whole found next [] []) where
-  pub first_played : (o : Option PlayEnd) → o ≡ end_if_no_piece found → PlaysFirst g whole next o
-  first_played None e =
-      let shows = shows_piece found e in
+  pub first_brings : IsStanding found → HasPlayed g whole [] next [] next.piece × HoldsPlayer whole [] next
+  first_brings shows =
       let more = step_played g whole whole [] next [] [] seated (λ lines. refl) found is shows plays [] refl in
       (more, step_keeps g whole whole [] next [] [] seated (λ lines. refl) found is shows plays)
-  first_played (Some o) e =
-      step_halts g whole whole [] next [] [] [] [] refl refl found o plays (sym e) (StopsAtOnce whole) (λ kind k. (refl, k)) (λ table k. (refl, k))
+
+  pub first_stops : (o : PlayEnd) → end_if_no_piece found ≡ Some o → StopsAtOnce whole o
+  first_stops o e = step_halts g whole whole [] next [] [] [] [] refl refl found o plays e (StopsAtOnce whole) (λ kind k. (refl, k)) (λ table k. (refl, k))
+
+  pub first_played : (o : Option PlayEnd) → o ≡ end_if_no_piece found → PlaysFirst g whole next o
+  first_played None e = first_brings (shows_piece found e)
+  first_played (Some o) e = first_stops o (sym e)
 
 -- ---- digests ----
 

@@ -1,5 +1,5 @@
 -- The moments of a session in two parts: before its store is attached, and from then on.
-use Rattle.paw_play.proofs.Names.{◌≡◌, ◌⊎◌, ℕ, ◌≤◌, refl, sym, ◌∙◌, subst, arith, inl, inr, Name, Standing, Unattached, InAttach, EachMoment, InTwoParts, first_alone, both, Ghosts, Passes_map, Passes_on, NotYet, Passes}
+use Rattle.paw_play.proofs.Names.{◌≡◌, ◌⊎◌, ℕ, ◌≤◌, refl, sym, ◌∙◌, subst, arith, inl, inr, Name, Standing, Unattached, made_if_missing, InAttach, EachMoment, InTwoParts, first_alone, both, Ghosts, Passes_map, Passes_on, NotYet, Passes}
 
 -- Each moment inside a call is one since its beginning.
 passes_since : {b n : ℕ} {past since : ℕ → Standing → Type 0} {P : Standing → Type 0} → Passes b n past since P → Passes b n past since (since b)
@@ -41,11 +41,14 @@ then_two_parts g old mid new Before After h (both turn low high all k) =
 pub not_yet : (name : Name) (old m : Standing) → m ≡ old → NotYet name old m
 not_yet name old m e = subst (NotYet name old) (sym e) (record { asked = refl; shown = refl; files = inl refl; store = inl (refl, refl) })
 
+made_yet : (name : Name) (old m : Standing) →
+    m ≡ record old { files = made_if_missing name (old.files name) old.files } → NotYet name old m
+made_yet name old m e = subst (NotYet name old) (sym e) (record { asked = refl; shown = refl; files = inr refl; store = inl (refl, refl) })
+
 -- Inside the attach, or at its end.
 in_attach : (old new : Standing) (name : Name) (m : Standing) → InAttach old new name m → NotYet name old m ⊎ (m ≡ new)
 in_attach old new name m (inl e) = inl (not_yet name old m e)
-in_attach old new name m (inr (inl e)) =
-    inl (subst (NotYet name old) (sym e) (record { asked = refl; shown = refl; files = inr refl; store = inl (refl, refl) }))
+in_attach old new name m (inr (inl e)) = inl (made_yet name old m e)
 in_attach old new name m (inr (inr e)) = inr e
 
 unattached_yet : (old new : Standing) (name : Name) (m : Standing) → Unattached old new → m ≡ new → NotYet name old m

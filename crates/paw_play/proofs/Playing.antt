@@ -1,5 +1,5 @@
 -- A session, line by line.
-use Rattle.paw_play.proofs.Names.{◌≡◌, ℕ, zero, suc, ◌+◌, ◌-◌, ◌≤◌, ◌<◌, [], ◌∷◌, ◌++◌, Some, None, refl, sym, ap, ◌∙◌, subst, length, take, drop, arith, append_assoc, length-append, inl, inr, append-nil, take-append-drop, reverse, Result, Ok, Err, IfOk, IfErr, Bytes, Line, Lines, Text, Name, EVENT_LIMIT, LINE_LIMIT, IsStable, Standing, AsksTo, InAsk, InShow, IsOneOf, StageCall, Story, Prompt, Run, Halt, Halted, text_of, PlayerView, IsSeated, run_at, prompt_at, writing_calls, recover, KeptIn, ChangesStoreOnly, stable_leaves, PlayEnd, first_lines, text_for, text_before, with_lines_taken, WalkWaits, WalkHalts, PlayedSession, bytes_before, KeptBy, AgreesWith, IsUpToDateWith, InPlay, StaysAttached, RestsWith, with_store, PlaysOn, call_of_end, IsPlaying, PlaysLineTo, IsRestingStore, ShowsOpen, OpenSession, IsOpen, KeepsAfter, TakesLineTo, InTaking, HaltsAfter, HoldsSession, bytes_with_commit, with_shown, Ending, KeepsAllButLast, Uncommitted, PartShown, TakesLines, Asked, Room, Journal, store_bytes_after}
+use Rattle.paw_play.proofs.Names.{◌≡◌, ℕ, zero, suc, ◌+◌, ◌-◌, ◌≤◌, ◌<◌, List, [], ◌∷◌, ◌++◌, Some, None, refl, sym, ap, ◌∙◌, subst, length, take, drop, arith, append_assoc, length-append, inl, inr, append-nil, take-append-drop, reverse, Result, Ok, Err, IfOk, IfErr, Bytes, Line, Lines, Text, Name, EVENT_LIMIT, LINE_LIMIT, IsStable, Standing, AsksTo, InAsk, InShow, IsOneOf, StageCall, Story, Prompt, Frame, Run, Halt, WaitsAt, Halted, text_of, PlayerView, IsSeated, run_at, prompt_at, writing_calls, recover, KeptIn, ChangesStoreOnly, stable_leaves, PlayEnd, first_lines, text_for, text_before, with_lines_taken, WalkWaits, WalkHalts, PlayedSession, bytes_before, KeptBy, AgreesWith, IsUpToDateWith, InPlay, StaysAttached, RestsWith, with_store, PlaysOn, call_of_end, IsPlaying, PlaysLineTo, IsRestingStore, ShowsOpen, OpenSession, IsOpen, KeepsAfter, TakesLineTo, InTaking, HaltsAfter, HoldsSession, bytes_with_commit, with_shown, Ending, KeepsAllButLast, Uncommitted, PartShown, TakesLines, Asked, Room, Journal, store_bytes_after}
 use Rattle.paw_stage.specs.declared.Asked.TheVariants as asked
 use Rattle.paw_stage.specs.declared.StageCall.TheVariants as call
 use Rattle.paw_reading.specs.declared.halt.Halt.TheVariants as halt
@@ -72,6 +72,10 @@ in_rest s first m n last rest r asked shown part = record {
   leaves = λ image may. keeps_all s first.lines n (text_before s.whole first.lines n ++ last) image
       (subst (KeptBy s first.lines n) (sym (stable_leaves m.disk image r.stable may)) r.keeps, (rest, part));
 }
+
+-- A reading that waits hasn't ended.
+no_halt : {p : Prompt} {path : List Frame} {r q : Run} → WaitsAt p path r ≡ Halted halt.Over q → ⊥
+no_halt e = cc
 
 -- ---- a session that begins, or that is resumed ----
 
@@ -147,14 +151,18 @@ module _ {F : Type 0} {g : Story} {s : PlayedSession} {first now : Standing} {se
       subst (WalkWaits s.whole (with_store (with_shown piece now) first) (with_shown piece now)) e
       (p, reverse seat.machine.frames, run_at seat w.opened.played.pieces w.opened.played.traces [], takes _ (waits_here w.opened.played p last seated))
 
+  -- The game is over.
+  over_plays : seat.last ≡ step.Ended → PlaysOn s (EVENT_LIMIT - s.before) first (with_shown piece now) end.Ended
+  over_plays last =
+      let few : n ≤ EVENT_LIMIT - s.before = omega (arith, w.rests.few) in
+      let run : Run = run_at seat w.opened.played.pieces w.opened.played.traces [] in
+      record { shows = (n, few, run, refl, takes (Halted halt.Over run) (over_here w.opened.played last)); session = (n, w.asked, rests_with piece) }
+
   -- Playing has ended with the show: also where the session has all the lines that it may have.
   pub shown_ends : (new : Standing) (events : ℕ) → IsSeated seat → events ≡ s.before + n → (o : PlayEnd) →
       ShowsOpen now new piece seat.last events (Some o) → PlaysOn s (EVENT_LIMIT - s.before) first new o
   shown_ends new events seated count end.Ended h =
-      let few : n ≤ EVENT_LIMIT - s.before = omega (arith, w.rests.few) in
-      let run : Run = run_at seat w.opened.played.pieces w.opened.played.traces [] in
-      subst (λ q. PlaysOn s (EVENT_LIMIT - s.before) first q end.Ended) (sym h.1)
-      (record { shows = (n, few, run, refl, takes (Halted halt.Over run) (over_here w.opened.played h.0)); session = (n, w.asked, rests_with piece) })
+      subst (λ q. PlaysOn s (EVENT_LIMIT - s.before) first q end.Ended) (sym h.1) (over_plays h.0)
   shown_ends new events seated count (end.Long most) h =
       subst (λ q. PlaysOn s (EVENT_LIMIT - s.before) first q (end.Long most)) (sym h.3) (record {
         shows = (h.2, walk_waits (EVENT_LIMIT - s.before) (prompt_at seat.last) h.0 seated (omega (arith, w.rests.few, h.1, count)));
@@ -301,7 +309,7 @@ module _ {F : Type 0} {g : Story} {s : PlayedSession} {first now : Standing} {se
         line_comes A p last (end.Outside c) h still = fails c h
         line_comes A p last (end.Spent kind) h still = record { shows = line_halts (halt.Spent kind) h.2; session = line_lost (still refl) }
         line_comes A p last (end.TooDeep table) h still = record { shows = line_halts (halt.TooDeep table) h.2; session = line_lost (still refl) }
-        line_comes A p last end.Ended h still = let none = sym (waits_here w.opened.played p last seated) ∙ h.1 in absurd (cc none)
+        line_comes A p last end.Ended h still = absurd (no_halt (sym (waits_here w.opened.played p last seated) ∙ h.1))
         line_comes A p last (end.Long k) h still = absurd (omega (arith, h.0, few))
         line_comes A p last _ h still = absurd h
 

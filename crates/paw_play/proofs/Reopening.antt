@@ -18,12 +18,18 @@ read_shows g digests bytes state buffer piece r shown same read = record {
 
 reads_at : {F : Type 0} (g : Story) (routines : Routines F) (w : World) (m : OpenTables) (p : PendingLine) (events n : ℕ) (piece : Text) (at : Prompt) →
     ReadsOn g (going_on g (state_of w m p at events n) piece) (prompt_step at) (seat_at g.game routines w (only_counting m) p at) (piece ∷ []) []
+reads_at g routines w m p events n piece prompt.Main = λ lines. goes_on_from g w m p prompt.Main events n piece lines
+reads_at g routines w m p events n piece prompt.Quit = λ lines. goes_on_from g w m p prompt.Quit events n piece lines
+reads_at g routines w m p events n piece prompt.Again = λ lines. goes_on_from g w m p prompt.Again events n piece lines
+reads_at g routines w m p events n piece prompt.Key = λ lines. goes_on_from g w m p prompt.Key events n piece lines
 reads_at g routines w m p events n piece prompt.Over = λ lines. goes_on_from g w m p prompt.Over events n piece lines
-reads_at g routines w m p events n piece at = λ lines. goes_on_from g w m p at events n piece lines
 
 stands_step : (at : Prompt) → IsStanding (prompt_step at)
+stands_step prompt.Main = tt
+stands_step prompt.Quit = tt
+stands_step prompt.Again = tt
+stands_step prompt.Key = tt
 stands_step prompt.Over = tt
-stands_step _ = tt
 
 module _ {F : Type 0} (g : Story) (r : Restored) (routines : Routines F) (seat : PlayerView F)
     (is : seat ≡ seat_at g.game routines r.world (only_counting r.machine) r.pending r.prompt) where
@@ -74,9 +80,10 @@ refused_story g game rules bytes r e f h =
 pub resumes_none : {F : Type 0} (g : Story) (bytes : Bytes) (seat : PlayerView F) (piece : Text) (r : JournalRefusal) →
     IsSessionRefused (recover bytes) (sha256 (image g.game)) (measure g.answers) r → IfSome (outside r) (IsOneOf (call.Read ∷ [])) →
     ResumesTo g bytes seat piece (Err (end_of r))
+resumes_none g bytes seat piece (refusal.Unmade n mark) h c = h
+resumes_none g bytes seat piece (refusal.Damaged part at) h c = h
 resumes_none g bytes seat piece (refusal.WrongGame kept found) h c = (digests_of kept h.0, h.1, h.2, h.3, refl, h.4, h.5)
 resumes_none g bytes seat piece (refusal.WrongRoutines kept found) h c =
     (digests_of (story_digests g).game kept, h.0, h.1, h.2, refl, refl, h.3, h.4, h.5)
 resumes_none g bytes seat piece (refusal.Outside q) h (inl c) = c
 resumes_none g bytes seat piece (refusal.Outside q) h (inr c) = absurd c
-resumes_none g bytes seat piece _ h c = h

@@ -38,6 +38,10 @@ module _ (digests : Digests) (g : Story) (w : World) (m : OpenTables) (p : Pendi
 
   pub comes_there : (at : Prompt) → StandsClosed (prompt_step at) m →
       ComesTo digests g.game (state_of w m p at events n) piece (going_on_from g at (reverse m.frames) (run_from w m p piece []))
+  comes_there prompt.Main h = waits_there prompt.Main _ (on_waits g prompt.Main m (run_from w m p piece []) h)
+  comes_there prompt.Quit h = waits_there prompt.Quit _ (on_waits g prompt.Quit m (run_from w m p piece []) h)
+  comes_there prompt.Again h = waits_there prompt.Again _ (on_waits g prompt.Again m (run_from w m p piece []) h)
+  comes_there prompt.Key h = waits_there prompt.Key _ (on_waits g prompt.Key m (run_from w m p piece []) h)
   comes_there prompt.Over h =
       let same : state_of w m p prompt.Over events n ≡ state_at (events + 0) prompt.Over [] (run_from w m p piece []) =
       same_state prompt.Over ∙ ap (λ (fs : List Frame). state_at (events + 0) prompt.Over (reverse fs) (run_from w m p piece [])) h.frames in
@@ -46,4 +50,3 @@ module _ (digests : Digests) (g : Story) (w : World) (m : OpenTables) (p : Pendi
         stops = subst (λ (q : State). IsValidState g.game q × FitsFields q) same;
         text = append-nil piece;
       }
-  comes_there at h = waits_there at _ (on_waits g at m (run_from w m p piece []) h)

@@ -1,8 +1,9 @@
 -- Rounds of a session, one after the other.
 use Rattle.paw_play.proofs.Names.{◌⊎◌, ◌≡◌, inl, inr, ℕ, zero, suc, ◌+◌, ◌<◌, ◌≤◌, List, [], ◌∷◌, ◌++◌, Some, None, refl, sym, ap, ◌∙◌, subst, length, take, append_assoc, append-nil, arith, ◌-◌, All, length-take, All-append, All-map, All-take, Bytes, Line, Lines, Name, Seed, EVENT_LIMIT, LINE_LIMIT, MayLeave, Standing, Files, Unattached, bytes_or_none, StageCall, IsOneOf, AreBytes, Story, IsLine, writing_calls, IsUnmade, recover, PlayEnd, first_lines, Stands, IsPlayedWith, PlayedSession, session_begun, from_lines, KeptBy, IsUpToDateWith, InPlay, InNewSession, RestsWith, PlaysOn, MadeAndPlayed, NewSession, GoesOn, NotYet, attached_to, store_bytes, memory, halts, unmade, plays, unattached, occupied, starts_play, unread, RoundStop, cut_at, came_to, Round, MayBeLeft, BeginsOver, FailsAtMoment, StopsWith, AreRounds, left_after, AreKept, AreKeptOf, RoundsStand}
+use Rattle.paw_journal.proofs.Recovers.{unmade as no_session}
 use Rattle.paw_stage.specs.declared.StageCall.TheVariants as call
 use Rattle.paw_play.specs.declared.PlayEnd.TheVariants as end
-use Rattle.paw_play.proofs.{Attaching.none_unmade, Attaching.store_attached, Standing.begun_stands, Standing.later_stands}
+use Rattle.paw_play.proofs.{Attaching.store_attached, Standing.begun_stands, Standing.later_stands}
 
 -- ---- the bytes of the file ----
 
@@ -88,6 +89,9 @@ module _ (s : PlayedSession) (old : Standing) where
 
 -- ---- the first round ----
 
+empty_unmade : (left : Bytes) → left ≡ [] → IsUnmade (recover left)
+empty_unmade left e = no_session left (inl (λ q. omega (arith, q, ap length e)))
+
 no_writing : (c : StageCall) → IsOneOf writing_calls c → ¬ AtRest (end.Outside c)
 no_writing c (inl e) = rw e (λ rest. rest)
 no_writing c (inr (inl e)) = rw e (λ rest. rest)
@@ -96,7 +100,7 @@ no_writing c (inr (inr h)) = absurd h
 module _ (g : Story) (seed : Seed) (r : Round) (begins : BeginsOver [] r) (made : ¬ IsUnmade (recover r.left)) where
   first_cut : (m : Standing) → (NotYet r.name r.old m ⊎ InNewSession (session_begun g seed r.name) r.old m) → MayBeLeft r.name m r.left →
       KeptOf (session_begun g seed r.name) r.old (cut_at m) r.left
-  first_cut m (inl n) may = absurd (made (none_unmade r.left (not_yet_left r [] m begins n may)))
+  first_cut m (inl n) may = absurd (made (empty_unmade r.left (not_yet_left r [] m begins n may)))
   first_cut m (inr (inl i)) may = elim (i.leaves r.left (store_left r.name r.left m i.attached may)) [
     | inl none ↦ absurd (made none)
     | inr kept ↦ (0, inl (i.asked ∙ omega arith), omega arith, omega arith, kept)
@@ -104,7 +108,7 @@ module _ (g : Story) (seed : Seed) (r : Round) (begins : BeginsOver [] r) (made 
   first_cut m (inr (inr i)) may = cut_keeps (session_begun g seed r.name) r.old m r.left i may
 
   still_empty : (new : Standing) → r.left ≡ store_bytes new r.name → store_bytes new r.name ≡ store_bytes r.old r.name → ⊥
-  still_empty new left same = made (none_unmade r.left (left ∙ same ∙ begins.has))
+  still_empty new left same = made (empty_unmade r.left (left ∙ same ∙ begins.has))
 
   first_in : (new : Standing) (o : PlayEnd) → MadeAndPlayed (session_begun g seed r.name) (attached_to r.old r.name) new o → AtRest o →
       r.left ≡ store_bytes new r.name → KeptOf (session_begun g seed r.name) r.old (came_to new o) (store_bytes new r.name)

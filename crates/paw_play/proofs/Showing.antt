@@ -43,8 +43,10 @@ world_of g s k fits =
 
 closed_line : (at : Prompt) (m : OpenTables) (bytes : Bytes) → WaitsAtPrompt at m → IfNone (waiting_code at) (bytes ≡ []) → m.frames ≡ [] → bytes ≡ []
 closed_line prompt.Main m bytes s p e = p
+closed_line prompt.Quit m bytes s p e = absurd (omega (arith, s.tables.some, ap length e))
+closed_line prompt.Again m bytes s p e = absurd (omega (arith, s.tables.some, ap length e))
+closed_line prompt.Key m bytes s p e = absurd (omega (arith, s.tables.some, ap length e))
 closed_line prompt.Over m bytes s p e = p
-closed_line _ m bytes s p e = absurd (omega (arith, s.tables.some, ap length e))
 
 -- What is pending in it may be pending at its prompt.
 pending_of : (g : GameLists) (s : State) (m : OpenTables) → IsValidState g s → FitsFields s → WaitsAtPrompt s.prompt m → IsPending m s.pending

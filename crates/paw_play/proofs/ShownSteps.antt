@@ -1,5 +1,5 @@
 -- How a walk shows pieces: each as it is, or after the text of its steps.
-use Rattle.paw_play.proofs.Names.{◌≡◌, ℕ, suc, List, [], ◌∷◌, ◌++◌, Option, Some, None, refl, sym, ap, ◌∙◌, length, take, arith, append_assoc, length-append, append-nil, ◌-◌, flat_map, IfNone, concat, Text, Texts, STEP_LIMIT, KeptSteps, kept_steps, Standing, InShow, with_shown, Prompt, Frame, Run, StepRow, Halt, WaitsAt, Halted, PlayerView, run_at, Step, PlayEnd, step_line, more_line, steps_text, traced_pieces, ShowSteps, Plain, Stepped, kept_text, seat_text, HaveSteps, NotesShown, shown_pieces, shown_run, shown_ending, IsStanding, end_if_no_piece, take-take, concat-append}
+use Rattle.paw_play.proofs.Names.{◌≡◌, ℕ, zero, suc, List, [], ◌∷◌, ◌++◌, Option, Some, None, refl, sym, ap, ◌∙◌, length, take, arith, append_assoc, length-append, append-nil, ◌-◌, flat_map, IfNone, concat, Text, Texts, STEP_LIMIT, KeptSteps, kept_steps, Standing, InShow, with_shown, Prompt, Frame, Run, StepRow, Halt, WaitsAt, Halted, PlayerView, run_at, Step, PlayEnd, step_line, more_line, steps_text, traced_pieces, ShowSteps, Plain, Stepped, kept_text, seat_text, HaveSteps, NotesShown, shown_pieces, shown_run, shown_ending, IsStanding, end_if_no_piece, take-take, concat-append}
 use Rattle.paw_turn.specs.declared.Step.TheVariants as step
 
 -- ---- texts ----
@@ -16,9 +16,10 @@ kept_shown k steps keeps e =
 traced_more : (pieces : Texts) (traces : List (List StepRow)) (piece : Text) (steps : List StepRow) → length traces ≡ length pieces →
     traced_pieces (pieces ++ piece ∷ []) (traces ++ steps ∷ []) ≡ traced_pieces pieces traces ++ (steps_text steps ++ piece) ∷ []
 traced_more [] [] piece steps each = refl
+traced_more [] (t ∷ traces) piece steps each = absurd (omega (arith, each))
+traced_more (p ∷ pieces) [] piece steps each = absurd (omega (arith, each))
 traced_more (p ∷ pieces) (t ∷ traces) piece steps each =
     ap (λ xs. (steps_text t ++ p) ∷ xs) (traced_more pieces traces piece steps (omega (arith, each)))
-traced_more pieces traces piece steps each = absurd (omega (arith, each))
 
 -- One piece more of a player.
 pub pieces_more : {F : Type 0} (showing : ShowSteps) (next : PlayerView F) (pieces : Texts) (traces : List (List StepRow)) (steps : List StepRow) →
@@ -79,7 +80,8 @@ shown_more showing next pieces traces steps each keeps kept =
 pub shows_piece : (found : Step) → None ≡ end_if_no_piece found → IsStanding found
 shows_piece (step.Waits p) h = tt
 shows_piece step.Ended h = tt
-shows_piece _ h = cc
+shows_piece (step.Spent kind) h = cc
+shows_piece (step.TooDeep table) h = cc
 
 -- What holds of a player that stands holds where playing goes on.
 pub may_if_none : {P : Type 0} (found : Step) (o : Option PlayEnd) → o ≡ end_if_no_piece found → (IsStanding found → P) → IfNone o P
@@ -90,8 +92,9 @@ may_if_none found (Some o) e f = tt
 
 -- A first part of the first text.
 part_of : (n : ℕ) (xs ys : Text) → (m : ℕ) × (take n xs ≡ take m (xs ++ ys))
+part_of zero xs ys = (0, refl)
+part_of (suc n) [] ys = (0, refl)
 part_of (suc n) (x ∷ xs) ys = let k = part_of n xs ys in (suc k.0, ap (λ zs. x ∷ zs) k.1)
-part_of n xs ys = (0, refl)
 
 -- The first text, and a first part of the second.
 past_part : (n : ℕ) (xs ys : Text) → (m : ℕ) × (xs ++ take n ys ≡ take m (xs ++ ys))

@@ -1,5 +1,5 @@
 -- What a store that stands for some lines shows, and what comes of taking it up again.
-use Rattle.paw_play.proofs.Names.{◌≡◌, ◌≢◌, inl, inr, ℕ, ◌+◌, ◌≤◌, List, [], ◌∷◌, ◌++◌, refl, sym, ap, ◌∙◌, subst, length, take, drop, arith, ◌-◌, length-append, length-map, length-take-le, Bytes, Lines, Text, Name, Seed, Texts, EVENT_LIMIT, LINE_LIMIT, GameLists, Valid, Standing, StepRow, Ending, WaitsAt, Halted, Unended, reading, pieces_of, ending_with_past, Counted, pieces_of_lines, State, state_bytes, Fit, Digests, Shown, recover, kept_digests, state_length, JournalRefusal, PlayEnd, last_piece, state_at, story_digests, IsOfStory, IsKept, first_lines, Stands, IsPlayedWith, ending_since, reading_since, PlayedSession, ShowsState, GoesOnFrom, from_shown, from_played, session_begun, from_lines, from_state, going_on, resumed_run, KeptBy, KeepsAfter, IsOpen, ResumesTo, call_of_end, OpenSession, PlayerView, None, Ok, Err, PlaysOn, Refuses, Resumed, no_state, plays_on, PlaysAgain, refused, without_memory, resumes_play, GoesOn, memory, unattached, unread, plays, attached_to, store_bytes, StandingShows, StandingGoesOn, KeptLinesStand, GoingOnIsTheReading, Story, fun_ext, going_on_ends, kept_bytes}
+use Rattle.paw_play.proofs.Names.{◌≡◌, ◌≢◌, inl, inr, ℕ, ◌+◌, ◌≤◌, List, [], ◌∷◌, ◌++◌, refl, sym, ap, ◌∙◌, subst, length, take, drop, arith, ◌-◌, length-append, length-map, length-take-le, Bytes, Lines, Text, Name, Seed, Texts, EVENT_LIMIT, LINE_LIMIT, GameLists, Valid, Standing, StepRow, Ending, WaitsAt, Halted, Unended, reading, pieces_of, ending_with_past, Counted, pieces_of_lines, State, state_bytes, Fit, Digests, Shown, recover, kept_digests, state_length, JournalRefusal, PlayEnd, last_piece, state_at, story_digests, IsOfStory, IsKept, EndingOf, first_lines, Stands, IsPlayedWith, ending_since, reading_since, PlayedSession, ShowsState, GoesOnFrom, from_shown, from_played, session_begun, from_lines, from_state, going_on, resumed_run, KeptBy, KeepsAfter, IsOpen, ResumesTo, call_of_end, OpenSession, PlayerView, None, Ok, Err, PlaysOn, Refuses, Resumed, no_state, plays_on, PlaysAgain, refused, without_memory, resumes_play, GoesOn, memory, unattached, unread, plays, attached_to, store_bytes, StandingShows, StandingGoesOn, KeptLinesStand, GoingOnIsTheReading, Story, fun_ext, going_on_ends, kept_bytes}
 use Rattle.paw_effects.specs.declared.act.Prompt.TheVariants as prompt
 use Rattle.paw_reading.specs.declared.halt.Halt.TheVariants as halt
 use Rattle.paw_journal.specs.declared.refusal.JournalRefusal.TheVariants as refusal
@@ -40,6 +40,10 @@ pieces_with_past ps ts last (WaitsAt p path r) ends = refl
 pieces_with_past ps ts last (Halted halt r) ends = refl
 pieces_with_past ps ts last Unended ends = absurd (ends refl)
 
+-- Going on from a state ends.
+goes_to_an_end : (g : Story) (st : State) (piece : Text) (fs : Lines) → going_on g st piece fs ≢ Unended
+goes_to_an_end g st piece fs = going_on_ends g st.prompt (take st.frames.count st.frames.rows) (resumed_run st piece fs)
+
 pub going_on_is_the_reading : GoingOnIsTheReading
 going_on_is_the_reading g seed es fs p path r played few is =
     let settled : Settles g.game (length es) p path r = subst (IsSettled g.game (length es)) is (reading_settles g seed es played few) in
@@ -47,8 +51,7 @@ going_on_is_the_reading g seed es fs p path r played few is =
     let goes = waiting_goes g seed es fs p path r is settled counted in
     let st : State = state_at (length es) p path r in
     let last : Text = last_piece r.pieces in
-    let ended : ending_with_past (last ∷ []) [] goes.2 ≢ Unended = λ none.
-    going_on_ends g st.prompt (take st.frames.count st.frames.rows) (resumed_run st last fs) (goes.4 ∙ none) in
+    let ended : ending_with_past (last ∷ []) [] goes.2 ≢ Unended = λ none. goes_to_an_end g st last fs (goes.4 ∙ none) in
     record {
       valid = settled.valid;
       fits = settled.fits;
@@ -112,27 +115,33 @@ pub record IsShown (g : Story) (name bytes : Bytes) (s : PlayedSession) : Type 0
   pub shows : ShowsState g.game digests bytes state piece
   pub same : from_state g state piece digests name ≡ s
 
+same_session : (whole by : EndingOf) (before past : ℕ) (digests : Digests) (name : Name) → whole ≡ by → before ≡ past →
+    ◌≡◌ {A = PlayedSession} (record { whole = whole; before = before; digests = digests; name = name })
+    (record { whole = by; before = past; digests = digests; name = name })
+same_session whole by before past digests name e f = cc
+
 pub is_shown : (g : Story) (name bytes : Bytes) (s : PlayedSession) → GoesOnFrom g name bytes s → IsShown g name bytes s
 is_shown g name bytes _ (from_shown st piece digests belongs shows) =
     record { digests = digests; belongs = belongs; state = st; piece = piece; shows = shows; same = refl }
 is_shown g name bytes _ (from_played seed es played stands) =
     let shown = shown_of g seed es bytes played stands in
     let goes = λ (fs : Lines). standing_goes_on g seed es fs bytes stands.digests shown.0 shown.1 played stands shown.2 in
-    let whole : going_on g shown.0 shown.1 ≡ reading_since g seed es = fun_ext (λ fs. (goes fs).1) in
-    let before : shown.0.events ≡ length es = (goes []).0 in
     record {
       digests = stands.digests;
       belongs = stands.belongs;
       state = shown.0;
       piece = shown.1;
       shows = shown.2;
-      same = cc;
+      same = same_session (going_on g shown.0 shown.1) (reading_since g seed es) shown.0.events (length es) stands.digests name
+          (fun_ext (λ fs. (goes fs).1)) (goes []).0;
     }
 
 -- ---- it is never refused ----
 
 never_refused : (g : Story) (digests : Digests) (bytes state piece : Bytes) (r : JournalRefusal) → IsOfStory g digests →
     recover bytes ≡ Shown digests state piece → ¬ Refuses (story_digests g) bytes r
+never_refused g digests bytes state piece (refusal.Unmade n mark) of is h = cc
+never_refused g digests bytes state piece (refusal.Damaged part at) of is h = cc
 never_refused g digests bytes state piece (refusal.WrongGame kept found) of is h =
     let one : h.0 ≡ digests = (same_shown h.0 digests h.1 h.2 state piece (sym h.3 ∙ is)).0 in
     h.5 (h.4 ∙ ap (λ (d : Digests). d.game) one ∙ of.of_game)
@@ -144,7 +153,6 @@ never_refused g digests bytes state piece (refusal.WrongRoutines kept found) of 
       | inr own ↦ h.7 (mine ∙ own)
     ]
 never_refused g digests bytes state piece (refusal.Outside c) of is h = h
-never_refused g digests bytes state piece _ of is h = cc
 
 -- A buffer that begins with the bytes of a state is fit.
 is_fit : (g : GameLists) (d e : Digests) (bytes buffer piece q : Bytes) (st : State) → ShowsState g d bytes st q →

@@ -12,4 +12,6 @@ shown_as digests e f = cc
 -- States of the same parts.
 pub same_parts : (v w : World) (m k : OpenTables) (p q : PendingLine) (a b : Prompt) (events n l : ℕ) → v ≡ w → m ≡ k → p ≡ q → a ≡ b → n ≡ l →
     kept_bytes (state_of v m p a events n) ≡ kept_bytes (state_of w k q b events l)
-same_parts v w m k p q a b events n l e f g h i = cc
+same_parts v w m k p q a b events n l e f g h i =
+    ap (λ x. kept_bytes (state_of x m p a events n)) e ∙ ap (λ x. kept_bytes (state_of w x p a events n)) f ∙ ap (λ x. kept_bytes (state_of w k x a events n)) g
+    ∙ ap (λ x. kept_bytes (state_of w k q x events n)) h ∙ ap (λ x. kept_bytes (state_of w k q b events x)) i

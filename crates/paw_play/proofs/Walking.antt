@@ -73,8 +73,10 @@ pub on_waits : (g : Story) (p : Prompt) (m : OpenTables) (r : Run) → StandsAt 
 unfolding at_main
 on_waits g prompt.Main m r h = ap (λ fs. going_on_from g prompt.Main (reverse fs) (record r { events = [] })) h.frames
     ∙ ap (λ fs. WaitsAt prompt.Main (reverse fs) (record r { events = [] })) (sym h.frames)
+on_waits g prompt.Quit m r h = rw (path_waits g prompt.Quit 0 (reverse m.frames) r (some_path m.frames h.tables.tables.some)) refl
+on_waits g prompt.Again m r h = rw (path_waits g prompt.Again 0 (reverse m.frames) r (some_path m.frames h.tables.tables.some)) refl
+on_waits g prompt.Key m r h = rw (path_waits g prompt.Key 0 (reverse m.frames) r (some_path m.frames h.tables.tables.some)) refl
 on_waits g prompt.Over m r h = absurd h
-on_waits g p m r h = rw (path_waits g p 0 (reverse m.frames) r (some_path m.frames h.tables.tables.some)) refl
 
 -- ---- a step ----
 
@@ -92,7 +94,12 @@ text_shown showing g whole step.Ended next pieces traces each keeps h m plays =
     let r : Run = run_at next (pieces ++ next.piece ∷ []) (traces ++ plays.0 ∷ []) [] in
     ap (λ e. text_of (shown_ending showing e)) (plays.1.1 []) ∙ ap text_of (halts_shown showing halt.Over r)
     ∙ shown_more showing next pieces traces plays.0 each keeps plays.1.0
-text_shown showing g whole _ next pieces traces each keeps h m plays = absurd h
+text_shown showing g whole (step.Spent kind) next pieces traces each keeps h m plays = absurd h
+text_shown showing g whole (step.TooDeep u) next pieces traces each keeps h m plays = absurd h
+
+-- Nothing more is shown.
+pub shown_nothing : (mid : Standing) → mid ≡ record mid { shown = mid.shown ++ [] }
+shown_nothing mid = ap (λ t. record mid { shown = t }) (sym (append-nil mid.shown))
 
 -- How a step ends after n lines, where `after` is the reading of those that are left then.
 module _ {F : Type 0} (showing : ShowSteps) (g : Story) (whole after : EndingOf) (n : ℕ) (first mid new : Standing) (next : PlayerView F) (s : Step)
@@ -143,7 +150,7 @@ module _ {F : Type 0} (showing : ShowSteps) (g : Story) (whole after : EndingOf)
   halts most few halt stopped same =
       let e = stopped.1 [] in
       let text = text_shown_is showing e.0 pieces traces e.2 e.3 ∙ sym (append-nil (concat (shown_pieces showing pieces traces))) in
-      let ends = takes (Halted halt e.0) (Halted halt (shown_run showing e.0)) [] e.1 (halts_shown showing halt e.0) (same ∙ ap (λ t. record mid { shown = t }) (sym (append-nil mid.shown))) text in
+      let ends = takes (Halted halt e.0) (Halted halt (shown_run showing e.0)) [] e.1 (halts_shown showing halt e.0) (same ∙ shown_nothing mid) text in
       (n, few, shown_run showing e.0, same_lines showing e.0 ∙ e.4, ends)
 
   pub comes_to : (most : ℕ) → n ≤ most → (o : Option PlayEnd) → ShowsStep mid new (seat_text showing next) s o →

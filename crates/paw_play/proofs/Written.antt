@@ -1,5 +1,5 @@
 -- The bytes of a session's store, commit by commit.
-use Rattle.paw_play.proofs.Names.{◌≡◌, ℕ, [], ◌∷◌, ◌++◌, refl, ap, ◌-◌, Bytes, zeros, Ending, pieces_of, Digests, Shown, base_length, state_length, made_session, session_committed, last_piece, state_after, IsKept, PlayedSession, base_after, bytes_before, recover, recover_by}
+use Rattle.paw_play.proofs.Names.{◌≡◌, ℕ, [], ◌∷◌, ◌++◌, refl, ap, ◌∙◌, ◌-◌, Bytes, zeros, Ending, pieces_of, Digests, Shown, base_length, state_length, made_session, session_committed, last_piece, state_after, IsKept, PlayedSession, base_after, bytes_before, recover, recover_by}
 
 -- What a session shows, part by part.
 pub same_shown : (d e : Digests) (a p b q : Bytes) → Shown d a p ≡ Shown e b q → (d ≡ e) × (a ≡ b) × (p ≡ q)
@@ -18,11 +18,12 @@ piece_is digests events e state piece k = (same_shown digests digests state piec
 
 pub committed_same : (state base piece last old bytes : Bytes) → state ≡ base → piece ≡ last → old ≡ bytes →
     session_committed state piece old ≡ session_committed base last bytes
-committed_same state base piece last old bytes e f g = cc
+committed_same state base piece last old bytes e f g =
+    ap (λ x. session_committed x piece old) e ∙ ap (λ x. session_committed base x old) f ∙ ap (λ x. session_committed base last x) g
 
 pub made_same : (digests : Digests) (state base piece last : Bytes) → state ≡ base → piece ≡ last →
     made_session digests state piece ≡ made_session digests base last
-made_same digests state base piece last e f = cc
+made_same digests state base piece last e f = ap (λ x. made_session digests x piece) e ∙ ap (λ x. made_session digests base x) f
 
 -- A store that had some, which show a session.
 pub had_bytes : (s : PlayedSession) (kept : Digests) (state piece bytes : Bytes) → recover bytes ≡ Shown kept state piece → bytes ≡ bytes_before s bytes

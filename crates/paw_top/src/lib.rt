@@ -11,5 +11,7 @@ mod open;
 pub mod outcome;
 mod sessions;
 mod show;
+#[cfg(test)]
+mod tests;
 pub mod top;
 mod trial;

@@ -10,11 +10,21 @@ use paw_host::outcome::{HostOutcome, NO_MEMORY};
 use paw_routines::program::{ROUTINES, give};
 use paw_routines::routines::Routines;
 use paw_stage::RealStage;
-use paw_words::words_of;
+use std::env::{self, Env};
+use std::io::{self, ErrorKind};
 use std::process::ExitCode;
 
 #[cfg(test)]
 mod tests;
+
+// The words after the program's name; none of them where one isn't text.
+fn words_of<R: Env + AllocGlobal>(rt: &R) -> io::Result<Vec<String>> {
+    match env::args(rt) {
+        Ok(words) => Ok(words.skip(1).collect(rt.alloc())?),
+        Err(e) if e.kind() == ErrorKind::InvalidData => Ok(Vec::new(rt.alloc())),
+        Err(e) => Err(e),
+    }
+}
 
 // The exit of the program.
 fn exit_of(outcome: HostOutcome) -> ExitCode

@@ -16,7 +16,7 @@ use Rattle.paw_effects.specs.declared.act.Prompt.{Prompt}
 use Rattle.paw_reading.specs.Run.{StepRow}
 use Rattle.paw_reading.specs.declared.halt.Halt.{Halt}
 use Rattle.paw_reading.specs.declared.halt.Halt.TheVariants as halt
-use Rattle.paw_reading.specs.Turn.{going_on_from}
+use Rattle.paw_reading.specs.Turn.{reading, going_on_from}
 use Rattle.paw_turn.specs.inner.Player.{step_halt, brings_piece, PlayerView, run_at, IsSeated}
 use Rattle.paw_turn.specs.inner.Parts.{prompt_at, IsStanding}
 use Rattle.paw_turn.specs.declared.Step.{Step}

@@ -1,15 +1,14 @@
-use Rattle.paw_play.proofs.Names.{run_at, text_of, ap, [], IsStanding, [], ◌<◌, refl, sym, subst, arith, EVENT_LIMIT, IsLine, bytes_each, valid_story, HaveAnswers, prompt_at}
-use Rattle.paw_play.proofs.{Following.follows_on, Opened.over_here, Opened.waits_here, Opened.next_played, ShownSteps.may_if_none}
+use Rattle.paw_play.proofs.Names.{IsStanding, [], ◌<◌, refl, sym, subst, arith, EVENT_LIMIT, IsLine, bytes_each, valid_story, HaveAnswers, prompt_at}
+use Rattle.paw_play.proofs.{Following.follows_on, Opened.over_stops, Opened.full_stops, Opened.next_played, ShownSteps.may_if_none}
 use Rattle.paw_play.proofs.open.play_next.Goals as goal
 
 pub returns-then-is_over-clause-meaning : goal.returns-then-is_over-clause-meaning
-returns-then-is_over-clause-meaning g c = λ X answers whole taken earlier piece h.
-    let e = over_here h c.if-is_over.ensures.cases in (run_at c.args.player.now h.pieces h.traces [], e, refl, ap text_of (sym e))
+returns-then-is_over-clause-meaning g c = λ X answers whole taken earlier piece h. over_stops h c.args.events c.args.line.now c.if-is_over.ensures.cases
 
 pub returns-then-events-ge-EVENT_LIMIT-clause-meaning : goal.returns-then-events-ge-EVENT_LIMIT-clause-meaning
 returns-then-events-ge-EVENT_LIMIT-clause-meaning g c = λ X answers whole taken earlier piece h.
-    let p = prompt_at c.args.player.now.last in
-    (omega (arith, c.if-events-ge-EVENT_LIMIT.true), refl, (p, _, _, waits_here h p c.if-is_over.ensures.cases c.requires.may.seated))
+    full_stops h c.args.events c.args.line.now (prompt_at c.args.player.now.last) c.if-is_over.ensures.cases c.requires.may.seated
+    (omega (arith, c.if-events-ge-EVENT_LIMIT.true))
 
 pub returns-clause-may : goal.returns-clause-may
 returns-clause-may g c =

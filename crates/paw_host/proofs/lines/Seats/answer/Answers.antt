@@ -1,5 +1,5 @@
-use Rattle.paw_host.proofs.Cited.{done_by, ◌∙◌, sym, subst, length, arith, leb-true, on_ok_weaker, file_bytes, Story, story_of, Stores, asks}
-use Rattle.paw_host.proofs.{Leaving.on_ok_both, Named.name_short, Serving.does_request, Serving.doing_request}
+use Rattle.paw_host.proofs.Cited.{◌∙◌, sym, subst, length, arith, leb-true, on_ok_weaker, file_bytes, Story, story_of, Stores, asks}
+use Rattle.paw_host.proofs.{Leaving.on_ok_both, Leaving.promised, Named.name_short, Serving.does_request, Serving.doing_request}
 use Rattle.paw_host.proofs.lines.Seats.answer.Goals as goal
 
 pub begin_reply-requires : goal.begin_reply-requires
@@ -20,9 +20,9 @@ returns-clause-promises g c = λ tells X answers sessions may stores.
     let is = c.as_str.ensures.value ∙ c.set.ensures.value in
     let old = g.S.Stage.standing c.args.stage.now in
     let here = subst (λ x. Stores story (sessions name) (file_bytes old x)) (sym is) (stores name c.requires.name) in
-    let done = c.answer-answered.ensures.promises tells X answers (sessions name) (may name c.requires.name) here in
-    done_by (on_ok_both c.answer-answered.result done.meaning (c.answer-answered.ensures.leaves.left tells) (λ a rests.
+    promised (c.answer-answered.ensures.promises tells X answers (sessions name) (may name c.requires.name) here)
+    (λ h. on_ok_both c.answer-answered.result h (c.answer-answered.ensures.leaves.left tells) (λ a rests.
     does_request story c.args.hosted.now.seed sessions old (asks c.args.request) store stores is _ _ _ _ (c.answer-answered.ensures.leaves.beside tells)
     rests.attached c.begin_reply.ensures.value a
-    (c.push.ensures.value (omega (arith, c.answer-answered.ensures.short tells, c.begin_reply.ensures.short))))) done.any_moment
+    (c.push.ensures.value (omega (arith, c.answer-answered.ensures.short tells, c.begin_reply.ensures.short)))))
     (doing_request story c.args.hosted.now.seed sessions old (asks c.args.request) store stores is)

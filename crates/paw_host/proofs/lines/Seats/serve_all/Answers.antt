@@ -1,5 +1,5 @@
-use Rattle.paw_host.proofs.Cited.{done_then, ◌≡◌, ◌+◌, suc, None, Some, inl, inr, refl, sym, subst, arith, EVENT_LIMIT, now_inside, Passes_on, Passes_none, serves_none, serves_then, AreAnswersOf, story_of, host_failure, HasTaken, Answered, InHost, IsServing, ServesLine}
-use Rattle.paw_host.proofs.{Staying.stays_same, Staying.stays_on, Staying.hosted_on, Hosting.serving_first, Hosting.at_first, Hosting.hosts_by, Hosting.taken_none, Hosting.taken_more, Hosting.ends_by}
+use Rattle.paw_host.proofs.Cited.{◌≡◌, ◌+◌, suc, None, Some, inl, inr, refl, sym, subst, arith, EVENT_LIMIT, now_inside, Passes_on, Passes_none, serves_none, serves_then, AreAnswersOf, story_of, host_failure, HasTaken, Answered, InHost, IsServing, ServesLine}
+use Rattle.paw_host.proofs.{Leaving.promised, Leaving.promised_after, Staying.stays_same, Staying.stays_on, Staying.hosted_on, Hosting.serving_first, Hosting.at_first, Hosting.hosts_by, Hosting.taken_none, Hosting.taken_more, Hosting.ends_by}
 use Rattle.paw_host.proofs.lines.Seats.serve_all.Goals as goal
 
 pub loop-init : goal.loop-init
@@ -58,10 +58,11 @@ pub returns-clause-promises : goal.returns-clause-promises
 returns-clause-promises g c = λ tells X answers first b.
     let i = c.loop.invariant in
     let all : c.loop.counter ≡ EVENT_LIMIT = omega (arith, i.few, c.loop-test.false) in
-    let so_far = i.promises tells X answers first b in
-    let answered = subst (Answered (story_of c.args.self.now.player.game X) c.args.hosted.now.seed first (g.S.Stage.standing c.args.stage.now)
-    (g.S.Stage.standing c.loop.stage)) all so_far.meaning.answered in
-    record { meaning = (refl, answered); any_moment = so_far.any_moment }
+    promised (i.promises tells X answers first b) (λ s. (
+      refl,
+      subst (Answered (story_of c.args.self.now.player.game X) c.args.hosted.now.seed first (g.S.Stage.standing c.args.stage.now)
+          (g.S.Stage.standing c.loop.stage)) all s.answered,
+    )) (λ m j. j)
 
 pub loop-preserved : goal.loop-preserved
 loop-preserved g c =
@@ -82,8 +83,7 @@ loop-preserved g c =
           (c.in_default.ensures.promises (i.serves.tells.0 tells) X (subst (λ r. AreAnswersOf g.F.Fn r X) (sym i.stays.routines) answers))
           first start c.loop.counter (omega arith) b.lines so_far.meaning in
           let n : suc c.loop.counter ≡ c.loop.counter + 1 = omega arith in
-          done_then _ (subst (IsServing (story_of c.args.self.now.player.game X) seed first start next) n served.meaning) so_far.any_moment
-          served.any_moment (λ m j. j);
+          promised_after served so_far.any_moment (λ s. subst (IsServing (story_of c.args.self.now.player.game X) seed first start next) n s) (λ m j. j);
     }
 
 pub serve-requires-clause-hosted : goal.serve-requires-clause-hosted

@@ -1,4 +1,0 @@
-pub mod Endings
-pub mod MistakeLines
-pub mod Loading
-pub mod Writing
